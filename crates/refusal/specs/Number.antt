@@ -1,0 +1,24 @@
+-- The number that document 01's table "Where a call is turned away" gives each refusal.
+use Prim.Native.Nat.{ℕ}
+use Rattle.refusal.specs.declared.Refusal.{Refusal}
+use Rattle.refusal.specs.declared.Outcome.{Outcome}
+
+abbrev pub numberOf : Refusal → ℕ
+numberOf Refusal.Length = 1
+numberOf Refusal.RecordZero = 2
+numberOf Refusal.ChainStep = 3
+numberOf Refusal.ChainRecord = 4
+numberOf Refusal.PointCount = 5
+numberOf Refusal.SlotNumber = 6
+numberOf Refusal.Distance = 7
+numberOf Refusal.Reflectrix = 8
+numberOf Refusal.MufInput = 9
+numberOf Refusal.MufLists = 10
+numberOf Refusal.MufHops = 11
+numberOf Refusal.TimeBlock = 12
+numberOf Refusal.Angle = 13
+
+-- 0 for an answer
+abbrev pub outcomeNumber : Outcome → ℕ
+outcomeNumber Outcome.Answered = 0
+outcomeNumber (Outcome.Refused r) = numberOf r

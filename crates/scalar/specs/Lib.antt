@@ -1,0 +1,2 @@
+pub mod F32
+pub mod Literals

@@ -1,0 +1,1 @@
+// The f32 notation and the literals; the functions follow.
