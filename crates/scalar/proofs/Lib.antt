@@ -2,3 +2,11 @@ pub mod Literals
 pub mod Nan
 pub mod Sign
 pub mod Truncation
+pub mod WholeRoot
+pub mod Closest
+pub mod MeanStep
+pub mod RootDigits
+pub mod RootPattern
+pub mod Normalise
+pub mod Patterns
+pub mod SpecialRoots
