@@ -1,5 +1,7 @@
 pub mod Literals
 pub mod Nan
+pub mod Order
+pub mod MinMax
 pub mod Sign
 pub mod Truncation
 pub mod WholeRoot
@@ -10,3 +12,6 @@ pub mod RootPattern
 pub mod Normalise
 pub mod Patterns
 pub mod SpecialRoots
+pub mod RootInUnits
+pub mod CorrectRoot
+pub mod Trials

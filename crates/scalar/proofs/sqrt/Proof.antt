@@ -3,7 +3,7 @@ use borrow.Author.Needs.{needs}
 use mathlib.Core.Path.{_≡_, sym, ap, _∙_, subst}
 use native.Mathlib.Omega.{arith}
 use lib.Dec.{T}
-use lib.Ieee.{Float, binary32, fits, ofBits, toBits}
+use lib.Ieee.{binary32, fits, ofBits, toBits}
 use lib.Ieee.Bits.{ofBits-toBits, toBits-lt}
 use Rattle.scalar.specs.Root.{sqrtOf}
 use Rattle.scalar.proofs.Nan.{not-nan, number-pattern, zero-by-zero}
