@@ -2,6 +2,7 @@
 //! exported functions, and the generators and reports of the comparisons.
 
 pub mod circuit;
+pub mod files;
 pub mod float;
 pub mod ours;
 pub mod precise;
