@@ -95,7 +95,8 @@ fn resize(r: &mut Random, file: &mut Vec<u8>) {
 
 /// Few records of plausible kinds and next indices: chains of every shape.
 pub fn tangle(r: &mut Random) -> Vec<u8> {
-    let records = 2 + r.below(r.pick(&[5, 8, 63]));
+    let most = r.pick(&[5, 8, 63]);
+    let records = 2 + r.below(most);
     let km = 1 + r.below(5);
     let mut file = vec![0; records * RECORD];
     for n in 0..records {
@@ -142,6 +143,23 @@ pub fn any(r: &mut Random) -> Vec<u8> {
                 damage(r, &mut file);
             }
             file
+        }
+    }
+}
+
+#[cfg(test)]
+mod tests {
+    use super::*;
+    use crate::circuit::read;
+
+    #[test]
+    fn a_permuted_file_holds_its_circuit() {
+        let mut r = Random::new(7);
+        for _ in 0..2000 {
+            let circuit = circuit(&mut r);
+            let file = permuted(&mut r, &circuit);
+            assert_eq!(read(&file).unwrap().0, circuit);
+            assert_eq!(read(&circuit.written()).unwrap().0, circuit);
         }
     }
 }

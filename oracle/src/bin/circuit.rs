@@ -21,7 +21,7 @@ fn main() {
     finish(&verdicts)
 }
 
-type Case = fn(&mut Random) -> (bool, Option<String>);
+type Case = fn(&mut Random) -> (u32, Option<String>);
 
 fn compare(name: &'static str, cases: u64, seed: u64, case: Case) -> Verdict {
     if !ours::all_built(&[name]) {
@@ -30,14 +30,14 @@ fn compare(name: &'static str, cases: u64, seed: u64, case: Case) -> Verdict {
     let mut tally = Tally::new(name);
     let mut random = Random::new(seed);
     for _ in 0..cases {
-        let (refused, differs) = case(&mut random);
-        tally.case(refused, differs);
+        let (answer, differs) = case(&mut random);
+        tally.case(answer, differs);
     }
     tally.done()
 }
 
 /// One file; now and then with more or fewer words lent than it takes.
-fn read_case(r: &mut Random) -> (bool, Option<String>) {
+fn read_case(r: &mut Random) -> (u32, Option<String>) {
     let file = files::any(r);
     let room = match r.below(16) {
         0 => r.below(WORDS),
@@ -65,11 +65,11 @@ fn read_case(r: &mut Random) -> (bool, Option<String>) {
             .map(|i| format!("word {i} is {:08x}, not {:08x}", got[i], wanted[i]))
     };
     let shown = |what: String| format!("{what}\n    room {room}, file {}", bytes(&file));
-    (expected != 0, differs.map(shown))
+    (expected, differs.map(shown))
 }
 
 /// One circuit's words into some room.
-fn write_case(r: &mut Random) -> (bool, Option<String>) {
+fn write_case(r: &mut Random) -> (u32, Option<String>) {
     let given = circuit_words(r);
     let (expected, written) = expected_write(r, &given);
     let (number, length) = expected;
@@ -85,7 +85,7 @@ fn write_case(r: &mut Random) -> (bool, Option<String>) {
             .map(|i| format!("byte {i} is {:02x}, not {:02x}", got[i], wanted[i]))
     };
     let shown = |what: String| format!("{what}\n    room {length}, words {}", hex(&given));
-    (number != 0, differs.map(shown))
+    (number, differs.map(shown))
 }
 
 /// A circuit's words; sometimes with a wrong km or shape, with rubbish in
