@@ -95,9 +95,10 @@ fn circuit_words(r: &mut Random) -> Vec<u32> {
     match r.below(8) {
         0 => w[0] = r.pick(&[0, 6, 7, 255, 256, 257, u32::MAX]),
         1 => w[1] = r.pick(&[2, 3, 255, 256, u32::MAX]),
-        2 => (0..5 * 15)
-            .filter(|i| i / 15 >= w[0] as usize)
-            .for_each(|i| w[6 + i] = r.word()),
+        2 => {
+            let used = 6 + 15 * w[0] as usize;
+            w[used..6 + 75].fill_with(|| r.word());
+        }
         3 => w.extend([r.word(), r.word()]),
         4 if r.once_in(8) => w.truncate(r.below(WORDS)),
         _ => {}
