@@ -6,6 +6,7 @@ pub mod ionogram;
 pub mod muf;
 pub mod slots;
 
+use crate::float;
 use crate::random::Random;
 use crate::report::hex;
 use crate::words::*;
@@ -63,7 +64,7 @@ impl Call {
         }
         words.push(self.lent.len() as u32);
         for lent in &self.lent {
-            words.extend(packed(&lent.wanted));
+            words.extend(packed(&lent.one_nan(self.wanted != 0)));
         }
         words
     }
@@ -98,6 +99,21 @@ impl Lent {
             wanted,
             floats,
         }
+    }
+
+    /// What is wanted, every NaN that is written as one pattern.
+    fn one_nan(&self, refused: bool) -> Vec<u32> {
+        let written = |i: usize| !refused && (self.floats)(i);
+        let words = self.wanted.iter().enumerate();
+        words
+            .map(|(i, w)| {
+                if written(i) && float::is_nan(*w) {
+                    float::NAN
+                } else {
+                    *w
+                }
+            })
+            .collect()
     }
 
     /// After a refusal every bit is as it came.
