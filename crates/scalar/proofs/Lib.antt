@@ -1,1 +1,4 @@
 pub mod Literals
+pub mod Nan
+pub mod Sign
+pub mod Truncation

@@ -1,2 +1,3 @@
 pub mod F32
 pub mod Literals
+pub mod Scalar
