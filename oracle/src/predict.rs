@@ -37,8 +37,9 @@ fn domain(numbers: &[u32]) -> Result<(), u32> {
     let n = crate::words::numbers(numbers);
     let (gcd, gcdkm, amind) = (n[0], n[1], n[2]);
     let within = (0.0..=40100.0).contains(&gcdkm) && (0.0..=6.3).contains(&gcd);
-    // NaN amind counts as 0.
-    if within && !(amind > 90.0) {
+    // NaN amind counts as 0, so is not too steep.
+    let too_steep = amind > 90.0;
+    if within && !too_steep {
         Ok(())
     } else {
         Err(9)

@@ -254,7 +254,7 @@ fn edge_path(r: &mut Random) -> [f32; 4] {
         gcdkm = r.beside(edge, 2);
     }
     if r.once_in(3) {
-        let edge = r.pick(&[0.0, 6.3, 3.141_592_7, 1e-20]);
+        let edge = r.pick(&[0.0, 6.3, std::f32::consts::PI, 1e-20]);
         gcd = r.beside(edge, 2);
     }
     if r.once_in(2) {
