@@ -5,3 +5,6 @@ pub mod ExpNear
 pub mod Special
 pub mod ExpEnds
 pub mod ExpTheorem
+pub mod Exponents
+pub mod Atanh
+pub mod Twice
