@@ -8,3 +8,5 @@ pub mod ExpTheorem
 pub mod Exponents
 pub mod Atanh
 pub mod Twice
+pub mod LnRest
+pub mod LnSum
