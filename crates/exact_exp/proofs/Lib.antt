@@ -10,3 +10,4 @@ pub mod Atanh
 pub mod Twice
 pub mod LnRest
 pub mod LnSum
+pub mod LnTheorem

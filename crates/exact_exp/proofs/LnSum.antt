@@ -69,7 +69,7 @@ good S a b x y w g f W X Y s t =
     record {
       from = g;
       fits = f;
-      low = lower-le (16 * (mant S * place S) - 15 * place S) (16 * 2 ^ 149) x (2 ^ 56) a b (lit< tt) (pow-pos 56) (le-trans (P .low) (mul-le-mul-right (16 * 2 ^ 149) (less (28 * grain S)  W))) X;
+      low = lower-le (16 * (mant S * place S) - 15 * place S) (16 * 2 ^ 149) x (2 ^ 56) a b (lit< tt) (pow-pos 56) (le-trans (P .low) (mul-le-mul-right (16 * 2 ^ 149) (less (28 * grain S) W))) X;
       high = upper-ge (16 * (mant S * place S) + 15 * place S) (16 * 2 ^ 149) y (2 ^ 56) a b (lit< tt) (pow-pos 56) (le-trans (mul-le-mul-right (16 * 2 ^ 149) (more' (28 * grain S) W)) (P .high)) Y;
     }
   where
