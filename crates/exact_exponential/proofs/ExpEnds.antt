@@ -1,17 +1,17 @@
 -- The ends of e ^ x: 2 ^ 128 at x = 88.72283935546875, 2 ^ -150 at -104, and 1 about 0. Each is one computed partial sum, since the sums grow with x.
-use mathlib.Core.Path.{_≡_, refl, sym, ap, ap₂, _∙_, subst, subst₂}
-use Prim.Native.Nat.{ℕ, zero, suc, _+_, _-_, _*_, _/_, _%_, _^_, _≤_, _<_}
-use native.Mathlib.Nat.{le-trans, le-of-eq, mul-le-mul-right}
+use mathlib.Core.Path.{_≡_, sym, ap₂, subst₂}
+use Prim.Native.Nat.{ℕ, _+_, _-_, _*_, _^_, _≤_, _<_}
+use native.Mathlib.Nat.{le-trans, le-of-eq}
 use native.Mathlib.Omega.{arith}
-use lib.Dec.{lit≤, lit<, leb, leb→le}
+use lib.Dec.{lit≤, lit<, leb→le}
 use lib.Pow.{pow-pos}
-use Rattle.series.specs.Series.{full, num, one, Close}
+use Rattle.series.specs.Series.{full, num, one}
 use Rattle.series.proofs.Exponential.{Enc, enclosed, ok, tested}
-use Rattle.series.proofs.Reciprocal.{Rec, reciprocal, from-rec}
+use Rattle.series.proofs.Reciprocal.{reciprocal, from-rec}
 use Rattle.series.proofs.ExpFraction.{beyond}
 use Rattle.exponential.specs.Tables.{ln2}
-use Rattle.exact_exp.proofs.Terms.{full-1, num-1, pow-1}
-use Rattle.exact_exp.proofs.ExpNear.{Sums, Recs, from-enc}
+use Rattle.exact_exponential.proofs.Terms.{full-1, num-1, pow-1}
+use Rattle.exact_exponential.proofs.ExpNear.{Sums, Recs, from-enc}
 
 -- ---- from 0xb17218 / 2 ^ 17 up
 at-top : 2 ^ 128 * full (2 ^ 17) 250 ≤ num one 0xb1_7218 (2 ^ 17) 250

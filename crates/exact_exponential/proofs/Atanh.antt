@@ -1,15 +1,15 @@
 -- ln ((1 + s) / (1 - s)) is 2 (s + s³ / 3 + s⁵ / 5) but for 2 ^ -27 of it, for s up to 1/32.
 -- With s = n / D the bounds hold at n = 0, and one step of n multiplies (D + n) / (D - n) by 1 + 2 D / ((D - n - 1) (D + n)), and e to the bounds' growth is on the right side of that: 1 + w ≤ e ^ w ≤ 1 + w + w².
-use mathlib.Core.Path.{_≡_, refl, sym, ap, ap₂, _∙_, subst, subst₂}
-use Prim.Native.Nat.{ℕ, zero, suc, _+_, _-_, _*_, _/_, _%_, _^_, _≤_, _<_}
-use native.Mathlib.Nat.{le-trans, le-of-eq, le-refl, mul-assoc, mul-comm, mul-left-comm, mul-right-comm, mul-le-mul, mul-le-mul-left, mul-le-mul-right, mul-pos, le-of-mul-le-mul-right, pow-suc, pow-zero}
+use mathlib.Core.Path.{_≡_, sym, ap, _∙_, subst, subst₂}
+use Prim.Native.Nat.{ℕ, zero, suc, _+_, _-_, _*_, _^_, _≤_, _<_}
+use native.Mathlib.Nat.{le-trans, le-of-eq, le-refl, mul-le-mul, mul-le-mul-left, mul-le-mul-right, mul-pos, pow-suc}
 use native.Mathlib.Omega.{arith}
-use lib.Dec.{lit≤, lit<}
+use lib.Dec.{lit<}
 use Rattle.series.specs.Series.{full, num, one}
-use Rattle.series.proofs.Exponential.{Enc, enclosed}
+use Rattle.series.proofs.Exponential.{enclosed}
 use Rattle.exact.specs.Near.{ExpLe, ExpGe}
-use Rattle.exact_exp.proofs.Terms.{pow-1, full-1, num-1}
-use Rattle.exact_exp.proofs.Exponents.{zero-le, le-times, ge-times, same-le, same-ge, enc-le}
+use Rattle.exact_exponential.proofs.Terms.{pow-1, full-1, num-1}
+use Rattle.exact_exponential.proofs.Exponents.{zero-le, le-times, ge-times, same-le, same-ge, enc-le}
 
 -- ---- 1 + w + w² / 2 at w / Y
 pow-2 : (w : ℕ) → w ^ 2 ≡ w * w

@@ -1,17 +1,17 @@
 -- `twiceOf n d`, give or take a 2 ^ 26th part of it and three units, bounds ln ((d + n) / (d - n)): what is cut off on the way is a 2 ^ 32nd part, and the polynomial is a 2 ^ 27th part from the logarithm.
-use mathlib.Core.Path.{_≡_, refl, sym, ap, ap₂, _∙_, subst, subst₂}
-use Prim.Native.Nat.{ℕ, zero, suc, _+_, _-_, _*_, _/_, _%_, _^_, _≤_, _<_}
-use native.Mathlib.Nat.{le-trans, le-of-eq, le-of-lt, le-refl, lt-of-lt-of-le, mul-assoc, mul-comm, mul-left-comm, mul-right-comm, mul-le-mul, mul-le-mul-left, mul-le-mul-right, mul-pos, le-of-mul-le-mul-right, div-mul-le-self, lt-div-mul-add}
+use mathlib.Core.Path.{_≡_, refl, sym, ap, _∙_, subst}
+use Prim.Native.Nat.{ℕ, _+_, _-_, _*_, _/_, _^_, _≤_, _<_}
+use native.Mathlib.Nat.{le-trans, le-of-eq, le-of-lt, lt-of-lt-of-le, mul-assoc, mul-le-mul, mul-le-mul-left, mul-le-mul-right, mul-pos, le-of-mul-le-mul-right, div-mul-le-self, lt-div-mul-add}
 use native.Mathlib.Omega.{arith}
 use lib.Dec.{lit≤, lit<}
 use lib.Pow.{pow-pos}
 use lib.Count.{leadingZeros}
 use Rattle.series.proofs.Cases.{split}
-use Rattle.exponential.specs.Ln.{excessOf, quotient, lengthened, twiceOf}
+use Rattle.exponential.specs.Ln.{quotient, lengthened, twiceOf}
 use Rattle.exponential.proofs.LnRange as range
 use Rattle.exact.specs.Near.{ExpLe, ExpGe}
-use Rattle.exact_exp.proofs.Exponents.{lower-le, upper-ge, same-le, same-ge}
-use Rattle.exact_exp.proofs.Atanh.{fifth, unit, lower, upper, atanh-le, atanh-ge}
+use Rattle.exact_exponential.proofs.Exponents.{lower-le, upper-ge, same-le, same-ge}
+use Rattle.exact_exponential.proofs.Atanh.{fifth, unit, lower, upper, atanh-le, atanh-ge}
 
 -- ---- from above: with N = n² and D = d², u ≤ 2 ^ 34 s², v ≤ 2 ^ 34 s⁴, g ≤ 2 ^ 34 (s² / 3 + s⁴ / 5)
 abbrev bracket : (N D : ℕ) → ℕ

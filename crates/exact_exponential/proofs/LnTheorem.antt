@@ -1,12 +1,12 @@
 -- `lnOf x` is less than one unit in its last place from the logarithm of x, for every f32: by the cases of its pattern.
-use mathlib.Core.Path.{_≡_, refl, sym, ap, ap₂, _∙_, subst, subst₂}
-use mathlib.Core.Bool.{Bool, true, false, not, cond, true≢false, false≢true}
+use mathlib.Core.Path.{_≡_, refl, sym, ap, _∙_, subst, subst₂}
+use mathlib.Core.Bool.{Bool, true, false, cond, true≢false, false≢true}
 use Prim.Native.Nat.{ℕ, zero, suc, _+_, _-_, _*_, _/_, _%_, _^_, _≤_, _<_}
-use native.Mathlib.Nat.{not-le-of-lt, le-trans, le-of-eq, le-of-lt, le-refl, lt-of-le-of-lt, lt-of-lt-of-le, mul-one, one-mul, mul-assoc, mul-comm, mul-left-comm, mul-right-comm, mul-le-mul, mul-le-mul-left, mul-le-mul-right, mul-pos, le-of-mul-le-mul-right, eq-of-mul-eq-mul-right}
+use native.Mathlib.Nat.{not-le-of-lt, le-trans, le-of-eq, le-of-lt, le-refl, lt-of-lt-of-le, one-mul, mul-assoc, mul-comm, mul-left-comm, mul-le-mul-right, mul-pos, eq-of-mul-eq-mul-right}
 use native.Mathlib.Omega.{arith}
-use lib.Dec.{T, leb, ltb, eqb, lit<, lit≤}
-use lib.IntN.{ℤ, pos, negsuc}
-use lib.Pow.{pow-pos, pow-mono, pow-add}
+use lib.Dec.{T, leb, lit<, lit≤}
+use lib.IntN.{pos, negsuc}
+use lib.Pow.{pow-pos, pow-add}
 use lib.Count.{leadingZeros}
 use borrow.Author.Tests.{le-leb, lt-leb}
 use lib.Ieee.{Float, nan, inf, fin, binary32, up, down, size, ofBits, toBits, fits}
@@ -14,20 +14,19 @@ use lib.Ieee.Digits.{size-lt, size-le}
 use lib.Ieee.Fits.{down-pos}
 use lib.Ieee.Bits.{ofBits-toBits, toBits-lt}
 use lib.Ieee.Exact.{HasValue}
-use Rattle.series.specs.Series.{full, num, one}
+use Rattle.series.specs.Series.{full, num}
 use Rattle.series.proofs.Cases.{split}
 use Rattle.fixed.specs.Fixed.{mant, pattern}
-use Rattle.fixed.proofs.Round.{Rounded, rounded, place, pattern-lt}
+use Rattle.fixed.proofs.Round.{rounded, place, pattern-lt}
 use Rattle.fixed.proofs.Values.{value-normal, subnormal, packed-value, ulp-ge}
 use Rattle.exponential.specs.Tables.{ln2}
 use Rattle.exponential.specs.Ln.{restOf, above, below, lnBits, lnOf}
-use Rattle.exponential.proofs.LnCases.{ln-zero, ln-none, ln-inf, ln-1, ln-up, ln-down, ln-deep, Shifted, shifted}
-use Rattle.exact.specs.Unit.{steps, ulp}
+use Rattle.exponential.proofs.LnCases.{ln-zero, ln-none, ln-inf, ln-1, ln-up, ln-down, ln-deep, shifted}
 use Rattle.exact.specs.Near.{ExpLe, ExpGe, PowLe, PowGe, lower, upper, NearLn}
 use Rattle.exact.proofs.Unit.{steps-is}
-use Rattle.exact_exp.proofs.Special.{nan-bits, a-nan, an-inf, minus-inf, a-zero, minus-zero, one-is}
-use Rattle.exact_exp.proofs.Exponents.{lower-le, upper-ge, same-le, same-ge}
-use Rattle.exact_exp.proofs.LnSum.{Good, good-up, good-down}
+use Rattle.exact_exponential.proofs.Special.{nan-bits, a-nan, an-inf, minus-inf, a-zero, minus-zero, one-is}
+use Rattle.exact_exponential.proofs.Exponents.{lower-le, upper-ge, same-le, same-ge}
+use Rattle.exact_exponential.proofs.LnSum.{Good, good-up, good-down}
 
 -- ---- an exponent of either sign
 module _ (a b d X D : ℕ) where

@@ -1,7 +1,7 @@
 -- The patterns of NaN, the infinities and the zeros.
-use mathlib.Core.Path.{_≡_, refl, sym, ap, _∙_}
-use mathlib.Core.Bool.{Bool, true, false, false≢true}
-use Prim.Native.Nat.{ℕ, _+_, _*_, _/_, _%_, _^_, _≤_, _<_}
+use mathlib.Core.Path.{_≡_, refl, sym, _∙_}
+use mathlib.Core.Bool.{true, false, false≢true}
+use Prim.Native.Nat.{ℕ, _*_, _%_, _^_, _<_}
 use lib.Dec.{lit<}
 use lib.IntN.{pos}
 use lib.Count.{trailingZeros}

@@ -1,12 +1,12 @@
 -- `powerOf R` is e ^ (R / 2 ^ 56) in units of 2 ^ -62, at most 2 ^ 37 units too small: the table's entry, the series, and the digits of R that neither sees.
-use mathlib.Core.Path.{_≡_, refl, sym, ap, ap₂, _∙_, subst, subst₂}
+use mathlib.Core.Path.{_≡_, sym, subst, subst₂}
 use mathlib.Core.Bool.{Bool}
-use Prim.Native.Nat.{ℕ, zero, suc, _+_, _-_, _*_, _/_, _%_, _^_, _≤_, _<_}
-use native.Mathlib.Nat.{le-trans, le-of-eq, le-of-lt, mul-assoc, mul-comm, mul-left-comm, mul-le-mul, mul-le-mul-left, mul-le-mul-right, le-of-mul-le-mul-right}
+use Prim.Native.Nat.{ℕ, _+_, _-_, _*_, _/_, _%_, _^_, _≤_, _<_}
+use native.Mathlib.Nat.{le-trans, le-of-eq, mul-assoc, mul-comm, mul-le-mul, mul-le-mul-right, le-of-mul-le-mul-right}
 use native.Mathlib.Omega.{arith}
-use lib.Dec.{T, lit≤, lit<}
+use lib.Dec.{lit<}
 use lib.Pow.{pow-pos}
-use lib.ListN.{getD, length}
+use lib.ListN.{getD}
 use Rattle.series.specs.Series.{full, num, one}
 use Rattle.series.proofs.Addition.{full-pos}
 use Rattle.series.proofs.Entries.{entry}
@@ -16,8 +16,8 @@ use Rattle.series.proofs.Fractions.{num-mono}
 use Rattle.exponential.specs.Tables.{ln2, sixteenths}
 use Rattle.exponential.specs.Exp.{riseOf, factor, left, powerOf}
 use Rattle.exponential.proofs.ExpRange.{rise-le, entry-ge, entry-le}
-use Rattle.exact_exp.proofs.Terms.{pow-1, full-1, num-1, rise-enc}
-use Rattle.exact_exp.proofs.PowerOfTwo.{cancel, two}
+use Rattle.exact_exponential.proofs.Terms.{pow-1, full-1, num-1, rise-enc}
+use Rattle.exact_exponential.proofs.PowerOfTwo.{cancel, two}
 
 -- ---- the table
 right : ℕ → ℕ → Bool

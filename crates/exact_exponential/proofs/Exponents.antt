@@ -1,7 +1,7 @@
 -- Bounds of powers of e by fractions: e ^ (x + y) = e ^ x * e ^ y, once as an upper bound and once as a lower one; a smaller exponent, and another way to write the fraction.
-use mathlib.Core.Path.{_≡_, refl, sym, ap, ap₂, _∙_, subst, subst₂}
-use Prim.Native.Nat.{ℕ, zero, suc, _+_, _-_, _*_, _/_, _%_, _^_, _≤_, _<_}
-use native.Mathlib.Nat.{le-trans, le-of-eq, le-refl, mul-comm, mul-le-mul, mul-le-mul-left, mul-le-mul-right, mul-pos, le-of-mul-le-mul-right, pow-suc, pow-zero, mul-zero}
+use mathlib.Core.Path.{_≡_, refl, ap, _∙_}
+use Prim.Native.Nat.{ℕ, zero, suc, _+_, _*_, _^_, _≤_, _<_}
+use native.Mathlib.Nat.{le-trans, le-of-eq, mul-comm, mul-le-mul, mul-le-mul-left, mul-le-mul-right, mul-pos, le-of-mul-le-mul-right, pow-suc, mul-zero}
 use native.Mathlib.Omega.{arith}
 use Rattle.series.specs.Series.{full, num, one}
 use Rattle.series.proofs.Addition.{full-pos, exp-under, exp-over}

@@ -1,7 +1,7 @@
 -- ln (m / 2 ^ 23 * 2 ^ E) and -ln (m / 2 ^ 23 * 2 ^ -E) as S units of 2 ^ -56: what S is off is at most 7/16 of the place to which it is rounded, so the rounded S is at most 15/16 of it from the logarithm.
-use mathlib.Core.Path.{_≡_, refl, sym, ap, ap₂, _∙_, subst, subst₂}
-use Prim.Native.Nat.{ℕ, zero, suc, _+_, _-_, _*_, _/_, _%_, _^_, _≤_, _<_}
-use native.Mathlib.Nat.{le-trans, le-of-eq, le-of-lt, le-refl, lt-of-lt-of-le, mul-assoc, mul-comm, mul-le-mul, mul-le-mul-left, mul-le-mul-right, mul-pos, le-of-mul-le-mul-right, sub-add-cancel}
+use mathlib.Core.Path.{_≡_, refl, sym, ap, subst}
+use Prim.Native.Nat.{ℕ, _+_, _-_, _*_, _^_, _≤_, _<_}
+use native.Mathlib.Nat.{le-trans, le-of-eq, mul-le-mul-left, mul-le-mul-right, le-of-mul-le-mul-right, sub-add-cancel}
 use native.Mathlib.Omega.{arith}
 use lib.Dec.{lit≤, lit<}
 use lib.Pow.{pow-pos}
@@ -9,14 +9,14 @@ use lib.Count.{leadingZeros}
 use lib.ListN.{getD}
 use Rattle.series.proofs.Cases.{split}
 use Rattle.fixed.specs.Fixed.{mant}
-use Rattle.fixed.proofs.Round.{Rounded, rounded, place, place-is}
+use Rattle.fixed.proofs.Round.{rounded, place, place-is}
 use Rattle.exponential.specs.Tables.{ln2, eighths}
 use Rattle.exponential.specs.Ln.{twiceOf, index, centre, restOf}
 use Rattle.exponential.proofs.LnRange as range
 use Rattle.exact.specs.Near.{ExpLe, ExpGe}
-use Rattle.exact_exp.proofs.Exponents.{le-times, ge-times, le-over, ge-over, lower-le, upper-ge}
-use Rattle.exact_exp.proofs.Twice.{give}
-use Rattle.exact_exp.proofs.LnRest.{Near, rest-up, rest-down, eighth-first, power-le, power-ge}
+use Rattle.exact_exponential.proofs.Exponents.{le-times, ge-times, le-over, ge-over, lower-le, upper-ge}
+use Rattle.exact_exponential.proofs.Twice.{give}
+use Rattle.exact_exponential.proofs.LnRest.{Near, rest-up, rest-down, eighth-first, power-le, power-ge}
 
 -- ---- S rounded to 24 bits: 64 grains are one unit of the last place, so 28 grains are 7/16 of it
 abbrev pub grain : ℕ → ℕ

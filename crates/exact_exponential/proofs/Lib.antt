@@ -11,3 +11,4 @@ pub mod Twice
 pub mod LnRest
 pub mod LnSum
 pub mod LnTheorem
+pub mod Enclosed

@@ -1,7 +1,7 @@
 -- What `powerOf` gives, rounded to 24 bits or to a whole number of units 2 ^ -149, is at most 15/16 of a unit of its last place from all later partial sums of e ^ x, or from their reciprocals where x is negative.
-use mathlib.Core.Path.{_≡_, refl, sym, ap, ap₂, _∙_, subst, subst₂}
-use Prim.Native.Nat.{ℕ, zero, suc, _+_, _-_, _*_, _/_, _%_, _^_, _≤_, _<_}
-use native.Mathlib.Nat.{le-trans, le-of-eq, le-of-lt, le-refl, one-mul, mul-assoc, mul-comm, mul-left-comm, mul-right-comm, mul-le-mul, mul-le-mul-left, mul-le-mul-right, mul-pos, le-of-mul-le-mul-right, div-mul-le-self, lt-div-mul-add, sub-add-cancel}
+use mathlib.Core.Path.{_≡_, sym, ap, _∙_, subst}
+use Prim.Native.Nat.{ℕ, _+_, _-_, _*_, _/_, _^_, _≤_, _<_}
+use native.Mathlib.Nat.{le-trans, le-of-eq, le-refl, one-mul, mul-assoc, mul-comm, mul-left-comm, mul-right-comm, mul-le-mul, mul-le-mul-left, mul-le-mul-right, mul-pos, le-of-mul-le-mul-right, div-mul-le-self, lt-div-mul-add, sub-add-cancel}
 use native.Mathlib.Omega.{arith}
 use lib.Dec.{lit≤, lit<}
 use lib.Pow.{pow-pos, pow-mono, pow-add}
@@ -12,8 +12,8 @@ use Rattle.series.proofs.Reciprocal.{Rec, quotient, slacken, from-rec}
 use Rattle.series.proofs.Weighted.{low-later}
 use Rattle.exponential.specs.Tables.{ln2}
 use Rattle.exponential.specs.Exp.{powerOf, rounded}
-use Rattle.exact_exp.proofs.PowerOfTwo.{two-power}
-use Rattle.exact_exp.proofs.ExpPower.{power-enc, power-ge, power-le}
+use Rattle.exact_exponential.proofs.PowerOfTwo.{two-power}
+use Rattle.exact_exponential.proofs.ExpPower.{power-enc, power-ge, power-le}
 
 -- from some number of terms on, v / 2 ^ 149 is that near the sums at n / d, or their reciprocals
 abbrev pub Sums : (n d v u : ℕ) → Type 0

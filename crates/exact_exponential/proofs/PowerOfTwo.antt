@@ -1,7 +1,7 @@
 -- Powers of two as powers of e: e ^ (E * ln 2) is 2 ^ E, but for 66 * E units of 2 ^ -62 below, since `ln2` is cut off.
-use mathlib.Core.Path.{_≡_, refl, sym, ap, _∙_, subst}
+use mathlib.Core.Path.{_≡_, sym, ap, subst}
 use Prim.Native.Nat.{ℕ, zero, suc, _+_, _-_, _*_, _^_, _≤_, _<_}
-use native.Mathlib.Nat.{le-trans, le-of-eq, mul-assoc, mul-comm, mul-left-comm, mul-le-mul-left, mul-le-mul-right, le-of-mul-le-mul-right, pow-suc, sub-add-cancel}
+use native.Mathlib.Nat.{le-trans, le-of-eq, mul-le-mul-left, le-of-mul-le-mul-right, pow-suc, sub-add-cancel}
 use native.Mathlib.Omega.{arith}
 use lib.Dec.{lit<}
 use lib.Pow.{pow-pos}

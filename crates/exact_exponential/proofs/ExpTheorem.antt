@@ -1,13 +1,12 @@
 -- `expOf x` is less than one unit in its last place from e ^ x, for every f32: by the cases of its pattern.
-use mathlib.Core.Path.{_≡_, refl, sym, ap, ap₂, _∙_, subst, subst₂}
-use mathlib.Core.Bool.{Bool, true, false, not, true≢false, false≢true}
-use Prim.Native.Nat.{ℕ, zero, suc, _+_, _-_, _*_, _/_, _%_, _^_, _≤_, _<_}
-use native.Mathlib.Nat.{le-trans, le-of-eq, le-of-lt, le-refl, lt-of-le-of-lt, lt-of-lt-of-le, mul-one, mul-assoc, mul-comm, mul-left-comm, mul-right-comm, mul-le-mul, mul-le-mul-left, mul-le-mul-right, le-of-mul-le-mul-right, eq-of-mul-eq-mul-right, div-le-of-le-mul}
+use mathlib.Core.Path.{_≡_, refl, sym, ap, _∙_, subst, subst₂}
+use mathlib.Core.Bool.{Bool, true, false, true≢false, false≢true}
+use Prim.Native.Nat.{ℕ, _+_, _-_, _*_, _/_, _%_, _^_, _≤_, _<_}
+use native.Mathlib.Nat.{le-trans, le-of-eq, le-refl, lt-of-lt-of-le, mul-assoc, mul-comm, mul-right-comm, mul-le-mul, mul-le-mul-left, mul-le-mul-right, le-of-mul-le-mul-right, eq-of-mul-eq-mul-right, div-le-of-le-mul}
 use native.Mathlib.Omega.{arith}
-use lib.Dec.{T, leb, ltb, lit<, lit≤}
-use lib.IntN.{ℤ, pos}
+use lib.Dec.{T, leb, lit<, lit≤}
 use lib.Pow.{pow-pos, pow-mono, pow-add}
-use borrow.Author.Tests.{le-leb, lt-leb, lt-ltb}
+use borrow.Author.Tests.{le-leb, lt-leb}
 use lib.Ieee.{Float, nan, inf, fin, binary32, up, down, size, ofBits, toBits, fits}
 use lib.Ieee.Fits.{down-pos}
 use lib.Ieee.Bits.{ofBits-toBits, toBits-lt}
@@ -21,13 +20,13 @@ use Rattle.fixed.proofs.Values.{value, value-normal, normal-value, subnormal, u
 use Rattle.exponential.specs.Tables.{ln2}
 use Rattle.exponential.specs.Exp.{powerOf, rounded, lowered, grown, shrunk, expBits, expOf}
 use Rattle.exponential.proofs.ExpCases.{at-nan, at-tiny, at-top, at-plus, at-bottom, at-minus, lowered-normal, lowered-subnormal, scaled-ge, below-plus, below-minus}
-use Rattle.exact.specs.Unit.{steps, ulp}
+use Rattle.exact.specs.Unit.{steps}
 use Rattle.exact.specs.Near.{NearExp}
 use Rattle.exact.proofs.Unit.{steps-is}
-use Rattle.exact_exp.proofs.ExpPower.{power-ge, power-le, power-under}
-use Rattle.exact_exp.proofs.ExpNear.{Sums, Recs, near-up, near-down, near-sub}
-use Rattle.exact_exp.proofs.ExpEnds.{past-top, past-bottom, tiny-up, tiny-down, last, last-enc}
-use Rattle.exact_exp.proofs.Special.{nan-bits, a-nan, an-inf, minus-inf, a-zero}
+use Rattle.exact_exponential.proofs.ExpPower.{power-ge, power-le, power-under}
+use Rattle.exact_exponential.proofs.ExpNear.{Sums, Recs, near-up, near-down, near-sub}
+use Rattle.exact_exponential.proofs.ExpEnds.{past-top, past-bottom, tiny-up, tiny-down, last, last-enc}
+use Rattle.exact_exponential.proofs.Special.{nan-bits, a-nan, an-inf, minus-inf, a-zero}
 
 -- ---- from values to nearness. x is n / d
 module _ (v w X c : ℕ) (W : w ≤ 2 ^ (size v - 24)) where

@@ -1,23 +1,21 @@
 -- `restOf m` bounds ln (m / 2 ^ 23): the table's entry bounds ln c for the nearest eighth c, and `twiceOf` the logarithm of m / c or c / m.
-use mathlib.Core.Path.{_≡_, refl, sym, ap, ap₂, _∙_, subst, subst₂}
-use mathlib.Core.Bool.{Bool, _&&_}
-use Prim.Native.Nat.{ℕ, zero, suc, _+_, _-_, _*_, _/_, _%_, _^_, _≤_, _<_}
-use native.Mathlib.Nat.{le-trans, le-of-eq, le-of-lt, le-refl, lt-of-lt-of-le, mul-assoc, mul-comm, mul-left-comm, mul-le-mul-left, mul-le-mul-right, mul-pos, sub-add-cancel, pow-suc, le-of-mul-le-mul-right}
+use mathlib.Core.Path.{_≡_, sym, ap, subst}
+use mathlib.Core.Bool.{Bool}
+use Prim.Native.Nat.{ℕ, zero, suc, _+_, _-_, _*_, _^_, _≤_, _<_}
+use native.Mathlib.Nat.{le-trans, le-of-eq, le-refl, sub-add-cancel, pow-suc}
 use native.Mathlib.Omega.{arith}
-use lib.Dec.{T, leb, leb→le, lit≤, lit<}
-use lib.Ieee.Fits.{and-l, and-r}
+use lib.Dec.{leb, leb→le, lit<}
 use lib.Pow.{pow-pos}
-use lib.ListN.{getD, length}
-use Rattle.series.specs.Series.{full, num, one}
-use Rattle.series.proofs.Cases.{split}
+use lib.ListN.{getD}
+use Rattle.series.specs.Series.{full, num}
 use Rattle.series.proofs.Entries.{entry}
-use Rattle.series.proofs.Exponential.{Enc, ok, tested}
+use Rattle.series.proofs.Exponential.{ok, tested}
 use Rattle.exponential.specs.Tables.{ln2, eighths}
 use Rattle.exponential.specs.Ln.{twiceOf, index, centre, restOf}
 use Rattle.exponential.proofs.LnRange as range
 use Rattle.exact.specs.Near.{ExpLe, ExpGe}
-use Rattle.exact_exp.proofs.Exponents.{enc-le, enc-ge, zero-le, le-times, ge-times, le-over, ge-over, same-le, same-ge}
-use Rattle.exact_exp.proofs.Twice.{give, twice-le, twice-ge}
+use Rattle.exact_exponential.proofs.Exponents.{enc-le, enc-ge, zero-le, le-times, ge-times, le-over, ge-over, same-le, same-ge}
+use Rattle.exact_exponential.proofs.Twice.{give, twice-le, twice-ge}
 
 -- ---- the table: an entry y is ln (1 + i / 8) cut off
 below : ℕ → ℕ → Bool
