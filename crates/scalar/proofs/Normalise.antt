@@ -69,7 +69,6 @@ pattern-lt m h lo hi l = go h (rootDigits m h) l (digits-in m h lo hi .1)
 pub record Rooted (t k m h : ℕ) : Type 0 where
   pub low : 2 ^ 23 ≤ m
   pub high : m < 2 ^ 24
-  pub few : h ≤ 400
   pub is : ofBits binary32 (rootPattern m h) ≡ rootOfUnits (t * 2 ^ k)
   pub finite : rootPattern m h < 0x7f80_0000
 
@@ -83,7 +82,6 @@ rooted t k z p l b e = go (subst (λ (x : ℕ). Shifted t k x (t * 2 ^ x) (k + 1
         (record {
           low = s .low;
           high = s .high;
-          few = few;
           is = sym (root-pattern (t * 2 ^ k) (t * 2 ^ z) (k + 126 - z) (s .low) (s .high) (omega (arith, s .most)) few (s .exact));
           finite = pattern-lt (t * 2 ^ z) (k + 126 - z) (s .low) (s .high) few;
         })

@@ -6,7 +6,8 @@ ghost use lib.Ieee.{binary32, ofBits};
 ghost use Rattle.scalar.specs.Root.{root, sqrtOf};
 ghost use Rattle.scalar.specs.RootPattern.{rootPattern};
 
-// About 2^31 / sqrt(m / 2^23): a polynomial of degree five in u = m / 2^23 - 1, never too large.
+// About 2^31 / sqrt(1 + u), with u = m / 2^23 - 1: a polynomial of degree five in u, off by at most
+// one part in 34,000, and never too large. v is u squared; both count in parts of 2^23.
 fn reciprocal(m: u64) -> u64
     requires { ⌜ (2 ^ 23 ≤ m) × (m < 2 ^ 24) ⌝ }
     ensures { λ r. ⌜ r < 2 ^ 32 ⌝ }
@@ -19,9 +20,10 @@ fn reciprocal(m: u64) -> u64
     low + (mid + high * v / 0x80_0000) * v / 0x80_0000
 }
 
-// A guess at the root of n = m * 2^(25 + odd): first m times the reciprocal root, then a step by what
-// its square lacks. It is the whole part of the root, but for one guess in fifty, which is one off.
-// Nothing rests on that: `whole_root` corrects any guess.
+// A guess at the root of n = m * 2^(25 + odd): first m times the reciprocal root, and times sqrt(2)
+// where odd is 1; then a step by half of what the square lacks, over the guess. It is the whole part
+// of the root but for one guess in fifty, which is one off. No proof rests on that: `whole_root`
+// corrects any guess.
 fn near_root(n: u64, m: u64, odd: u64) -> u64
     requires { ⌜ (n < 2 ^ 50) × (2 ^ 23 ≤ m) × (m < 2 ^ 24) × (odd < 2) ⌝ }
     ensures { λ r. ⌜ r < 2 ^ 28 ⌝ }

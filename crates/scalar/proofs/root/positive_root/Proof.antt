@@ -35,7 +35,7 @@ sub-root-pattern : tie.Need-sub-root-pattern
 sub-root-pattern c = omega (arith, c .spare-zeros .ensures .1)
 
 root-pattern-requires : tie.Need-root-pattern-requires
-root-pattern-requires c κs = (low c .low, low c .high, low c .few)
+root-pattern-requires c κs = (low c .low, low c .high, omega arith)
 
 returns : tie.Need-returns
 returns c =
@@ -59,7 +59,7 @@ sub-root-pattern-2 : tie.Need-sub-root-pattern-2
 sub-root-pattern-2 c = omega (arith, c .spare-zeros2 .ensures .1)
 
 root-pattern-requires-2 : tie.Need-root-pattern-requires-2
-root-pattern-requires-2 c κs = (normal c .low, normal c .high, normal c .few)
+root-pattern-requires-2 c κs = (normal c .low, normal c .high, omega arith)
 
 returns-2 : tie.Need-returns-2
 returns-2 c =
