@@ -6,7 +6,7 @@ pub mod Sign
 pub mod Truncation
 pub mod WholeRoot
 pub mod Closest
-pub mod MeanStep
+pub mod Guess
 pub mod RootDigits
 pub mod RootPattern
 pub mod Normalise
