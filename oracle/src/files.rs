@@ -3,6 +3,7 @@
 
 use crate::circuit::{zeros, Circuit, DECILES, DECILE_RECORDS, POINT, RECORD};
 use crate::random::Random;
+use crate::{states, words};
 
 /// Any bits; now and then an edge.
 fn word(r: &mut Random) -> u32 {
@@ -144,6 +145,47 @@ pub fn any(r: &mut Random) -> Vec<u8> {
             }
             file
         }
+    }
+}
+
+/// A circuit whose numbers are those of an hour: realistic, now and then with
+/// wild ones among them.
+pub fn hour_circuit(r: &mut Random) -> Circuit {
+    let km = 1 + r.below(5);
+    let mut circuit = Circuit {
+        km: km as u32,
+        shape: r.below(2) as u32,
+        numbers: states::any_path(r).map(f32::to_bits),
+        points: (0..km).map(|_| point(r)).collect(),
+        deciles: states::deciles(r),
+    };
+    if r.once_in(3) {
+        let k = r.below(km);
+        states::spoil(r, &mut circuit.points[k]);
+    }
+    circuit
+}
+
+fn point(r: &mut Random) -> [u32; POINT] {
+    let [layers, es] = [states::point(r).to_vec(), states::es_row(r).to_vec()];
+    let place = vec![states::latitude(r), states::clock(r)];
+    words::bits(&[layers, es, place].concat())
+        .try_into()
+        .unwrap()
+}
+
+/// A file for `sheet`: mostly a whole hour.
+pub fn any_hour(r: &mut Random) -> Vec<u8> {
+    let circuit = hour_circuit(r);
+    match r.below(8) {
+        0 => any(r),
+        1 => {
+            let mut file = circuit.written();
+            damage(r, &mut file);
+            file
+        }
+        2 | 3 => permuted(r, &circuit),
+        _ => circuit.written(),
     }
 }
 

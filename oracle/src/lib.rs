@@ -8,6 +8,7 @@ pub mod float;
 pub mod ours;
 pub mod precise;
 pub mod predict;
+pub mod programs;
 pub mod random;
 pub mod report;
 pub mod routed;

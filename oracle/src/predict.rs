@@ -1,7 +1,7 @@
 //! The paper's refusals, worked out without our code.
 
 use crate::routed::muf::reach;
-use crate::routed::side::{self, Hour};
+use crate::routed::side;
 use crate::routing;
 use crate::words::*;
 

@@ -226,17 +226,6 @@ pub fn f2dis(deciles: &[u32], n: &[u32]) -> u32 {
     muf::f2dis(&deciles_of(deciles), n[0], n[1], n[2], n[3], n[4]).to_bits()
 }
 
-/// A circuit MUF's arguments beside the state.
-#[derive(Clone, Debug)]
-pub struct Hour {
-    pub es: Vec<u32>,
-    pub deciles: Vec<u32>,
-    pub clat: Vec<u32>,
-    pub clck: Vec<u32>,
-    /// gcd, gcdkm, amind, ssn.
-    pub numbers: Vec<u32>,
-}
-
 /// The state and the Es words after, and the hour.
 pub fn curmuf(state: &State, call: &Hour) -> (State, Vec<u32>, Vec<u32>) {
     let mut s = marked_state(state);

@@ -2,7 +2,7 @@
 //! them is made by a function of ours.
 
 use crate::random::Random;
-use crate::routed::side::{self, Hour};
+use crate::routed::side;
 use crate::words::*;
 
 /// A point's fi, yi, hi as a month's maps give them.
@@ -272,8 +272,17 @@ fn edge_path(r: &mut Random) -> [f32; 4] {
     path
 }
 
+/// A path inside its domain or about its edges.
+pub fn any_path(r: &mut Random) -> [f32; 4] {
+    if r.once_in(2) {
+        path(r)
+    } else {
+        edge_path(r)
+    }
+}
+
 /// An Es row: lower decile, median, upper decile, height.
-fn es_row(r: &mut Random) -> [f32; 4] {
+pub fn es_row(r: &mut Random) -> [f32; 4] {
     let median = r.tabled(0.5, 8.0);
     let row = [median * 0.6, median, median * 1.5, 110.0];
     match r.below(8) {
@@ -325,13 +334,12 @@ pub fn hour(r: &mut Random) -> Hour {
         deciles.resize(r.pick(&[0, 1, 575, 577, 600]), 0);
     }
     let (points, hours) = (list_length(r), list_length(r));
-    let path = if r.once_in(2) { path(r) } else { edge_path(r) };
     Hour {
         es,
         deciles,
         clat: (0..points).map(|_| latitude(r).to_bits()).collect(),
         clck: (0..hours).map(|_| clock(r).to_bits()).collect(),
-        numbers: bits(&path),
+        numbers: bits(&any_path(r)),
     }
 }
 

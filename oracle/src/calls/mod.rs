@@ -6,9 +6,34 @@ pub mod ionogram;
 pub mod muf;
 pub mod slots;
 
+use crate::float;
 use crate::random::Random;
 use crate::report::hex;
 use crate::words::*;
+
+/// Makes one call.
+pub type Case = fn(&mut Random) -> Call;
+
+/// Each comparison by its name, which is that of our function.
+pub const COMPARISONS: [(&str, Case); 17] = [
+    ("rust_walk", heights::rust_walk),
+    ("port_from_layers", slots::from_layers),
+    ("port_ionset", slots::ionset),
+    ("port_lecden", slots::lecden),
+    ("port_gethp", heights::gethp),
+    ("port_gethp_scan", heights::gethp_scan),
+    ("port_bendy", heights::bendy),
+    ("port_pen", heights::pen),
+    ("port_xlin", heights::xlin),
+    ("port_f2dis", muf::f2dis),
+    ("port_curmuf", muf::curmuf),
+    ("port_sang", ionogram::sang),
+    ("port_selmod", ionogram::selmod),
+    ("port_genion", ionogram::genion),
+    ("port_fobby", ionogram::fobby),
+    ("port_alosfv", ionogram::alosfv),
+    ("port_sheet", ionogram::sheet),
+];
 
 /// What lent words hold before a call.
 const MARK: u32 = 0xdead_beef;
@@ -30,6 +55,20 @@ struct Lent {
 }
 
 impl Call {
+    /// The call and the routed Rust's answer as a list of words: the answer,
+    /// the arguments' lists, then the lists lent as they are left.
+    pub fn listed(&self) -> Vec<u32> {
+        let mut words = vec![self.wanted, self.given.len() as u32];
+        for (_, list) in &self.given {
+            words.extend(packed(list));
+        }
+        words.push(self.lent.len() as u32);
+        for lent in &self.lent {
+            words.extend(packed(&lent.one_nan(self.wanted != 0)));
+        }
+        words
+    }
+
     /// What differs, with the arguments.
     pub fn differs(&self) -> Option<String> {
         let what = if self.answer != self.wanted {
@@ -62,6 +101,21 @@ impl Lent {
         }
     }
 
+    /// What is wanted, every NaN that is written as one pattern.
+    fn one_nan(&self, refused: bool) -> Vec<u32> {
+        let written = |i: usize| !refused && (self.floats)(i);
+        let words = self.wanted.iter().enumerate();
+        words
+            .map(|(i, w)| {
+                if written(i) && float::is_nan(*w) {
+                    float::NAN
+                } else {
+                    *w
+                }
+            })
+            .collect()
+    }
+
     /// After a refusal every bit is as it came.
     fn differs(&self, refused: bool) -> Option<String> {
         let floats = if refused { no_floats } else { self.floats };
@@ -71,6 +125,18 @@ impl Lent {
             "{} word {i} is {got:08x}, not {wanted:08x}",
             self.name
         ))
+    }
+}
+
+/// A list's length and its words; where all are alike, the length with the
+/// top bit set and that word.
+fn packed(list: &[u32]) -> Vec<u32> {
+    let length = list.len() as u32;
+    match list.first() {
+        Some(word) if list.len() > 1 && list.iter().all(|w| w == word) => {
+            vec![length | 1 << 31, *word]
+        }
+        _ => [&[length], list].concat(),
     }
 }
 

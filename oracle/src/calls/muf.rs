@@ -1,7 +1,7 @@
 //! `f2dis` and `curmuf`.
 
 use super::*;
-use crate::routed::side::{self, Hour};
+use crate::routed::side;
 use crate::{ours, predict, routing, states};
 
 pub fn f2dis(r: &mut Random) -> Call {
