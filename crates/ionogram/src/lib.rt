@@ -1,4 +1,15 @@
-// The ionogram of one slot: thirty rows.
+// The ionogram of a slot: its thirty rows, the scan of elevation angles, the slot that controls the
+// ray path, and the reflectrix.
+mod angles;
+mod control;
+mod reflectrix;
+
+use refusal::Refusal;
+pub use angles::sang;
+pub use control::selmod;
+pub use reflectrix::fobby;
+
+// The thirty rows.
 pub struct Ionogram {
     // vertical sounding frequencies, MHz
     pub fvert: [f32; 30],
@@ -8,4 +19,10 @@ pub struct Ionogram {
     pub htrue: [f32; 30],
     // deviative loss factors
     pub afac: [f32; 30],
+}
+
+// How many of the scan's angles apply to a path.
+pub enum Scan {
+    Angles(usize),
+    Refused(Refusal),
 }
