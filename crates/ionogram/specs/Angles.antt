@@ -2,6 +2,7 @@
 use mathlib.Core.Bool.{Bool, true, false}
 use mathlib.Core.List.{List, [], _∷_}
 use Prim.Native.Nat.{ℕ, zero, suc, _+_, _-_}
+use lib.Dec.{eqb}
 use lib.IntN.{ℤ, pos, natAbs}
 use lib.Signed.{ltZ}
 use lib.ListN.{getD}
@@ -51,9 +52,9 @@ countBy false _ amind iang = iang
 unfoldable pub countOf : Float → ℕ → ℕ
 countOf amind iang = countBy (amind >f f0) (at ANG (iang - 1) -f f10 -f amind <f f0) amind iang
 
-abbrev pub scanBy : ℕ → Float → Scan
-scanBy zero amind = Scan.Refused Refusal.Distance
-scanBy (suc i) amind = Scan.Angles (countOf amind (getD NANGX i 0))
+abbrev pub scanBy : Bool → Float → ℕ → Scan
+scanBy true amind id = Scan.Refused Refusal.Distance
+scanBy false amind id = Scan.Angles (countOf amind (getD NANGX (id - 1) 0))
 
 unfoldable pub sangOf : Float → Float → Scan
-sangOf gcdkm amind = scanBy (stepOf gcdkm) amind
+sangOf gcdkm amind = let id = stepOf gcdkm in scanBy (eqb id 0) amind id

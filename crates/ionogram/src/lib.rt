@@ -4,10 +4,10 @@ mod angles;
 mod control;
 mod reflectrix;
 
-use refusal::Refusal;
 pub use angles::sang;
 pub use control::selmod;
 pub use reflectrix::fobby;
+use refusal::Refusal;
 
 // The thirty rows.
 pub struct Ionogram {

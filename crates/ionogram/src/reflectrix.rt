@@ -3,10 +3,10 @@ ghost use mathlib.Core.Path.{_≡_};
 ghost use Prim.Native.Nat.{_+_, _*_, _<_, _≤_};
 ghost use lib.ListN.{length};
 ghost use Rattle.ionogram.specs.Fobby.{rcosdOf, cellOf, rowInto, anglesInto, cellsAfter, fobbyOutcome};
+use super::angles::angle;
 use crate::Ionogram;
 use refusal::Outcome;
 use refusal::Refusal;
-use super::angles::angle;
 
 fn rcosd(ia: usize) -> f32
     requires { ⌜ ia < 40 ⌝ }

@@ -1,5 +1,6 @@
 use Rattle.ionogram.specs.Selmod.{selmodOf}
 use borrow.Author.Needs.{needs}
+use borrow.Author.Tests.{ne-eqb}
 use Rattle.ionogram.proofs.control.selmod.Statement.{statement}
 use Rattle.ionogram.proofs.control.selmod.Tie as tie
 
@@ -18,7 +19,7 @@ slot-if-requires c κs = search needs
 
 returns-2 : tie.Need-returns-2
 unfolding selmodOf
-returns-2 c = rw (c .before .before .before .before .if1 .left, c .before .before .before .if2 .taken, ← c .slot-if .ensures)
+returns-2 c = rw (c .before .before .before .if2 .taken) (c .slot-if .ensures)
 
 element-copy-out-delfi : tie.Need-element-copy-out-delfi
 element-copy-out-delfi c = search needs
@@ -40,14 +41,14 @@ slot-if-requires-2 c κs = search needs
 
 returns-3 : tie.Need-returns-3
 unfolding selmodOf
-returns-3 c = rw (c .before .before .before .before .before .before .before .before .if1 .left, c .before .before .before .before .before .before .before .if2 .left, ← c .before .before .before .before .abs .ensures, c .before .before .before .if3 .taken, ← c .slot-if2 .ensures)
+returns-3 c = rw (ne-eqb _ _ (c .before .before .before .before .before .before .before .before .if1 .left), ne-eqb _ _ (c .before .before .before .before .before .before .before .if2 .left), ← c .before .before .before .before .abs .ensures, c .before .before .before .if3 .taken) (c .slot-if2 .ensures)
 
 slot-if-requires-3 : tie.Need-slot-if-requires-3
 slot-if-requires-3 c κs = search needs
 
 returns-4 : tie.Need-returns-4
 unfolding selmodOf
-returns-4 c = rw (c .before .before .before .before .before .before .if1 .left, c .before .before .before .before .before .if2 .left, ← c .before .before .abs .ensures, c .before .if3 .left, ← c .slot-if3 .ensures)
+returns-4 c = rw (ne-eqb _ _ (c .before .before .before .before .before .before .if1 .left), ne-eqb _ _ (c .before .before .before .before .before .if2 .left), ← c .before .before .abs .ensures, c .before .if3 .left) (c .slot-if3 .ensures)
 
 pub selmod-spec : {M : Type 1} → statement M
 selmod-spec =

@@ -1,5 +1,6 @@
 use Rattle.ionogram.specs.Fobby.{cellOf}
-use borrow.Author.Needs.{needs}
+use mir.Facts.{toZ-ofZ}
+use borrow.Author.Needs.{needs, sfits-of}
 use Rattle.ionogram.proofs.reflectrix.cell.Statement.{statement}
 use Rattle.ionogram.proofs.reflectrix.cell.Tie as tie
 
@@ -26,7 +27,7 @@ trunc-requires c κs = search needs
 
 returns : tie.Need-returns
 unfolding cellOf
-returns c = rw (← c .before .before .before .max .ensures, ← c .before .before .sqrt .ensures, ← c .trunc .ensures)
+returns c = rw (← c .before .before .before .max .ensures, ← c .before .before .sqrt .ensures, ← c .trunc .ensures) (toZ-ofZ (sfits-of (c .trunc .ok)))
 
 pub cell-spec : {M : Type 1} → statement M
 cell-spec =
