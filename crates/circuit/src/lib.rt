@@ -1,0 +1,75 @@
+// The circuit file: a chain of 64-byte records that holds the numbers of one circuit. Every number is held by its bits, so that a
+// NaN keeps its payload.
+mod record;
+mod walk;
+mod numbers;
+
+ghost use mathlib.Core.Path.{_≡_};
+ghost use Rattle.circuit.specs.Record.{old};
+ghost use Rattle.circuit.specs.Chain.{chainOf};
+ghost use Rattle.circuit.specs.Read.{readOf};
+use refusal::Outcome;
+use refusal::Refusal;
+
+// The records of a chain, in its order: `count` of them, then zeros. Beside a refusal all are zero.
+pub struct Chain {
+    pub outcome: Outcome,
+    pub order: [usize; 64],
+    pub count: usize,
+}
+
+// A point is fifteen words: fi, yi, hi and Es fs, three each, hs, clat, clck. Points past km are zero.
+pub struct Circuit {
+    pub km: usize,
+    pub shape: usize,
+    pub gcd: u32,
+    pub gcdkm: u32,
+    pub amind: u32,
+    pub ssn: u32,
+    pub points: [u32; 75],
+    pub deciles: [u32; 576],
+}
+
+// Beside a refusal every number of the circuit is zero.
+pub struct ReadAnswer {
+    pub outcome: Outcome,
+    pub circuit: Circuit,
+}
+
+// Where the next index of a record leads: nowhere, to a record that is there and was not met before, or astray.
+pub enum Step {
+    End,
+    To(usize),
+    Astray,
+}
+
+// The chain of a file, or where it is turned away.
+pub fn follow(file: &[u8]) -> Chain
+    ensures { λ c. ⌜ c ≡ chainOf old (now (file .entry)) ⌝ }
+{
+    walk::follow(file)
+}
+
+// The circuit of a file, or where it is turned away. Records off the chain are not looked at.
+pub fn read(file: &[u8]) -> ReadAnswer
+    ensures { λ r. ⌜ r ≡ readOf old (now (file .entry)) ⌝ }
+{
+    let c = walk::follow(file);
+    let outcome = c.outcome;
+    match outcome {
+        Outcome::Answered => {
+            let circuit = numbers::circuit(file, c);
+            ReadAnswer {
+                outcome: Outcome::Answered,
+                circuit,
+            }
+        }
+        Outcome::Refused(r) => {
+            let circuit = numbers::nothing();
+            ReadAnswer {
+                outcome: Outcome::Refused(r),
+                circuit,
+            }
+        }
+    }
+}
