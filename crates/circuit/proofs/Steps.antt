@@ -43,24 +43,24 @@ module _ (o : Form) (f order : List ℕ) (at : ℕ) where
   walk-astray (suc left) e = rw e
 
   pub walk-long : (n left : ℕ) → stepOf o f order at ≡ Step.To n → left ≡ 0
-    → walk o f left order at ≡ refused Refusal.ChainRecord
+      → walk o f left order at ≡ refused Refusal.ChainRecord
   unfolding walk
   walk-long n left e h = rw (h, e)
 
   module _ (n left : ℕ) (e : stepOf o f order at ≡ Step.To n) (h : left ≡ 0 → ⊥) where
     walk-to : (k : ℕ) → left ≡ suc k
-      → walk o f left order at
+        → walk o f left order at
         ≡ pick (soundBy o (leb 48 (left - 1)) (recordAt o f n)) (walk o f (left - 1) (order ++ (n ∷ [])) n)
-            (refused Refusal.ChainRecord)
+        (refused Refusal.ChainRecord)
     unfolding walk
     walk-to k s = rw (s, e, sub-one)
 
     pub walk-bad : soundBy o (leb 48 (left - 1)) (recordAt o f n) ≡ false
-      → walk o f left order at ≡ refused Refusal.ChainRecord
+        → walk o f left order at ≡ refused Refusal.ChainRecord
     walk-bad b = walk-to (left - 1) (omega arith) ∙ rw b refl
 
     pub walk-on : soundBy o (leb 48 (left - 1)) (recordAt o f n) ≡ true
-      → walk o f left order at ≡ walk o f (left - 1) (order ++ (n ∷ [])) n
+        → walk o f left order at ≡ walk o f (left - 1) (order ++ (n ∷ [])) n
     walk-on b = walk-to (left - 1) (omega arith) ∙ rw b refl
 
 -- the array and the count, as the answer
@@ -107,5 +107,5 @@ head-facts o r e =
       most = leb-true _ _ (c .0);
       form = leb-true _ _ (d .0);
       gap = g .0;
-      tail = g .1
+      tail = g .1;
     }

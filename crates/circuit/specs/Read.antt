@@ -28,10 +28,10 @@ circuitOf o f c =
       amind = wordAt head 16;
       ssn = wordAt head 20;
       points = padded 75 (numbersOf o f (c .order) 1 15 km);
-      deciles = padded 576 (numbersOf o f (c .order) (1 + km) 12 (c .count - (1 + km)))
+      deciles = padded 576 (numbersOf o f (c .order) (1 + km) 12 (c .count - (1 + km)));
     }
 
-abbrev pub noCircuit : Circuit
+unfoldable pub noCircuit : Circuit
 noCircuit =
     record {
       km = 0;
@@ -41,7 +41,7 @@ noCircuit =
       amind = 0;
       ssn = 0;
       points = replicate 75 0;
-      deciles = replicate 576 0
+      deciles = replicate 576 0;
     }
 
 abbrev pub readBy : Outcome → Circuit → ReadAnswer

@@ -1,8 +1,8 @@
 // The circuit file: a chain of 64-byte records that holds the numbers of one circuit. Every number is held by its bits, so that a
 // NaN keeps its payload.
+mod numbers;
 mod record;
 mod walk;
-mod numbers;
 
 ghost use mathlib.Core.Path.{_≡_};
 ghost use Rattle.circuit.specs.Record.{old};

@@ -43,10 +43,11 @@ loop-less c = omega arith
 
 loop-again : tie.Need-loop-again Inv-loop μ-loop
 loop-again c =
-    let l = c .before .before .loop in
-    (omega arith,
-    simp length-set (l .inv .1),
-    rw (c .word .ensures) (words-on _ _ _ (l .i) (omega arith) (l .inv .2)))
+    let l = c .before .before .loop in (
+      omega arith,
+      simp length-set (l .inv .1),
+      rw (c .word .ensures) (words-on _ _ _ (l .i) (omega arith) (l .inv .2)),
+    )
 
 same-length : tie.Need-same-length Inv-loop μ-loop
 same-length c = c .before .loop .inv .1

@@ -53,12 +53,13 @@ byte-requires : tie.Need-byte-requires
 byte-requires c κs = search needs
 
 walk-requires : tie.Need-walk-requires
-walk-requires c κs =
-    (omega arith,
-    rw (c .byte .ensures)
-    (head-facts old _
-    (sym (c .before .before .head-good .ensures) ∙ not-false (c .before .before .head-good .result) (c .before .if4 .left))
-    .most))
+walk-requires c κs = (
+  omega arith,
+  rw (c .byte .ensures)
+      (head-facts old _
+      (sym (c .before .before .head-good .ensures) ∙ not-false (c .before .before .head-good .result) (c .before .if4 .left))
+      .most),
+)
 
 returns-5 : tie.Need-returns-5
 unfolding chainOf

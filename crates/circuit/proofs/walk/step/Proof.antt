@@ -35,9 +35,9 @@ half-requires c κs = search needs
 -- the next index of record `at`
 read : (c : tie.After-half)
     → c .half .result
-      ≡ halfAt
-          (recordAt old (now (c .before .before .before .before .args .file)) (c .before .before .before .before .args .at))
-          2
+    ≡ halfAt
+    (recordAt old (now (c .before .before .before .before .args .file)) (c .before .before .before .before .args .at))
+    2
 read c =
     let a = c .before .before .before .before .args in
     c .half .ensures ∙ ap (λ (r : List ℕ). halfAt r 2) (part (now (a .file)) (a .at))
@@ -56,20 +56,24 @@ is-among-requires c κs = search needs
 returns-3 : tie.Need-returns-3
 unfolding stepOf
 returns-3 c =
-    rw (← read (c .before .before .before .before),
-    ne-eqb _ _ (c .before .before .before .if1 .left),
-    lt-ltb _ _ (c .before .before .if2 .left),
-    ← c .before .is-among .ensures,
-    c .if3 .taken)
+    rw (
+      ← read (c .before .before .before .before),
+      ne-eqb _ _ (c .before .before .before .if1 .left),
+      lt-ltb _ _ (c .before .before .if2 .left),
+      ← c .before .is-among .ensures,
+      c .if3 .taken,
+    )
 
 returns-4 : tie.Need-returns-4
 unfolding stepOf
 returns-4 c =
-    rw (← read (c .before .before .before .before),
-    ne-eqb _ _ (c .before .before .before .if1 .left),
-    lt-ltb _ _ (c .before .before .if2 .left),
-    ← c .before .is-among .ensures,
-    c .if3 .left)
+    rw (
+      ← read (c .before .before .before .before),
+      ne-eqb _ _ (c .before .before .before .if1 .left),
+      lt-ltb _ _ (c .before .before .if2 .left),
+      ← c .before .is-among .ensures,
+      c .if3 .left,
+    )
 
 pub step-spec : {M : Type 1} → statement M
 step-spec =

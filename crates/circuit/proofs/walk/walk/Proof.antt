@@ -75,9 +75,9 @@ enum-known-s c = search needs
 -- the record that the step goes to is there
 went : (c : tie.After-s Inv-loop μ-loop)
     → chain.stepOf old (now (c .before .before .before .before .before .before .args .file))
-        (take (c .before .before .before .before .loop .count) (c .before .before .before .before .loop .order))
-        (c .before .before .before .before .loop .at)
-      ≡ Step.To (c .s .given .0 .0)
+    (take (c .before .before .before .before .loop .count) (c .before .before .before .before .loop .order))
+    (c .before .before .before .before .loop .at)
+    ≡ Step.To (c .s .given .0 .0)
 went c = sym (c .before .before .step .ensures) ∙ c .s .given .1
 
 there : (c : tie.After-s Inv-loop μ-loop)
@@ -121,9 +121,9 @@ landed-requires c κs = search needs
 -- what was asked of the record there
 landed-is : (c : tie.After-landed Inv-loop μ-loop)
     → chain.soundBy old (leb 48 (c .before .before .before .before .before .before .before .before .loop .left - 1))
-        (recordAt old (now (c .before .before .before .before .before .before .before .before .before .before .args .file))
-        (c .before .before .before .before .s .given .0 .0))
-      ≡ c .landed .result
+    (recordAt old (now (c .before .before .before .before .before .before .before .before .before .before .args .file))
+    (c .before .before .before .before .s .given .0 .0))
+    ≡ c .landed .result
 landed-is c =
     let l = c .before .before .before .before .before .before .before .before .loop in
     let f = now (c .before .before .before .before .before .before .before .before .before .before .args .file) in
@@ -137,9 +137,9 @@ returns-4 c =
     let l = c .before .before .before .before .before .before .before .before .before .before .loop in
     c .refused3 .ensures
     ∙ sym
-      (walk-bad old _ _ _ _ (l .left) (went (c .before .before .before .before .before .before))
-      (c .before .before .before .before .if1 .left)
-      (landed-is (c .before .before) ∙ not-true (c .before .before .landed .result) (c .before .if2 .taken)))
+    (walk-bad old _ _ _ _ (l .left) (went (c .before .before .before .before .before .before))
+    (c .before .before .before .before .if1 .left)
+    (landed-is (c .before .before) ∙ not-true (c .before .before .landed .result) (c .before .if2 .taken)))
     ∙ l .inv .5
 
 mul-order : tie.Need-mul-order Inv-loop μ-loop
@@ -158,15 +158,19 @@ loop-again : tie.Need-loop-again Inv-loop μ-loop
 loop-again c =
     let l = c .before .before .before .before .before .before .before .before .before .loop in
     let n = c .before .before .before .before .before .s .given .0 .0 in
-    let f = now (c .before .before .before .before .before .before .before .before .before .before .before .args .file) in
-    (omega arith, omega arith, there (c .before .before .before .before .before), simp length-set (l .inv .3),
-    stored (l .order) (l .count) n (omega arith) (l .inv .3) (l .inv .4),
-    ap (λ (o : List ℕ). chain.walk old f (l .left - 1) o n) (one-more (l .order) (l .count) n (omega arith))
-    ∙ sym
-      (walk-on old _ _ _ _ (l .left) (went (c .before .before .before .before .before))
-      (c .before .before .before .if1 .left)
-      (landed-is (c .before) ∙ not-false (c .before .landed .result) (c .if2 .left)))
-    ∙ l .inv .5)
+    let f = now (c .before .before .before .before .before .before .before .before .before .before .before .args .file) in (
+      omega arith,
+      omega arith,
+      there (c .before .before .before .before .before),
+      simp length-set (l .inv .3),
+      stored (l .order) (l .count) n (omega arith) (l .inv .3) (l .inv .4),
+      ap (λ (o : List ℕ). chain.walk old f (l .left - 1) o n) (one-more (l .order) (l .count) n (omega arith))
+          ∙ sym
+          (walk-on old _ _ _ _ (l .left) (went (c .before .before .before .before .before))
+          (c .before .before .before .if1 .left)
+          (landed-is (c .before) ∙ not-false (c .before .landed .result) (c .if2 .left)))
+          ∙ l .inv .5,
+    )
 
 pub walk-spec : {M : Type 1} → statement M
 walk-spec =
