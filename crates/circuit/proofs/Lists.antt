@@ -1,14 +1,14 @@
 -- Facts on lists that several proofs cite.
 use Prim.Native.Nat.{ℕ, zero, suc, _+_, _*_, _-_, _≤_, _<_}
 use mathlib.Core.Path.{_≡_, refl, ap, _∙_, sym}
-use mathlib.Core.List.{List, [], _∷_, _++_, append-assoc, append-nil}
+use mathlib.Core.List.{List, [], _∷_, _++_, append-assoc, append-nil, map, map-append}
 use mathlib.Core.Bool.{Bool, true, false, _&&_, _||_}
 use native.Mathlib.Omega.{arith}
 use native.Mathlib.Numerals.{add-one}
-use lib.ListN.{length, getD, take, drop, set, length-append, length-drop, length-take, drop-of-length-le, replicate, length-replicate}
-use lib.Seq.{drop-cons, take-all, drop-length, set-at, take-at, drop-at, length-take-le}
+use lib.ListN.{length, getD, take, drop, set, length-append, length-drop, length-take, drop-of-length-le, replicate, length-replicate, length-map}
+use lib.Seq.{drop-cons, take-all, drop-length, set-at, take-at, drop-at, length-take-le, take-suc, take-suc-set}
 use lib.Dec.{eqb}
-use borrow.Author.Tests.{eq-eqb, ne-eqb}
+use borrow.Author.Tests.{eq-eqb, ne-eqb, eqb-true}
 use Rattle.circuit.specs.Chain.{member, padded}
 use Rattle.circuit.specs.Read.{numbersOf}
 use Rattle.circuit.specs.Record.{allZero, wordsOf, wordAt, recordAt, Form, old}
@@ -112,3 +112,23 @@ read-on N w from i f order xs ys e y h =
     let z = y ∙ ap (λ (r : List ℕ). wordsOf r w) (part f (getD order (from + i) 0)) in
     placed N w (w * i) xs (numbersOf old f order from w i) ys e (length-numbers old f order from w i) (ap length z ∙ length-words _ w) h
     ∙ rw (add-one, z) refl
+
+-- a list of zeros
+pub zeros : (l : List ℕ) → allZero l ≡ true → l ≡ replicate (length l) 0
+unfolding allZero
+zeros [] e = refl
+zeros (x ∷ l) e =
+    let t = both (eqb x 0) (allZero l) e in
+    let h = eqb-true x 0 (t .0) in
+    let k = zeros l (t .1) in
+    cc
+
+-- an array field's length, as owning the struct tells it
+pub sized : (n : ℕ) (l : List ℕ) → length (map (λ (v : ℕ). v) l) ≡ n → length l ≡ n
+sized n l e = sym (length-map l (λ (v : ℕ). v)) ∙ e
+
+-- one more number stored in a table that is the words' numbers so far
+pub mapped-on : {B : Type 0} (g : ℕ → B) (t : List B) (d : List ℕ) (i : ℕ) → i < length t → i < length d
+    → take i t ≡ map g (take i d) → take (i + 1) (set t i (g (getD d i 0))) ≡ map g (take (i + 1) d)
+mapped-on g t d i h k e =
+    rw (add-one, take-suc-set t i (g (getD d i 0)) h, take-suc d i 0 k, map-append, e)

@@ -5,7 +5,10 @@ mod record;
 mod walk;
 
 ghost use mathlib.Core.Path.{_≡_};
-ghost use Rattle.circuit.specs.Record.{old};
+ghost use mathlib.Core.List.{map};
+ghost use mathlib.Core.Bool.{not};
+ghost use lib.Ieee.{ofBits, binary32};
+ghost use Rattle.circuit.specs.Record.{old, allZero};
 ghost use Rattle.circuit.specs.Chain.{chainOf};
 ghost use Rattle.circuit.specs.Read.{readOf};
 use refusal::Outcome;
@@ -72,4 +75,29 @@ pub fn read(file: &[u8]) -> ReadAnswer
             }
         }
     }
+}
+
+// Whether a circuit has deciles to write: some number of the 576 is not +0.
+pub fn has_deciles(c: Circuit) -> bool
+    ensures { λ b. ⌜ b ≡ not (allZero (c .deciles)) ⌝ }
+{
+    let d = c.deciles;
+    !numbers::all_zero(&d)
+}
+
+// The flat decile table. It stays as it is made where the chain had no record of kind 3.
+pub fn decile_table(c: Circuit) -> [f32; 576]
+    ensures { λ t. ⌜ t ≡ map (ofBits binary32) (c .deciles) ⌝ }
+{
+    let mut table = [0.0; 576];
+    let d = c.deciles;
+    if numbers::all_zero(&d) {
+        return table;
+    }
+    let mut i = 0;
+    while i < 576 {
+        table[i] = scalar::number(d[i]);
+        i += 1;
+    }
+    table
 }

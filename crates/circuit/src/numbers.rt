@@ -3,7 +3,7 @@ ghost use mathlib.Core.Path.{_≡_};
 ghost use Prim.Native.Nat.{ℕ, _+_, _*_, _≤_, _<_};
 ghost use lib.ListN.{length, getD};
 ghost use Rattle.refusal.specs.declared.Outcome.{Outcome};
-ghost use Rattle.circuit.specs.Record.{old, wordsOf};
+ghost use Rattle.circuit.specs.Record.{old, wordsOf, allZero};
 ghost use Rattle.circuit.specs.Chain.{chainOf, padded};
 ghost use Rattle.circuit.specs.Read.{numbersOf, circuitOf, noCircuit};
 use crate::Chain;
@@ -24,6 +24,20 @@ fn read_deciles(r: &[u8], out: &mut [u32])
     ensures { λ _. ⌜ now (out .exit) ≡ wordsOf (now (r .entry)) 12 ⌝ }
 {
     record::words(r, out);
+}
+
+// Whether every word is +0.
+pub fn all_zero(s: &[u32]) -> bool
+    ensures { λ r. ⌜ r ≡ allZero (now (s .entry)) ⌝ }
+{
+    let mut i = 0;
+    while i < s.len() {
+        if s[i] != 0 {
+            return false;
+        }
+        i += 1;
+    }
+    true
 }
 
 fn points(file: &[u8], order: &[usize], km: usize) -> [u32; 75]
