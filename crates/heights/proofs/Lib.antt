@@ -1,0 +1,4 @@
+pub mod Tables
+pub mod Owned
+pub mod Rise
+pub mod Walks
