@@ -10,3 +10,5 @@ pub mod Reduce
 pub mod AtanBits
 pub mod Cosine
 pub mod AsinBits
+pub mod AtanMost
+pub mod Within
