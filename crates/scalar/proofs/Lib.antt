@@ -1,1 +1,17 @@
 pub mod Literals
+pub mod Nan
+pub mod Order
+pub mod MinMax
+pub mod Sign
+pub mod Truncation
+pub mod WholeRoot
+pub mod Closest
+pub mod MeanStep
+pub mod RootDigits
+pub mod RootPattern
+pub mod Normalise
+pub mod Patterns
+pub mod SpecialRoots
+pub mod RootInUnits
+pub mod CorrectRoot
+pub mod Trials

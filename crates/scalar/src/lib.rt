@@ -1,1 +1,106 @@
-// The f32 notation and the literals; the functions follow.
+// The arithmetic that everything else rests on: bit patterns, the cut to an i32, minimum, maximum,
+// abs and the square root. Each is total: it answers at NaN, at both infinities and at both zeros.
+mod root;
+
+ghost use mathlib.Core.Path.{_≡_};
+ghost use lib.Ieee.{binary32, ofBits, toBits};
+ghost use Rattle.scalar.specs.Scalar.{minOf, maxOf, absOf, truncOf};
+ghost use Rattle.scalar.specs.Root.{sqrtOf};
+
+// The float with the pattern b. `from_bits` is not defined at NaN's patterns: each of them gives
+// NaN here.
+pub fn number(b: u32) -> f32
+    ensures { λ r. ⌜ r ≡ ofBits binary32 b ⌝ }
+{
+    if 0x7f80_0000 < b % 0x8000_0000 {
+        return 0.0 / 0.0;
+    }
+    f32::from_bits(b)
+}
+
+// The pattern of x; 0x7fc00000 at NaN, where `to_bits` is not defined.
+pub fn bits(x: f32) -> u32
+    ensures { λ r. ⌜ r ≡ toBits binary32 x ⌝ }
+{
+    if x != x {
+        return 0x7fc0_0000;
+    }
+    f32::to_bits(x)
+}
+
+pub fn min(a: f32, b: f32) -> f32
+    ensures { λ r. ⌜ r ≡ minOf a b ⌝ }
+{
+    if a != a {
+        return b;
+    }
+    if b < a {
+        return b;
+    }
+    a
+}
+
+pub fn max(a: f32, b: f32) -> f32
+    ensures { λ r. ⌜ r ≡ maxOf a b ⌝ }
+{
+    if a != a {
+        return b;
+    }
+    if b > a {
+        return b;
+    }
+    a
+}
+
+pub fn abs(x: f32) -> f32
+    ensures { λ r. ⌜ r ≡ absOf x ⌝ }
+{
+    if x < 0.0 {
+        return -x;
+    }
+    // -0 too
+    if x == 0.0 {
+        return 0.0;
+    }
+    x
+}
+
+// The Rust's `x as i32`. The cast of what is left after the tests loses only the fraction.
+pub fn trunc(x: f32) -> i32
+    ensures { λ r. ⌜ r ≡ truncOf x ⌝ }
+{
+    if x != x {
+        return 0;
+    }
+    if x >= 2147483648.0 {
+        return 2147483647;
+    }
+    if x < -2147483648.0 {
+        return -2147483648;
+    }
+    std::num::truncating_f32_to_i64(x) as i32
+}
+
+// The square root, correctly rounded.
+pub fn sqrt(x: f32) -> f32
+    ensures { λ r. ⌜ r ≡ sqrtOf x ⌝ }
+{
+    if x != x {
+        return x;
+    }
+    let b = f32::to_bits(x);
+    if b == 0 {
+        return x;
+    }
+    if b < 0x7f80_0000 {
+        return f32::from_bits(root::positive_root(b));
+    }
+    if b == 0x7f80_0000 {
+        return x;
+    }
+    if b == 0x8000_0000 {
+        return x;
+    }
+    // below zero, -infinity too
+    0.0 / 0.0
+}

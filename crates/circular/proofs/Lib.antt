@@ -1,0 +1,10 @@
+pub mod Far
+pub mod Magnitude
+pub mod Patterns
+pub mod Tangent
+pub mod Cubic
+pub mod Step
+pub mod Angles
+pub mod Angle
+pub mod Reduce
+pub mod AtanBits

@@ -1,0 +1,3 @@
+pub mod SinCos
+pub mod Atan
+pub mod Answers

@@ -1,0 +1,76 @@
+-- `hop_geometry` of the Rust, with document 01's refusal of a hop count outside 0 to 999.
+use mathlib.Core.Bool.{Bool, true, false}
+use lib.IntN.{ℤ, pos, _+ℤ_}
+use lib.Signed.{ltZ}
+use lib.Ieee.{Float, binary32, ofInt}
+use Rattle.scalar.specs.F32.{_+f_, _-f_, _*f_, _/f_}
+use Rattle.scalar.specs.Literals.{f0, f0·01745329251, f0·5, f1, f1·570796326, f2, f6370}
+use Rattle.scalar.specs.Scalar.{maxOf, truncOf}
+use Rattle.scalar.specs.Root.{sqrtOf}
+use Rattle.circular.specs.SinCos.{sinOf, cosOf}
+use Rattle.circular.specs.Asin.{asinOf}
+use Rattle.circular.specs.Atan.{atanOf}
+use Rattle.refusal.specs.declared.Refusal.{Refusal}
+use Rattle.hops.specs.declared.Hops.{Hops}
+use Rattle.hops.specs.declared.HopGeometry.{HopGeometry}
+use Rattle.hops.specs.declared.Geometry.{Geometry}
+
+abbrev pub D2R : Float
+D2R = f0·01745329251
+
+abbrev pub PIO2 : Float
+PIO2 = f1·570796326
+
+abbrev pub RZ : Float
+RZ = f6370
+
+-- The hop count before it is cut to a whole number, for a layer at height h.
+unfoldable pub hopRatioOf : Float → Float → Float → Float
+hopRatioOf gcdkm amind h =
+    let dele = maxOf amind f0 in
+    let del = dele *f D2R in
+    let phe = asinOf (RZ *f cosOf del /f (RZ +f h)) in
+    f0·5 *f gcdkm /f ((PIO2 -f del -f phe) *f RZ)
+
+-- is it below 0, is it above 999
+abbrev pub hopsBy : Bool → Bool → ℤ → Hops
+hopsBy true above nhops = Hops.Refused Refusal.MufHops
+hopsBy false true nhops = Hops.Refused Refusal.MufHops
+hopsBy false false nhops = Hops.Count (ofInt binary32 (nhops +ℤ pos 1))
+
+unfoldable pub hopsOf : Float → Float → Float → Hops
+hopsOf gcdkm amind h = let nhops = truncOf (hopRatioOf gcdkm amind h) in hopsBy (ltZ nhops (pos 0)) (ltZ (pos 999) nhops) nhops
+
+-- split_first: the E and F1 sections
+abbrev pub psiOf : Float → Float → Bool → Float
+psiOf gcdkm xhops true = let p = gcdkm /f (f2 *f RZ) in p /f xhops
+psiOf gcdkm xhops false = gcdkm /f ((f2 *f RZ) *f xhops)
+
+unfoldable pub delOf : Float → Float → Float → Float → Float
+delOf psi cpsi spsi hp =
+    let tanp = spsi /f (f1 -f cpsi +f hp /f RZ) in
+    let phe = atanOf tanp in
+    PIO2 -f phe -f psi
+
+unfoldable pub spheOf : Float → Float → Float
+spheOf del ht = let cdel = cosOf del in RZ *f cdel /f (RZ +f ht)
+
+unfoldable pub secpOf : Float → Float
+secpOf sphe = f1 /f sqrtOf (f1 -f sphe *f sphe)
+
+unfoldable pub hopGeometryOf : Float → Float → Float → Float → Bool → HopGeometry
+hopGeometryOf gcdkm xhops hp ht split_first =
+    let psi = psiOf gcdkm xhops split_first in
+    let cpsi = cosOf psi in
+    let spsi = sinOf psi in
+    let del = delOf psi cpsi spsi hp in
+    let sphe = spheOf del ht in
+    let secp = secpOf sphe in
+    record { secp = secp; sphe = sphe; del = del; xhops = xhops; psi = psi; cpsi = cpsi; spsi = spsi }
+
+abbrev pub geometryBy : Hops → Float → Float → Float → Bool → Geometry
+geometryBy (Hops.Count xhops) gcdkm hp ht split_first = Geometry.Found (hopGeometryOf gcdkm xhops hp ht split_first)
+geometryBy (Hops.Refused r) gcdkm hp ht split_first = Geometry.Refused r
+
+unfoldable pub geometryOf : Float → Float → Float → Float → Bool → Geometry
+geometryOf gcdkm amind hp ht split_first = geometryBy (hopsOf gcdkm amind hp) gcdkm hp ht split_first

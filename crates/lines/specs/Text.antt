@@ -1,0 +1,39 @@
+-- The programs' text as lists of bytes, and what it is to put a text into lent bytes.
+use Prim.Native.Nat.{ℕ, zero, suc, _+_, _/_, _%_}
+use mathlib.Core.Path.{_≡_}
+use mathlib.Core.Bool.{Bool, true, false}
+use mathlib.Core.List.{List, [], _∷_, _++_}
+use lib.Dec.{ltb}
+use lib.ListN.{length}
+use lib.Seq.{sets}
+use Rattle.io.specs.Digits.{glyph, digits}
+
+-- ASCII's space and line feed
+abbrev pub space : ℕ
+space = 32
+
+abbrev pub lineFeed : ℕ
+lineFeed = 10
+
+-- nothing stands before the last digit of a number below ten
+abbrev pub tensBy : Bool → List ℕ → List ℕ
+tensBy true tens = []
+tensBy false tens = tens
+
+-- n's last `places` decimal digits, and no zero in front: the digits of n / 10 stand before the last one, where there are any
+unfoldable pub decimalIn : ℕ → ℕ → List ℕ
+decimalIn zero n = []
+decimalIn (suc places) n = tensBy (ltb n 10) (decimalIn places (n / 10)) ++ (glyph (n % 10) ∷ [])
+
+-- a number below 2 ^ 64 in decimal digits
+unfoldable pub decimalOf : ℕ → List ℕ
+decimalOf n = decimalIn 20 n
+
+-- the eight lower-case hexadecimal digits of a number below 2 ^ 32
+unfoldable pub hexOf : ℕ → List ℕ
+hexOf n = digits 16 8 n
+
+-- The text was put into the bytes l from the place `at`: l′ is what they hold now, every other byte as it was, and r the place after the text.
+pub record Put (text l : List ℕ) (at : ℕ) (l′ : List ℕ) (r : ℕ) : Type 0 where
+  pub next : r ≡ at + length text
+  pub cells : l′ ≡ sets l at text
