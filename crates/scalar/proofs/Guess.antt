@@ -1,6 +1,6 @@
 -- How large the numbers of the root's guess can be, so that nothing wraps and no difference falls below zero. How near the guess is to the root is no concern here. Assumes nothing.
 use Prim.Native.Nat.{ℕ, zero, suc, zero-le, _+_, _-_, _*_, _/_, _^_, _≤_, _<_}
-use native.Mathlib.Nat.{le-of-lt, mul-le-mul, le-mul-of-pos-right, zero-lt-suc, not-suc-le-zero}
+use native.Mathlib.Nat.{le-of-lt, mul-le-mul, le-mul-of-pos-right, zero-lt-suc}
 use native.Mathlib.Omega.{arith}
 
 -- ---- the polynomial of `reciprocal`
@@ -69,12 +69,7 @@ bounds m odd y a b c =
     half-cut : (x : ℕ) → x ≤ 2 ^ 32 * 2 ^ 20 → x / 2 ^ 26 ≤ 2 ^ 26
     half-cut x h = omega arith
 
--- ---- squares
+-- ---- a number is at most its square
 pub at-most-square : (r : ℕ) → r ≤ r * r
 at-most-square zero = zero-le
 at-most-square (suc r) = le-mul-of-pos-right (suc r) (zero-lt-suc r)
-
--- a number whose square is above another is above zero
-pub square-pos : (n r : ℕ) → n < r * r → 0 < r
-square-pos n zero h = absurd (not-suc-le-zero h)
-square-pos n (suc r) h = zero-lt-suc r

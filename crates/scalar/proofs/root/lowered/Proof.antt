@@ -3,7 +3,7 @@ use Prim.Native.Nat.{_^_, _<_}
 use native.Mathlib.Nat.{le-of-lt, lt-of-le-of-lt, mul-le-mul}
 use native.Mathlib.Omega.{arith}
 use lib.Dec.{lit<}
-use Rattle.scalar.proofs.Guess.{square-pos}
+use Rattle.scalar.proofs.MeanStep.{guess-pos}
 use Rattle.scalar.proofs.root.lowered.Statement.{statement}
 use Rattle.scalar.proofs.root.lowered.Tie as tie
 
@@ -20,10 +20,10 @@ mul-loop : tie.Need-mul-loop Inv-loop μ-loop
 mul-loop c = record { fits = lt-of-le-of-lt (mul-le-mul (le-of-lt (c .loop .inv)) (le-of-lt (c .loop .inv))) (lit< tt) }
 
 sub-r : tie.Need-sub-r Inv-loop μ-loop
-sub-r c = square-pos (c .before .before .args .n) (c .before .loop .r) (c .loop-test .taken)
+sub-r c = guess-pos (c .before .before .args .n) (c .before .loop .r) (c .loop-test .taken)
 
 loop-less : tie.Need-loop-less Inv-loop μ-loop
-loop-less c = omega (arith, square-pos (c .before .before .args .n) (c .before .loop .r) (c .loop-test .taken))
+loop-less c = omega (arith, guess-pos (c .before .before .args .n) (c .before .loop .r) (c .loop-test .taken))
 
 loop-again : tie.Need-loop-again Inv-loop μ-loop
 loop-again c = omega arith
