@@ -17,15 +17,15 @@ module _ (u : ℕ) (h : u < 2 ^ 32) where
   unfolding term
   term-1 = omega (arith, mul-le-mul (le-of-lt h) (le-of-lt h))
 
-  pub term-2 : term u 2 ≤ 2 ^ 22
+  pub term-2 : term u 2 ≤ 2796202
   unfolding term
   term-2 = omega (arith, mul-le-mul term-1 (le-of-lt h))
 
-  pub term-3 : term u 3 ≤ 2 ^ 16
+  pub term-3 : term u 3 ≤ 43691
   unfolding term
   term-3 = omega (arith, mul-le-mul term-2 (le-of-lt h))
 
-  pub term-4 : term u 4 ≤ 2 ^ 12
+  pub term-4 : term u 4 ≤ 547
   unfolding term
   term-4 = omega (arith, mul-le-mul term-3 (le-of-lt h))
 

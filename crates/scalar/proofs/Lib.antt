@@ -5,6 +5,7 @@ pub mod MinMax
 pub mod Sign
 pub mod Truncation
 pub mod WholeRoot
+pub mod MeanStep
 pub mod Closest
 pub mod Guess
 pub mod RootDigits

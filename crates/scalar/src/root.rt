@@ -61,11 +61,17 @@ fn raised(n: u64, guess: u64) -> u64
     r
 }
 
-// The whole part of n's root, from any guess.
+// The whole part of n's root, from any guess: mostly the guess itself.
 fn whole_root(n: u64, guess: u64) -> u64
     requires { ⌜ (n < 2 ^ 50) × (guess < 2 ^ 28) ⌝ }
     ensures { λ r. ⌜ r ≡ root n ⌝ }
 {
+    let square = guess * guess;
+    if square <= n {
+        if n - square <= 2 * guess {
+            return guess;
+        }
+    }
     raised(n, lowered(n, guess))
 }
 
