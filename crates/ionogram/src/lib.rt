@@ -7,6 +7,7 @@ mod reflectrix;
 pub use angles::sang;
 pub use control::selmod;
 pub use reflectrix::fobby;
+use refusal::Outcome;
 use refusal::Refusal;
 
 // The thirty rows.
@@ -19,6 +20,11 @@ pub struct Ionogram {
     pub htrue: [f32; 30],
     // deviative loss factors
     pub afac: [f32; 30],
+}
+
+pub struct IonogramAnswer {
+    pub outcome: Outcome,
+    pub ion: Ionogram,
 }
 
 // How many of the scan's angles apply to a path.

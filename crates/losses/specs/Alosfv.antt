@@ -16,9 +16,9 @@ use Rattle.layers.specs.State.{at}
 use Rattle.layers.specs.declared.IonoState.{IonoState}
 use Rattle.layers.specs.declared.LayerMuf.{LayerMuf}
 use Rattle.ionogram.specs.declared.Ionogram.{Ionogram}
+use Rattle.ionogram.specs.declared.IonogramAnswer.{IonogramAnswer}
 use Rattle.losses.specs.declared.Factors.{Factors}
 use Rattle.losses.specs.declared.Decay.{Decay}
-use Rattle.losses.specs.declared.IonogramAnswer.{IonogramAnswer}
 
 -- a * e ^ zexp, with zexp = -2 * (htrue - hz) / y, and at least -10
 unfoldable pub decayOf : Float → Decay → Float → Float

@@ -4,6 +4,7 @@ ghost use mathlib.Core.Path.{_≡_};
 ghost use Prim.Native.Nat.{_+_, _<_, _≤_};
 ghost use Rattle.losses.specs.Alosfv.{decayOf, factorOf, stored, eRow, eRows, cuspRow, cuspOf, tailRow, tailRows, withoutF1, withF1, aboveOf, notBelowZero, notBelowZeros, withAfac, alosfvOf, alosfvAnswer};
 use ionogram::Ionogram;
+use ionogram::IonogramAnswer;
 use layers::IonoState;
 use layers::LayerMuf;
 use refusal::Outcome;
@@ -19,11 +20,6 @@ pub struct Factors {
 pub struct Decay {
     pub hz: f32,
     pub y: f32,
-}
-
-pub struct IonogramAnswer {
-    pub outcome: Outcome,
-    pub ion: Ionogram,
 }
 
 fn decayed(a: f32, d: Decay, htrue: f32) -> f32

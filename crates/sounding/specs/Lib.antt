@@ -1,1 +1,2 @@
 pub mod Grid
+pub mod Genion
