@@ -2,3 +2,4 @@ pub mod Tables
 pub mod Owned
 pub mod Rise
 pub mod Walks
+pub mod Whole

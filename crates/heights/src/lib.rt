@@ -6,6 +6,8 @@ ghost use denote.Ref.{now};
 ghost use Rattle.profile.specs.Rising.{risesOf};
 ghost use Rattle.heights.specs.Nodes.{xt, wt, zgBy, heightOf, igAt, ibAt};
 ghost use Rattle.heights.specs.Gethp.{cutOf, mupOf, hpOf, gethpOf, gethpScanOf};
+ghost use Rattle.heights.specs.Bendy.{bendyOf, penOf, bendyAnswer, penAnswer};
+ghost use Rattle.heights.specs.Xlin.{xlinOf};
 ghost use Rattle.heights.specs.Walk.{flat, walkTable, scanTable, tableBy, cursorAfter, cursorReadBy, gethpReadOf};
 use layers::IonoState;
 use profile::rises_throughout;
@@ -14,6 +16,7 @@ use readings::profile_interpolate;
 use readings::read_by_scan;
 use readings::read_on;
 use readings::value;
+use refusal::Refusal;
 
 pub struct Heights {
     // virtual height, km
@@ -279,4 +282,67 @@ pub fn gethp_scan(s: IonoState, fxx: f32) -> Heights
     let htr = s.htr;
     let fnsq = s.fnsq;
     gethp_read(&htr, &fnsq, false, fxx)
+}
+
+// Linear interpolation of `yn` at `x` over the grid `xn`, with the Fortran's handling of level and falling segments.
+pub fn xlin(x: f32, xn: &[f32; 50], yn: &[f32; 50]) -> f32
+    ensures { λ r. ⌜ r ≡ xlinOf x (now (xn .entry)) (now (yn .entry)) ⌝ }
+{
+    if xn[0] - x > 0.0 {
+        let lowest = yn[0];
+        return lowest;
+    }
+    profile_interpolate(xn, yn, x)
+}
+
+// A layer's number, or the refusal of a slot or layer number above 2.
+pub enum LayerNumber {
+    Value(f32),
+    Refused(Refusal),
+}
+
+pub fn bendy_at(s: IonoState, i: usize, k: usize, f: f32) -> f32
+    requires { ⌜ (i < 3) × (k < 3) ⌝ }
+    ensures { λ r. ⌜ r ≡ bendyOf s i k f ⌝ }
+{
+    let n = 3 * k + i;
+    let x = scalar::min(f / s.fi[n], 0.999);
+    let l = exponential::ln((1.0 + x) / (1.0 - x));
+    0.5 * x * s.yi[n] * l
+}
+
+pub fn pen_at(s: IonoState, i: usize, k: usize, f: f32) -> f32
+    requires { ⌜ (i < 3) × (k < 3) ⌝ }
+    ensures { λ r. ⌜ r ≡ penOf s i k f ⌝ }
+{
+    let n = 3 * k + i;
+    let x = scalar::max(f / s.fi[n], 1.001);
+    let l = exponential::ln((1.0 + x) / (x - 1.0));
+    s.yi[n] * l * x
+}
+
+// The bending that the parabolic layer `i` of slot `k` adds to the virtual height.
+pub fn bendy(s: IonoState, i: usize, k: usize, f: f32) -> LayerNumber
+    ensures { λ r. ⌜ r ≡ bendyAnswer s i k f ⌝ }
+{
+    if i > 2 {
+        return LayerNumber::Refused(Refusal::SlotNumber);
+    }
+    if k > 2 {
+        return LayerNumber::Refused(Refusal::SlotNumber);
+    }
+    LayerNumber::Value(bendy_at(s, i, k, f))
+}
+
+// The retardation that the parabolic layer `i` of slot `k` adds where it lies below the reflection.
+pub fn pen(s: IonoState, i: usize, k: usize, f: f32) -> LayerNumber
+    ensures { λ r. ⌜ r ≡ penAnswer s i k f ⌝ }
+{
+    if i > 2 {
+        return LayerNumber::Refused(Refusal::SlotNumber);
+    }
+    if k > 2 {
+        return LayerNumber::Refused(Refusal::SlotNumber);
+    }
+    LayerNumber::Value(pen_at(s, i, k, f))
 }
