@@ -3,3 +3,4 @@ pub mod F1
 pub mod Grid
 pub mod Density
 pub mod Lecden
+pub mod Kept

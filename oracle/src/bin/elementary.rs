@@ -168,8 +168,9 @@ impl Found {
         let unit = last_place(got);
         let error = ((f64::from(got) - exact) / unit).abs();
         self.not_nearest += u64::from(error > 0.5);
-        // Not `>=`: a NaN error is too far.
-        if !(error < 1.0) {
+        // A NaN error is too far.
+        let near = error < 1.0;
+        if !near {
             self.too_far += 1;
             if self.too_far <= 3 {
                 println!("  {}({:08x}): {error} last places", f.name, x.to_bits());
@@ -179,7 +180,7 @@ impl Found {
             self.largest = error;
             self.largest_at = x.to_bits();
         }
-        if self.inputs % SAMPLE == 0 && exact.abs() > 1e-300 {
+        if self.inputs.is_multiple_of(SAMPLE) && exact.abs() > 1e-300 {
             self.check_reference(f, x, exact, unit);
         }
     }
@@ -187,7 +188,8 @@ impl Found {
     fn check_reference(&mut self, f: &Function, x: f32, exact: f64, unit: f64) {
         self.checked += 1;
         let off = (f.precise)(f64::from(x)).distance(exact, unit);
-        self.reference_off += u64::from(!(off < 2f64.powi(-28)));
+        let near = off < 2f64.powi(-28);
+        self.reference_off += u64::from(!near);
     }
 
     fn distance(&mut self, ours: f32, rust: f32) {

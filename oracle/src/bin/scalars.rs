@@ -86,7 +86,7 @@ fn on_pairs(name: &'static str, pairs: u64, ours: Pair, rule: Pair) -> Verdict {
 fn time_roots() {
     let mut random = Random::new(2);
     let numbers: Vec<f32> = (0..4096).map(|_| random.between(0.0001, 1.0)).collect();
-    let ours = nanoseconds(&numbers, |x| ours::scalar_sqrt(x));
+    let ours = nanoseconds(&numbers, ours::scalar_sqrt);
     let rust = nanoseconds(&numbers, f32::sqrt);
     let ratio = ours / rust;
     println!("sqrt: ours {ours:.2} ns, hardware {rust:.2} ns, ratio {ratio:.2}");
