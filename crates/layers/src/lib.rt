@@ -85,7 +85,8 @@ fn count_taken(n: usize) -> bool
     n <= 5
 }
 
-fn zero_state() -> IonoState
+// Every number +0, nothing set.
+pub fn zero_state() -> IonoState
     ensures { λ r. ⌜ r ≡ zeroState ⌝ }
 {
     IonoState {

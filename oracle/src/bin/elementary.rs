@@ -9,10 +9,8 @@
 use oracle::float::{distance, same};
 use oracle::precise::{self, Pair};
 use oracle::random::Random;
-use oracle::report::{argument, finish, Verdict};
+use oracle::report::{argument, finish, nanoseconds, Verdict};
 use oracle::{float, ours};
-use std::hint::black_box;
-use std::time::Instant;
 
 /// One function under trial.
 struct Function {
@@ -264,17 +262,6 @@ fn time(f: &Function) {
     let rust = nanoseconds(&numbers, f.rust);
     let ratio = ours / rust;
     println!("  ours {ours:.1} ns, Rust's own {rust:.1} ns, ratio {ratio:.2}");
-}
-
-fn nanoseconds(numbers: &[f32], f: fn(f32) -> f32) -> f64 {
-    let rounds = 500;
-    let started = Instant::now();
-    for _ in 0..rounds {
-        for x in numbers {
-            black_box(f(black_box(*x)));
-        }
-    }
-    started.elapsed().as_secs_f64() * 1e9 / (rounds * numbers.len()) as f64
 }
 
 fn main() {
