@@ -1,4 +1,11 @@
 // The layer parameters of a control point, and the state that the Fortran keeps in /RON/, by value.
+ghost use mathlib.Core.Path.{_≡_};
+ghost use Prim.Native.Nat.{_<_, _≤_};
+ghost use Rattle.layers.specs.State.{zeroState, withIedp, withIelect};
+ghost use Rattle.layers.specs.FromLayers.{countTaken, pointSet, pointsSet, emptyOf, fromLayersOf};
+ghost use Rattle.layers.specs.Ionset.{layerFrom, twoSlots, threeSlots, assignedOf, tooClose, f1Settled, f2Settled, slotSettled, slotsSettled, ionsetOf};
+use refusal::Outcome;
+use refusal::Refusal;
 
 // One control point's layers (index 0 E, 1 F1, 2 F2).
 pub struct LayerParams {
@@ -61,4 +68,237 @@ pub struct LayerMuf {
     pub yfot: f32,
     pub ymuf: f32,
     pub yhpf: f32,
+}
+
+// A state, and whether the call that was to make it was answered.
+pub struct StateAnswer {
+    pub outcome: Outcome,
+    pub state: IonoState,
+}
+
+fn count_taken(n: usize) -> bool
+    ensures { λ r. ⌜ r ≡ countTaken n ⌝ }
+{
+    if n < 1 {
+        return false;
+    }
+    n <= 5
+}
+
+fn zero_state() -> IonoState
+    ensures { λ r. ⌜ r ≡ zeroState ⌝ }
+{
+    IonoState {
+        fi: [0.0; 15],
+        yi: [0.0; 15],
+        hi: [0.0; 15],
+        km: 0,
+        kfx: 0,
+        htr: [0.0; 50],
+        fnsq: [0.0; 50],
+        htr_rises: false,
+        fsecv: [0.0; 3],
+        iedp: 0,
+        ielect: false,
+    }
+}
+
+// `iedp` below zero: every height comes from the density profile.
+fn empty(n: usize) -> IonoState
+    ensures { λ r. ⌜ r ≡ emptyOf n ⌝ }
+{
+    let mut s = zero_state();
+    s.km = n;
+    s.iedp = -1;
+    s
+}
+
+fn set_point(mut s: IonoState, k: usize, p: LayerParams) -> IonoState
+    requires { ⌜ k < 5 ⌝ }
+    ensures { λ r. ⌜ r ≡ pointSet s k p ⌝ }
+{
+    let e = 3 * k;
+    let f1 = 3 * k + 1;
+    let f2 = 3 * k + 2;
+    s.fi[e] = p.fi[0];
+    s.fi[f1] = p.fi[1];
+    s.fi[f2] = p.fi[2];
+    s.yi[e] = p.yi[0];
+    s.yi[f1] = p.yi[1];
+    s.yi[f2] = p.yi[2];
+    s.hi[e] = p.hi[0];
+    s.hi[f1] = p.hi[1];
+    s.hi[f2] = p.hi[2];
+    s
+}
+
+fn set_points(s: IonoState, params: [LayerParams; 5], n: usize) -> IonoState
+    requires { ⌜ n ≤ 5 ⌝ }
+    ensures { λ r. ⌜ r ≡ pointsSet s params n ⌝ }
+{
+    let mut t = s;
+    for k in 0..n {
+        let p = params[k];
+        t = set_point(t, k, p);
+    }
+    t
+}
+
+// The state of the first `count` points; what stands past them is not read.
+pub fn from_layers(params: [LayerParams; 5], count: usize) -> StateAnswer
+    ensures { λ r. ⌜ r ≡ fromLayersOf params count ⌝ }
+{
+    if count_taken(count) {
+        let state = set_points(empty(count), params, count);
+        return StateAnswer {
+            outcome: Outcome::Answered,
+            state,
+        };
+    }
+    StateAnswer {
+        outcome: Outcome::Refused(Refusal::PointCount),
+        state: zero_state(),
+    }
+}
+
+// The shape that a circuit file asks for, or an INTEGRATE card.
+pub fn with_iedp(mut s: IonoState, iedp: i32) -> IonoState
+    ensures { λ r. ⌜ r ≡ withIedp s iedp ⌝ }
+{
+    s.iedp = iedp;
+    s
+}
+
+// Whether the profile is supplied from outside.
+pub fn with_ielect(mut s: IonoState, ielect: bool) -> IonoState
+    ensures { λ r. ⌜ r ≡ withIelect s ielect ⌝ }
+{
+    s.ielect = ielect;
+    s
+}
+
+fn layer_from(mut s: IonoState, k: usize, p: usize, i: usize) -> IonoState
+    requires { ⌜ (k < 5) × (p < 5) × (i < 3) ⌝ }
+    ensures { λ r. ⌜ r ≡ layerFrom s k p i ⌝ }
+{
+    let to = 3 * k + i;
+    let from = 3 * p + i;
+    s.fi[to] = s.fi[from];
+    s.yi[to] = s.yi[from];
+    s.hi[to] = s.hi[from];
+    s
+}
+
+fn two_slots(mut s: IonoState) -> IonoState
+    ensures { λ r. ⌜ r ≡ twoSlots s ⌝ }
+{
+    s.kfx = 2;
+    let s1 = layer_from(s, 0, 1, 2);
+    let s2 = layer_from(s1, 1, 2, 0);
+    layer_from(s2, 1, 2, 1)
+}
+
+fn three_slots(mut s: IonoState) -> IonoState
+    ensures { λ r. ⌜ r ≡ threeSlots s ⌝ }
+{
+    s.kfx = 3;
+    let s1 = layer_from(s, 0, 1, 2);
+    let s2 = layer_from(s1, 1, 2, 0);
+    let s3 = layer_from(s2, 1, 2, 1);
+    let s4 = layer_from(s3, 1, 2, 2);
+    let s5 = layer_from(s4, 2, 4, 0);
+    let s6 = layer_from(s5, 2, 4, 1);
+    layer_from(s6, 2, 3, 2)
+}
+
+fn assign(mut s: IonoState) -> IonoState
+    ensures { λ r. ⌜ r ≡ assignedOf s ⌝ }
+{
+    if s.km <= 1 {
+        s.kfx = 1;
+        return s;
+    }
+    if s.km <= 3 {
+        return two_slots(s);
+    }
+    three_slots(s)
+}
+
+fn too_close(e: f32, f1: f32, f2: f32) -> bool
+    ensures { λ r. ⌜ r ≡ tooClose e f1 f2 ⌝ }
+{
+    if f1 - e - 0.2 <= 0.0 {
+        return true;
+    }
+    f2 - f1 - 0.2 <= 0.0
+}
+
+fn settle_f1(mut s: IonoState, k: usize) -> IonoState
+    requires { ⌜ k < 3 ⌝ }
+    ensures { λ r. ⌜ r ≡ f1Settled s k ⌝ }
+{
+    let e = 3 * k;
+    let f1 = 3 * k + 1;
+    let f2 = 3 * k + 2;
+    if s.fi[f1] > 0.0 {
+        if too_close(s.fi[e], s.fi[f1], s.fi[f2]) {
+            s.fi[f1] = 0.0;
+            s.yi[f1] = 0.0;
+            s.hi[f1] = 0.0;
+            return s;
+        }
+        let h = scalar::min(s.hi[f1], s.hi[f2]);
+        s.hi[f1] = h;
+        return s;
+    }
+    s
+}
+
+fn settle_f2(mut s: IonoState, k: usize) -> IonoState
+    requires { ⌜ k < 3 ⌝ }
+    ensures { λ r. ⌜ r ≡ f2Settled s k ⌝ }
+{
+    let e = 3 * k;
+    let f2 = 3 * k + 2;
+    let hdif = s.hi[f2] - s.hi[e] - 2.0;
+    let y = scalar::min(s.yi[f2], hdif);
+    s.yi[f2] = y;
+    s
+}
+
+fn settle_slot(s: IonoState, k: usize) -> IonoState
+    requires { ⌜ k < 3 ⌝ }
+    ensures { λ r. ⌜ r ≡ slotSettled s k ⌝ }
+{
+    settle_f2(settle_f1(s, k), k)
+}
+
+fn settle_slots(s: IonoState, n: usize) -> IonoState
+    requires { ⌜ n ≤ 3 ⌝ }
+    ensures { λ r. ⌜ r ≡ slotsSettled s n ⌝ }
+{
+    let mut t = s;
+    for k in 0..n {
+        t = settle_slot(t, k);
+    }
+    t
+}
+
+// E from the closer sample area, F2 from the farther; then each slot's layers made consistent.
+pub fn ionset(s: IonoState) -> StateAnswer
+    ensures { λ r. ⌜ r ≡ ionsetOf s ⌝ }
+{
+    if count_taken(s.km) {
+        let t = assign(s);
+        let n = t.kfx;
+        let state = settle_slots(t, n);
+        return StateAnswer {
+            outcome: Outcome::Answered,
+            state,
+        };
+    }
+    StateAnswer {
+        outcome: Outcome::Refused(Refusal::PointCount),
+        state: s,
+    }
 }

@@ -1,0 +1,2 @@
+pub mod Unit
+pub mod Near

@@ -1,0 +1,3 @@
+pub mod Product
+pub mod Round
+pub mod Values

@@ -1,0 +1,30 @@
+-- `fixed::pack` meets its contract: few leading zeros, and a significand of at most 2 ^ 24.
+use mathlib.Core.Path.{_≡_, ap}
+use Prim.Native.Nat.{ℕ, _+_, _-_, _*_, _^_, _≤_}
+use native.Mathlib.Omega.{arith}
+use lib.Count.{leadingZeros}
+use borrow.Author.Needs.{needs}
+use Rattle.fixed.specs.Fixed.{mant}
+use Rattle.fixed.proofs.Round.{rounded}
+use Rattle.fixed.proofs.pack.Statement.{statement}
+use Rattle.fixed.proofs.pack.Tie as tie
+
+sub-result : tie.Need-sub-result
+sub-result c = omega (arith, rounded (c .args .s) (c .pre .0) (c .pre .1) .few)
+
+mul-result : tie.Need-mul-result
+mul-result c = search needs
+
+significand-requires : tie.Need-significand-requires
+significand-requires c κs = search needs
+
+add-result : tie.Need-add-result
+add-result c =
+    let most : mant (c .before .args .s) ≤ 2 ^ 24 = rounded (c .before .args .s) (c .before .pre .0) (c .before .pre .1) .most in
+    omega (arith, most, c .significand .ensures)
+
+returns : tie.Need-returns
+returns c = search needs
+
+pub pack-spec : {M : Type 1} → statement M
+pack-spec = tie.close (tie.spec sub-result mul-result significand-requires add-result returns)

@@ -1,0 +1,17 @@
+-- `fixed::power` meets its contract: 2 ^ k with k below 64 is below 2 ^ 64, so the cut to 64 bits changes nothing.
+use mathlib.Core.Path.{_≡_, _∙_}
+use Prim.Native.Nat.{ℕ, _+_, _*_, _%_, _^_, _≤_, _<_}
+use native.Mathlib.Nat.{mod-eq-of-lt, one-mul}
+use lib.Pow.{pow-lt}
+use borrow.Author.Needs.{needs}
+use Rattle.fixed.proofs.power.Statement.{statement}
+use Rattle.fixed.proofs.power.Tie as tie
+
+shl-result : tie.Need-shl-result
+shl-result c = search needs
+
+returns : tie.Need-returns
+returns c = rw (one-mul (2 ^ c .args .k)) (mod-eq-of-lt (pow-lt (c .pre)))
+
+pub power-spec : {M : Type 1} → statement M
+power-spec = tie.close (tie.spec shl-result returns)

@@ -1,0 +1,90 @@
+-- `ionset`: the points' layers assigned to one, two or three slots, then made consistent slot by slot. Document 01: 5 where the point count is not 1 to 5.
+use mathlib.Core.Bool.{Bool, true, false, _||_}
+use Prim.Native.Nat.{ℕ, zero, suc, _+_, _*_}
+use lib.Dec.{leb}
+use lib.ListN.{set}
+use lib.Ieee.{Float}
+use Rattle.scalar.specs.F32.{_-f_, _≤f_, _>f_}
+use Rattle.scalar.specs.Literals.{f0, f0·2, f2}
+use Rattle.scalar.specs.Scalar.{minOf}
+use Rattle.refusal.specs.declared.Refusal.{Refusal}
+use Rattle.refusal.specs.declared.Outcome.{Outcome}
+use Rattle.layers.specs.State.{at, withTables, withKfx}
+use Rattle.layers.specs.FromLayers.{countTaken}
+use Rattle.layers.specs.declared.IonoState.{IonoState}
+use Rattle.layers.specs.declared.StateAnswer.{StateAnswer}
+
+-- layer i of slot k from point p: `s.fi[k][i] = s.fi[p][i]`, and so for yi and hi
+unfoldable pub layerFrom : IonoState → ℕ → ℕ → ℕ → IonoState
+layerFrom s k p i =
+    withTables s
+    (set (s .fi) (3 * k + i) (at (s .fi) (3 * p + i)))
+    (set (s .yi) (3 * k + i) (at (s .yi) (3 * p + i)))
+    (set (s .hi) (3 * k + i) (at (s .hi) (3 * p + i)))
+
+-- two slots: F2 of slot 0 from the middle point; E and F1 of slot 1 from point 2
+unfoldable pub twoSlots : IonoState → IonoState
+twoSlots s =
+    let s1 = layerFrom (withKfx s 2) 0 1 2 in
+    let s2 = layerFrom s1 1 2 0 in
+    layerFrom s2 1 2 1
+
+-- three slots: F2 from points 1, 2 and 3; E and F1 from points 0, 2 and 4
+unfoldable pub threeSlots : IonoState → IonoState
+threeSlots s =
+    let s1 = layerFrom (withKfx s 3) 0 1 2 in
+    let s2 = layerFrom s1 1 2 0 in
+    let s3 = layerFrom s2 1 2 1 in
+    let s4 = layerFrom s3 1 2 2 in
+    let s5 = layerFrom s4 2 4 0 in
+    let s6 = layerFrom s5 2 4 1 in
+    layerFrom s6 2 3 2
+
+-- by `km <= 1` and `km <= 3`
+abbrev pub assignedBy : Bool → Bool → IonoState → IonoState
+assignedBy true _ s = withKfx s 1
+assignedBy false true s = twoSlots s
+assignedBy false false s = threeSlots s
+
+unfoldable pub assignedOf : IonoState → IonoState
+assignedOf s = assignedBy (leb (s .km) 1) (leb (s .km) 3) s
+
+-- the criticals of E and F1, or of F1 and F2, lie too close
+unfoldable pub tooClose : Float → Float → Float → Bool
+tooClose e f1 f2' = (f1 -f e -f f0·2 ≤f f0) || (f2' -f f1 -f f0·2 ≤f f0)
+
+-- dropped: all three numbers 0; kept: not above F2
+abbrev pub f1KeptBy : Bool → IonoState → ℕ → IonoState
+f1KeptBy true s k = withTables s (set (s .fi) (3 * k + 1) f0) (set (s .yi) (3 * k + 1) f0) (set (s .hi) (3 * k + 1) f0)
+f1KeptBy false s k = withTables s (s .fi) (s .yi) (set (s .hi) (3 * k + 1) (minOf (at (s .hi) (3 * k + 1)) (at (s .hi) (3 * k + 2))))
+
+abbrev pub f1By : Bool → IonoState → ℕ → IonoState
+f1By true s k = f1KeptBy (tooClose (at (s .fi) (3 * k)) (at (s .fi) (3 * k + 1)) (at (s .fi) (3 * k + 2))) s k
+f1By false s k = s
+
+-- only an F1 above 0 is looked at: a NaN stays
+unfoldable pub f1Settled : IonoState → ℕ → IonoState
+f1Settled s k = f1By (at (s .fi) (3 * k + 1) >f f0) s k
+
+-- the F2 semi-thickness: at most hi(F2) - hi(E) - 2
+unfoldable pub f2Settled : IonoState → ℕ → IonoState
+f2Settled s k =
+    let hdif = at (s .hi) (3 * k + 2) -f at (s .hi) (3 * k) -f f2 in
+    withTables s (s .fi) (set (s .yi) (3 * k + 2) (minOf (at (s .yi) (3 * k + 2)) hdif)) (s .hi)
+
+unfoldable pub slotSettled : IonoState → ℕ → IonoState
+slotSettled s k = f2Settled (f1Settled s k) k
+
+-- the slots below n, one after the other
+unfoldable pub slotsSettled : IonoState → ℕ → IonoState
+slotsSettled s zero = s
+slotsSettled s (suc n) = slotSettled (slotsSettled s n) n
+
+abbrev pub ionsetBy : Bool → IonoState → StateAnswer
+ionsetBy true s =
+    let t = assignedOf s in
+    record { outcome = Outcome.Answered; state = slotsSettled t (t .kfx) }
+ionsetBy false s = record { outcome = Outcome.Refused Refusal.PointCount; state = s }
+
+unfoldable pub ionsetOf : IonoState → StateAnswer
+ionsetOf s = ionsetBy (countTaken (s .km)) s

@@ -1,0 +1,46 @@
+-- Reading and changing an `IonoState`. Each setter is a whole record once, so that a field added to the state is added here and at `zeroState`, and nowhere else.
+use mathlib.Core.Bool.{Bool, false}
+use mathlib.Core.List.{List}
+use Prim.Native.Nat.{ℕ}
+use lib.IntN.{ℤ, pos}
+use lib.ListN.{getD, replicate}
+use lib.Ieee.{Float, nan}
+use Rattle.scalar.specs.Literals.{f0}
+use Rattle.layers.specs.declared.IonoState.{IonoState}
+
+-- `l[i]`: NaN past the end, where no code reads
+abbrev pub at : List Float → ℕ → Float
+at l i = getD l i nan
+
+-- every number +0, nothing set
+abbrev pub zeroState : IonoState
+zeroState =
+    record { fi = replicate 15 f0; yi = replicate 15 f0; hi = replicate 15 f0; km = 0; kfx = 0; htr = replicate 50 f0; fnsq = replicate 50 f0; «htr_rises» = false; fsecv = replicate 3 f0; iedp = pos 0; ielect = false }
+
+abbrev pub withTables : IonoState → List Float → List Float → List Float → IonoState
+withTables s fi yi hi =
+    record { fi = fi; yi = yi; hi = hi; km = s .km; kfx = s .kfx; htr = s .htr; fnsq = s .fnsq; «htr_rises» = s .«htr_rises»; fsecv = s .fsecv; iedp = s .iedp; ielect = s .ielect }
+
+abbrev pub withKm : IonoState → ℕ → IonoState
+withKm s km =
+    record { fi = s .fi; yi = s .yi; hi = s .hi; km = km; kfx = s .kfx; htr = s .htr; fnsq = s .fnsq; «htr_rises» = s .«htr_rises»; fsecv = s .fsecv; iedp = s .iedp; ielect = s .ielect }
+
+abbrev pub withKfx : IonoState → ℕ → IonoState
+withKfx s kfx =
+    record { fi = s .fi; yi = s .yi; hi = s .hi; km = s .km; kfx = kfx; htr = s .htr; fnsq = s .fnsq; «htr_rises» = s .«htr_rises»; fsecv = s .fsecv; iedp = s .iedp; ielect = s .ielect }
+
+abbrev pub withProfile : IonoState → List Float → List Float → Bool → IonoState
+withProfile s htr fnsq rises =
+    record { fi = s .fi; yi = s .yi; hi = s .hi; km = s .km; kfx = s .kfx; htr = htr; fnsq = fnsq; «htr_rises» = rises; fsecv = s .fsecv; iedp = s .iedp; ielect = s .ielect }
+
+abbrev pub withFsecv : IonoState → List Float → IonoState
+withFsecv s fsecv =
+    record { fi = s .fi; yi = s .yi; hi = s .hi; km = s .km; kfx = s .kfx; htr = s .htr; fnsq = s .fnsq; «htr_rises» = s .«htr_rises»; fsecv = fsecv; iedp = s .iedp; ielect = s .ielect }
+
+abbrev pub withIedp : IonoState → ℤ → IonoState
+withIedp s iedp =
+    record { fi = s .fi; yi = s .yi; hi = s .hi; km = s .km; kfx = s .kfx; htr = s .htr; fnsq = s .fnsq; «htr_rises» = s .«htr_rises»; fsecv = s .fsecv; iedp = iedp; ielect = s .ielect }
+
+abbrev pub withIelect : IonoState → Bool → IonoState
+withIelect s ielect =
+    record { fi = s .fi; yi = s .yi; hi = s .hi; km = s .km; kfx = s .kfx; htr = s .htr; fnsq = s .fnsq; «htr_rises» = s .«htr_rises»; fsecv = s .fsecv; iedp = s .iedp; ielect = ielect }

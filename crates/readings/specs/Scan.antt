@@ -1,0 +1,85 @@
+-- A number read off a profile by a scan: the Rust's `profile_interpolate`, with the kind of the reading kept. `from` and `to` are the parallel arrays, `probe` is looked up on the first and the answer is
+-- on the second. A test written as a difference against zero stays one: at two equal infinities it is not a comparison.
+use mathlib.Core.Bool.{Bool, true, false}
+use mathlib.Core.List.{List}
+use Prim.Native.Nat.{ℕ, zero, suc, _+_}
+use lib.ListN.{getD}
+use lib.Ieee.{Float, nan}
+use Rattle.scalar.specs.F32.{_+f_, _-f_, _*f_, _/f_, _<f_, _≤f_, _>f_, _≥f_, _==f_}
+use Rattle.scalar.specs.Literals.{f0}
+use Rattle.readings.specs.declared.Hit.{Hit}
+use Rattle.readings.specs.declared.Hit.the-variants.{At, Miss}
+use Rattle.readings.specs.declared.Reading.{Reading}
+use Rattle.readings.specs.declared.Reading.the-variants.{Floor, Segment, Top}
+
+-- l[i]
+abbrev pub at : List Float → ℕ → Float
+at l i = getD l i nan
+
+-- the number that a reading carries
+unfoldable pub valueOf : Reading → Float
+valueOf (Floor v) = v
+valueOf (Segment v) = v
+valueOf (Top v) = v
+
+-- and its kind: floor 0, on a segment 1, top 2
+unfoldable pub kindOf : Reading → ℕ
+kindOf (Floor v) = 0
+kindOf (Segment v) = 1
+kindOf (Top v) = 2
+
+-- ---- one segment, from (from0, to0) to (from1, to1)
+-- the number on its line
+abbrev pub lineOf : Float → Float → Float → Float → Float → Float
+lineOf from0 from1 to0 to1 probe = to0 +f (probe -f from0) *f (to1 -f to0) /f (from1 -f from0)
+
+abbrev pub hitIf : Bool → Float → Hit
+hitIf true v = At v
+hitIf false v = Miss
+
+-- d < 0: is from0 - probe <= 0
+abbrev pub risingBy : Bool → Float → Float → Float → Float → Float → Hit
+risingBy true from0 from1 to0 to1 probe = hitIf (probe -f from1 <f f0) (lineOf from0 from1 to0 to1 probe)
+risingBy false from0 from1 to0 to1 probe = At (lineOf from0 from1 to0 to1 probe)
+
+-- neither d < 0 nor d == 0: is from0 - probe >= 0
+abbrev pub fallingBy : Bool → Float → Float → Float → Float → Float → Hit
+fallingBy true from0 from1 to0 to1 probe = hitIf (probe -f from1 >f f0) (lineOf from0 from1 to0 to1 probe)
+fallingBy false from0 from1 to0 to1 probe = Miss
+
+-- not d < 0: is d == 0
+abbrev pub levelBy : Bool → Float → Float → Float → Float → Float → Hit
+levelBy true from0 from1 to0 to1 probe = hitIf (probe -f from0 ==f f0) to0
+levelBy false from0 from1 to0 to1 probe = fallingBy (from0 -f probe ≥f f0) from0 from1 to0 to1 probe
+
+-- is d < 0
+abbrev pub segmentBy : Bool → Float → Float → Float → Float → Float → Hit
+segmentBy true from0 from1 to0 to1 probe = risingBy (from0 -f probe ≤f f0) from0 from1 to0 to1 probe
+segmentBy false from0 from1 to0 to1 probe = levelBy (from0 -f from1 ==f f0) from0 from1 to0 to1 probe
+
+unfoldable pub segmentOf : Float → Float → Float → Float → Float → Hit
+segmentOf from0 from1 to0 to1 probe = let d = from0 -f from1 in segmentBy (d <f f0) from0 from1 to0 to1 probe
+
+-- ---- the scan
+abbrev pub orOn : Hit → Reading → Reading
+orOn (At v) r = Segment v
+orOn Miss r = r
+
+-- the n segments from ih on: the first that holds the probe, or the last number
+unfoldable pub scanFrom : List Float → List Float → Float → ℕ → ℕ → Reading
+scanFrom from to probe zero ih = Top (at to ih)
+scanFrom from to probe (suc n) ih = orOn (segmentOf (at from ih) (at from (ih + 1)) (at to ih) (at to (ih + 1)) probe) (scanFrom from to probe n (ih + 1))
+
+abbrev pub scanOf : List Float → List Float → Float → Reading
+scanOf from to probe = scanFrom from to probe 49 0
+
+unfoldable pub profileInterpolateOf : List Float → List Float → Float → Float
+profileInterpolateOf from to probe = valueOf (scanOf from to probe)
+
+-- ---- a density at the height zi
+abbrev pub readingBy : Bool → List Float → List Float → Float → Reading
+readingBy true htr fnsq zi = Floor (at fnsq 0)
+readingBy false htr fnsq zi = scanOf htr fnsq zi
+
+unfoldable pub readingOf : List Float → List Float → Float → Reading
+readingOf htr fnsq zi = readingBy (zi -f at htr 0 ≤f f0) htr fnsq zi

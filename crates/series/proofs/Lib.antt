@@ -1,0 +1,17 @@
+pub mod Cases
+pub mod Entries
+pub mod Cauchy
+pub mod Addition
+pub mod Fractions
+pub mod Weighted
+pub mod Exponential
+pub mod Reciprocal
+pub mod ExpFraction
+pub mod Alternating
+pub mod WaveFraction
+pub mod Quarters
+pub mod Waves
+pub mod SmallAngle
+pub mod Bounds
+pub mod Pythagoras
+pub mod Circle

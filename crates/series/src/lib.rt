@@ -1,0 +1,1 @@
+// Power series with whole numerators and denominators: definitions and theorems, no code.

@@ -1,0 +1,53 @@
+-- The reads of a walk over heights that never fall are those of full scans: before each read the cursor stands at the count of the height before, which is not above that of its own height, and from there
+-- a read is the scan's. So the cursor only rises, to 49 at most.
+use mathlib.Core.Path.{_≡_, refl, sym, ap, _∙_}
+use mathlib.Core.List.{List}
+use Prim.Native.Nat.{ℕ, zero, suc, _+_, _≤_, _<_, zero-le}
+use native.Mathlib.Nat.{le-trans, le-of-eq, le-refl}
+use native.Mathlib.Omega.{arith}
+use lib.Dec.{T}
+use lib.Ieee.{Float, binary32, fits}
+use Rattle.readings.specs.Cursor.{countOf, readOnOf}
+use Rattle.readings.specs.Scan.{readingOf}
+use Rattle.readings.specs.declared.Read.{Read}
+use Rattle.walk.specs.Walk.{Held, Rising, Orderly, cursorBefore, walkRead, scannedRead, distance, movesOf}
+use Rattle.walk.proofs.Cursor.{count-mono, count-bound}
+use Rattle.walk.proofs.OneRead.{read-is-scan}
+
+module _ (htr fnsq : List Float) (z : ℕ → Float) (n : ℕ) (held : Held htr) (rising : Rising htr) (fine : (k : ℕ) → T (fits binary32 (z k))) (order : Orderly z n) where
+  -- the cursor before a read is not above the count of its height
+  below-count : (k : ℕ) → k < n → cursorBefore htr fnsq z k ≤ countOf htr (z k)
+  unfolding cursorBefore
+  below-count zero h = zero-le
+  below-count (suc k) h =
+      let k< : k < n = omega arith in
+      le-trans (le-of-eq (ap (λ (r : Read). r .cursor) (read-is-scan htr fnsq (z k) (cursorBefore htr fnsq z k) held (fine k) rising (below-count k k<))))
+      (count-mono htr (z k) (z (suc k)) held (fine k) (fine (suc k)) (order k h))
+
+  -- each read, kind, number and cursor
+  pub reads-are-scans : (k : ℕ) → k < n → walkRead htr fnsq z k ≡ scannedRead htr fnsq (z k)
+  reads-are-scans k h = read-is-scan htr fnsq (z k) (cursorBefore htr fnsq z k) held (fine k) rising (below-count k h)
+
+  pub cursor-after : (k : ℕ) → k < n → cursorBefore htr fnsq z (suc k) ≡ countOf htr (z k)
+  unfolding cursorBefore
+  cursor-after k h = ap (λ (r : Read). r .cursor) (reads-are-scans k h)
+
+  rises-so : (k : ℕ) → k < n → cursorBefore htr fnsq z k ≤ cursorBefore htr fnsq z (suc k)
+  rises-so k h = le-trans (below-count k h) (le-of-eq (sym (cursor-after k h)))
+
+  moves-are : (k : ℕ) → k ≤ n → movesOf htr fnsq z k ≡ cursorBefore htr fnsq z k
+  unfolding movesOf
+  moves-are zero h = unfold cursorBefore in refl
+  moves-are (suc k) h =
+      let k< : k < n = omega arith in
+      summed (movesOf htr fnsq z k) (cursorBefore htr fnsq z k) (cursorBefore htr fnsq z (suc k)) (moves-are k (omega arith)) (rises-so k k<)
+    where
+      summed : (m a b : ℕ) → m ≡ a → a ≤ b → m + distance a b ≡ b
+      summed m a b e h = omega arith
+
+  last-bound : (k : ℕ) → k ≤ n → cursorBefore htr fnsq z k ≤ 49
+  last-bound zero h = unfold cursorBefore in zero-le
+  last-bound (suc k) h = le-trans (le-of-eq (cursor-after k h)) (count-bound htr (z k) 49 0)
+
+  pub moves-bound : (k : ℕ) → k ≤ n → movesOf htr fnsq z k ≤ 49
+  moves-bound k h = le-trans (le-of-eq (moves-are k h)) (last-bound k h)

@@ -1,0 +1,132 @@
+//! The Rust's files, and the two sets of modules made of them.
+
+use crate::routing;
+use std::fs;
+use std::path::Path;
+
+/// What the generated modules need of the Rust's files.
+pub struct Source {
+    perf: String,
+    fastmath: String,
+    constants: String,
+    layers: String,
+    xlin: String,
+    muf: String,
+    ionogram: String,
+}
+
+/// Private items of muf.rs that the comparisons reach.
+const REACH: &str = "
+/// Access to what is private here.
+pub mod reach {
+    use super::*;
+    pub const NODES: [R; 20] = XT;
+    pub fn profile_interpolate(from: &[R; 50], to: &[R; 50], probe: R) -> R {
+        super::profile_interpolate(from, to, probe)
+    }
+    pub fn rising_interpolate(from: &[R; 50], to: &[R; 50], probe: R, ih: &mut usize) -> R {
+        super::rising_interpolate(from, to, probe, ih)
+    }
+    pub fn rises_throughout(a: &[R; 50]) -> bool {
+        super::rises_throughout(a)
+    }
+    pub fn gethp_densities(s: &IonoState, ht: R, fr: R) -> [[R; 2]; 20] {
+        super::gethp_densities(s, ht, fr)
+    }
+}
+";
+
+impl Source {
+    /// Reads the files below `folder`; cuts the items that are needed out of
+    /// those that can't be compiled whole.
+    pub fn open(folder: &Path) -> Self {
+        let read = |name: &str| read(&folder.join(name));
+        let ionosphere = read("voacap/ionosphere.rs");
+        Source {
+            perf: read("perf.rs"),
+            fastmath: read("voacap/fastmath.rs"),
+            constants: constants(&read("voacap/constants.rs")),
+            layers: item(&ionosphere, "pub struct LayerParams")
+                + &item(&ionosphere, "pub struct EsParams"),
+            xlin: item(&read("voacap/sigdis.rs"), "pub fn xlin"),
+            muf: read("voacap/muf.rs"),
+            ionogram: read("voacap/ionogram.rs"),
+        }
+    }
+
+    /// The timers, whole: they stay off.
+    pub fn perf(&self) -> String {
+        module("perf", &self.perf)
+    }
+
+    /// The modules as they stand, with Rust's own functions.
+    pub fn native(&self) -> String {
+        [
+            module("con", &self.constants),
+            module("fastmath", &self.fastmath),
+            module("ionosphere", &with_r(&self.layers)),
+            module("sigdis", &with_r(&self.xlin)),
+            module("muf", &(self.muf.clone() + REACH)),
+            module("ionogram", &self.ionogram),
+        ]
+        .concat()
+    }
+
+    /// The two modules with their elementary functions routed to ours.
+    pub fn routed(&self) -> String {
+        let muf = routing::routed("muf.rs", &self.muf);
+        let ionogram = routing::routed("ionogram.rs", &self.ionogram);
+        [
+            "pub use crate::voacap::{con, ionosphere, sigdis};\n".to_string(),
+            module(
+                "muf",
+                &(muf + "\nuse crate::routing::{Elementary, Order};\n" + REACH),
+            ),
+            module(
+                "ionogram",
+                &(ionogram + "\nuse crate::routing::{Elementary, Order};\n"),
+            ),
+        ]
+        .concat()
+    }
+}
+
+fn read(path: &Path) -> String {
+    println!("cargo:rerun-if-changed={}", path.display());
+    fs::read_to_string(path).unwrap_or_else(|e| {
+        panic!(
+            "{}: {e}; set HFCAST_SRC to the folder of the Rust source",
+            path.display()
+        )
+    })
+}
+
+fn module(name: &str, body: &str) -> String {
+    format!("pub mod {name} {{\n{body}\n}}\n")
+}
+
+fn with_r(body: &str) -> String {
+    format!("use super::con::R;\n{body}")
+}
+
+/// The number type and the constants: one line each in constants.rs.
+fn constants(text: &str) -> String {
+    text.lines()
+        .filter(|l| l.starts_with("pub type R") || l.starts_with("pub const"))
+        .flat_map(|l| [l, "\n"])
+        .collect()
+}
+
+/// The item that begins with `head`, with the attributes above it, to the
+/// brace that closes it at the start of a line.
+fn item(text: &str, head: &str) -> String {
+    let lines: Vec<&str> = text.lines().collect();
+    let at = lines
+        .iter()
+        .position(|l| l.starts_with(head))
+        .unwrap_or_else(|| panic!("no `{head}` in the Rust source"));
+    let above = lines[..at].iter().rev();
+    let first = at - above.take_while(|l| l.starts_with("#[")).count();
+    let last = at + lines[at..].iter().position(|l| *l == "}").unwrap();
+    lines[first..=last].join("\n") + "\n"
+}

@@ -1,0 +1,16 @@
+//! What the oracle's programs share: the Rust modules in two builds, our
+//! exported functions, and the generators and reports of the comparisons.
+
+pub mod circuit;
+pub mod float;
+pub mod ours;
+pub mod precise;
+pub mod random;
+pub mod report;
+pub mod routed;
+pub mod routing;
+pub mod states;
+pub mod voacap;
+pub mod words;
+
+include!(concat!(env!("OUT_DIR"), "/perf.rs"));

@@ -1,0 +1,280 @@
+// One build's functions over words: compiled twice, under the modules as they
+// stand and under the routed ones.
+
+use super::ionogram::Ionogram;
+use super::ionosphere::{EsParams, LayerParams};
+use super::muf::{IonoState, LayerMuf, MufHour};
+use super::{ionogram, muf, sigdis};
+use crate::words::*;
+
+/// The deciles as `f2d` has them.
+pub type Deciles = [[[f32; 16]; 6]; 6];
+
+fn table(words: &[u32]) -> [[f32; 3]; 5] {
+    std::array::from_fn(|k| std::array::from_fn(|i| f32::from_bits(words[3 * k + i])))
+}
+
+/// The state that the words stand for.
+pub fn state_of(w: &[u32]) -> IonoState {
+    let profile = |at: usize| std::array::from_fn(|i| f32::from_bits(w[at + i]));
+    IonoState {
+        fi: table(&w[FI..]),
+        yi: table(&w[YI..]),
+        hi: table(&w[HI..]),
+        km: w[KM] as usize,
+        kfx: w[KFX] as usize,
+        htr: profile(HTR),
+        fnsq: profile(FNSQ),
+        numerics: Default::default(),
+        htr_rises: w[RISES] != 0,
+        fsecv: std::array::from_fn(|k| f32::from_bits(w[FSECV + k])),
+        iedp: w[IEDP] as i32,
+        ielect: w[IELECT] != 0,
+    }
+}
+
+/// A state's words.
+pub fn state_words(s: &IonoState) -> State {
+    let mut w = [0; STATE];
+    for k in 0..5 {
+        for i in 0..3 {
+            w[FI + 3 * k + i] = s.fi[k][i].to_bits();
+            w[YI + 3 * k + i] = s.yi[k][i].to_bits();
+            w[HI + 3 * k + i] = s.hi[k][i].to_bits();
+        }
+    }
+    for i in 0..50 {
+        w[HTR + i] = s.htr[i].to_bits();
+        w[FNSQ + i] = s.fnsq[i].to_bits();
+    }
+    for k in 0..3 {
+        w[FSECV + k] = s.fsecv[k].to_bits();
+    }
+    w[KM] = s.km as u32;
+    w[KFX] = s.kfx as u32;
+    w[RISES] = u32::from(s.htr_rises);
+    w[IEDP] = s.iedp as u32;
+    w[IELECT] = u32::from(s.ielect);
+    w
+}
+
+/// A point's layers; what `from_layers` doesn't read is zero.
+pub fn point_of(w: &[u32]) -> LayerParams {
+    let three = |at: usize| std::array::from_fn(|i| f32::from_bits(w[at + i]));
+    LayerParams {
+        fi: three(0),
+        yi: three(3),
+        hi: three(6),
+        f2m3: 0.0,
+        hpf2: 0.0,
+        rat: 0.0,
+        abiy: 0.0,
+        clck: 0.0,
+        zenang: 0.0,
+        zenmax: 0.0,
+    }
+}
+
+pub fn es_of(w: &[u32]) -> Vec<EsParams> {
+    w.chunks_exact(ES_ROW)
+        .map(|r| EsParams {
+            fs: std::array::from_fn(|i| f32::from_bits(r[i])),
+            hs: f32::from_bits(r[3]),
+        })
+        .collect()
+}
+
+/// Writes the rows back; words past the last whole row stay.
+pub fn put_es(rows: &[EsParams], w: &mut [u32]) {
+    for (e, r) in rows.iter().zip(w.chunks_exact_mut(ES_ROW)) {
+        for i in 0..3 {
+            r[i] = e.fs[i].to_bits();
+        }
+        r[3] = e.hs.to_bits();
+    }
+}
+
+pub fn deciles_of(w: &[u32]) -> Deciles {
+    let at = |a: usize, b: usize, c: usize| f32::from_bits(w[(a * 6 + b) * 16 + c]);
+    std::array::from_fn(|a| std::array::from_fn(|b| std::array::from_fn(|c| at(a, b, c))))
+}
+
+pub fn layer_of(w: &[u32]) -> LayerMuf {
+    let x = |i: usize| f32::from_bits(w[i]);
+    LayerMuf {
+        sigl: x(0),
+        sigu: x(1),
+        delmuf: x(2),
+        hpmuf: x(3),
+        htmuf: x(4),
+        fvmuf: x(5),
+        afmuf: x(6),
+        nhopmf: w[HOPS] as i32,
+        yfot: x(8),
+        ymuf: x(9),
+        yhpf: x(10),
+    }
+}
+
+pub fn layers_of(w: &[u32]) -> [LayerMuf; 4] {
+    std::array::from_fn(|i| layer_of(&w[LAYER * i..]))
+}
+
+pub fn layer_words(l: &LayerMuf) -> [u32; LAYER] {
+    [
+        l.sigl.to_bits(),
+        l.sigu.to_bits(),
+        l.delmuf.to_bits(),
+        l.hpmuf.to_bits(),
+        l.htmuf.to_bits(),
+        l.fvmuf.to_bits(),
+        l.afmuf.to_bits(),
+        l.nhopmf as u32,
+        l.yfot.to_bits(),
+        l.ymuf.to_bits(),
+        l.yhpf.to_bits(),
+    ]
+}
+
+pub fn hour_words(h: &MufHour) -> Vec<u32> {
+    let mut w = bits(&[
+        h.emuf, h.f1muf, h.f2muf, h.esmuf, h.allmuf, h.fot, h.hpf, h.angmuf,
+    ]);
+    w.push(h.modmuf as u32);
+    w.push(h.ks as u32);
+    for l in &h.layers {
+        w.extend(layer_words(l));
+    }
+    w
+}
+
+pub fn rows_of(w: &[u32]) -> Ionogram {
+    let thirty = |at: usize| std::array::from_fn(|i| f32::from_bits(w[at + i]));
+    Ionogram {
+        fvert: thirty(0),
+        hprim: thirty(30),
+        htrue: thirty(60),
+        afac: thirty(90),
+    }
+}
+
+pub fn row_words(ion: &Ionogram) -> Vec<u32> {
+    [ion.fvert, ion.hprim, ion.htrue, ion.afac]
+        .iter()
+        .flat_map(|c| bits(c))
+        .collect()
+}
+
+pub fn from_layers(points: &[u32]) -> State {
+    let points: Vec<LayerParams> = points.chunks_exact(POINT).map(point_of).collect();
+    state_words(&IonoState::from_layers(&points))
+}
+
+pub fn ionset(state: &State) -> State {
+    let mut s = state_of(state);
+    muf::ionset(&mut s);
+    state_words(&s)
+}
+
+pub fn lecden(state: &State, k: usize) -> State {
+    let mut s = state_of(state);
+    muf::lecden(&mut s, k);
+    state_words(&s)
+}
+
+/// Both heights, under a rising mark of the caller's choice.
+pub fn gethp(state: &State, fxx: f32, rises: bool) -> [u32; 2] {
+    let mut s = state_of(state);
+    s.htr_rises = rises;
+    let (hp, ht) = muf::gethp(&s, fxx);
+    [hp.to_bits(), ht.to_bits()]
+}
+
+pub fn bendy(state: &State, i: usize, k: usize, f: f32) -> u32 {
+    muf::bendy(&state_of(state), i, k, f).to_bits()
+}
+
+pub fn pen(state: &State, i: usize, k: usize, f: f32) -> u32 {
+    muf::pen(&state_of(state), i, k, f).to_bits()
+}
+
+pub fn xlin(x: f32, xn: &[f32; 50], yn: &[f32; 50]) -> u32 {
+    sigdis::xlin(x, xn, yn).to_bits()
+}
+
+/// numbers: fmuf, ssn, clat, freq, abb.
+pub fn f2dis(deciles: &[u32], n: &[u32]) -> u32 {
+    let n = numbers(n);
+    muf::f2dis(&deciles_of(deciles), n[0], n[1], n[2], n[3], n[4]).to_bits()
+}
+
+/// A circuit MUF's arguments beside the state.
+#[derive(Clone, Debug)]
+pub struct Hour {
+    pub es: Vec<u32>,
+    pub deciles: Vec<u32>,
+    pub clat: Vec<u32>,
+    pub clck: Vec<u32>,
+    /// gcd, gcdkm, amind, ssn.
+    pub numbers: Vec<u32>,
+}
+
+/// The state and the Es words after, and the hour.
+pub fn curmuf(state: &State, call: &Hour) -> (State, Vec<u32>, Vec<u32>) {
+    let mut s = state_of(state);
+    let mut es = es_of(&call.es);
+    let n = numbers(&call.numbers);
+    let hour = muf::curmuf(
+        &mut s,
+        &mut es,
+        &deciles_of(&call.deciles),
+        &numbers(&call.clat),
+        &numbers(&call.clck),
+        n[0],
+        n[1],
+        n[2],
+        n[3],
+    );
+    let mut rows = call.es.clone();
+    put_es(&es, &mut rows);
+    (state_words(&s), rows, hour_words(&hour))
+}
+
+pub fn sang(gcdkm: f32, amind: f32) -> u32 {
+    ionogram::sang(gcdkm, amind) as u32
+}
+
+pub fn selmod(state: &State) -> u32 {
+    ionogram::selmod(&state_of(state)) as u32
+}
+
+pub fn genion(state: &State, k: usize) -> Vec<u32> {
+    row_words(&ionogram::genion(&state_of(state), k))
+}
+
+/// The cells of `nang` angles.
+pub fn fobby(rows: &[u32], nang: usize) -> Vec<u32> {
+    ionogram::fobby(&rows_of(rows), nang)
+        .iter()
+        .flatten()
+        .map(|c| *c as u32)
+        .collect()
+}
+
+pub fn alosfv(state: &State, k: usize, rows: &[u32], layers: &[u32]) -> Vec<u32> {
+    let mut ion = rows_of(rows);
+    ionogram::alosfv(&state_of(state), k, &mut ion, &layers_of(layers));
+    row_words(&ion)
+}
+
+/// `lecden`, `genion`, `fobby`, `alosfv` in turn: state, rows, cells.
+pub fn sheet(state: &State, k: usize, nang: usize, layers: &[u32]) -> (State, Vec<u32>, Vec<u32>) {
+    let mut s = state_of(state);
+    muf::lecden(&mut s, k);
+    s.htr_rises = rises(&state_words(&s));
+    let mut ion = ionogram::genion(&s, k);
+    let cells = ionogram::fobby(&ion, nang);
+    ionogram::alosfv(&s, k, &mut ion, &layers_of(layers));
+    let cells = cells.iter().flatten().map(|c| *c as u32).collect();
+    (state_words(&s), row_words(&ion), cells)
+}
