@@ -182,12 +182,23 @@ pub fn wrappers(folder: &Path) -> String {
     text + &format!("/// What no library has yet.\npub const MISSING: &[&str] = &{missing:?};\n")
 }
 
-/// Whether the library is there and its symbol table has the function.
+/// Whether the library is there and its index has the function.
 fn exports(folder: &Path, export: &Export) -> bool {
     let path = folder.join(format!("lib{}.a", export.0));
     println!("cargo:rerun-if-changed={}", path.display());
-    let symbol = format!("\0{}\0", export.1);
-    fs::read(&path).is_ok_and(|bytes| bytes.windows(symbol.len()).any(|w| w == symbol.as_bytes()))
+    fs::read(&path).is_ok_and(|archive| index(&archive).iter().any(|n| n == export.1))
+}
+
+/// The names in an archive's index, its first member: after the archive's
+/// mark (8 bytes) and the member's header (60) come a count, so many offsets
+/// and the names, each ended by a zero byte.
+fn index(archive: &[u8]) -> Vec<String> {
+    let word = |at: usize| archive[at..at + 4].try_into().map(u32::from_be_bytes);
+    let count = word(68).unwrap() as usize;
+    let names = archive[72 + 4 * count..].split(|b| *b == 0).take(count);
+    names
+        .map(|n| String::from_utf8_lossy(n).into_owned())
+        .collect()
 }
 
 fn wrapper(export: &Export, built: bool) -> String {

@@ -1,10 +1,14 @@
 //! What the oracle's programs share: the Rust modules in two builds, our
 //! exported functions, and the generators and reports of the comparisons.
 
+pub mod calls;
 pub mod circuit;
+pub mod files;
 pub mod float;
 pub mod ours;
 pub mod precise;
+pub mod predict;
+pub mod programs;
 pub mod random;
 pub mod report;
 pub mod routed;

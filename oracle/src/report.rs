@@ -1,5 +1,6 @@
 //! Counting what was compared.
 
+use std::hint::black_box;
 use std::time::Instant;
 
 /// How a comparison ended.
@@ -15,7 +16,8 @@ pub struct Tally {
     name: &'static str,
     started: Instant,
     cases: u64,
-    refused: u64,
+    /// How often each number was the answer that was wanted.
+    answers: [u64; 14],
     differences: u64,
 }
 
@@ -28,15 +30,16 @@ impl Tally {
             name,
             started: Instant::now(),
             cases: 0,
-            refused: 0,
+            answers: [0; 14],
             differences: 0,
         }
     }
 
-    /// Counts a case; what differs, if anything does.
-    pub fn case(&mut self, refused: bool, differs: Option<String>) {
+    /// Counts a case: the answer that was wanted (0, or a refusal's number),
+    /// and what differs, if anything does.
+    pub fn case(&mut self, answer: u32, differs: Option<String>) {
         self.cases += 1;
-        self.refused += u64::from(refused);
+        self.answers[answer as usize] += 1;
         if let Some(what) = differs {
             self.differences += 1;
             if self.differences <= SHOWN {
@@ -45,14 +48,26 @@ impl Tally {
         }
     }
 
+    fn refusals(&self) -> String {
+        let refused = (1..14).filter(|n| self.answers[*n] > 0);
+        let counts: Vec<String> = refused
+            .map(|n| format!("{n}: {}", self.answers[n]))
+            .collect();
+        if counts.is_empty() {
+            String::new()
+        } else {
+            format!("; refused {}", counts.join(", "))
+        }
+    }
+
     /// Prints the counts.
     pub fn done(self) -> Verdict {
         println!(
-            "{}: {} cases, {} of them refused, {} differences ({:.1} s)",
+            "{}: {} cases, {} differences{} ({:.1} s)",
             self.name,
             self.cases,
-            self.refused,
             self.differences,
+            self.refusals(),
             self.started.elapsed().as_secs_f64()
         );
         if self.differences == 0 {
@@ -61,6 +76,18 @@ impl Tally {
             Verdict::Differs
         }
     }
+}
+
+/// Nanoseconds of one call on these numbers: the best of many rounds.
+pub fn nanoseconds(numbers: &[f32], f: impl Fn(f32) -> f32) -> f64 {
+    let round = || {
+        let started = Instant::now();
+        for x in numbers {
+            black_box(f(black_box(*x)));
+        }
+        started.elapsed().as_secs_f64() * 1e9 / numbers.len() as f64
+    };
+    (0..1000).map(|_| round()).fold(f64::MAX, f64::min)
 }
 
 /// Words as eight hexadecimal digits each.

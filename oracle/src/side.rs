@@ -33,6 +33,24 @@ pub fn state_of(w: &[u32]) -> IonoState {
     }
 }
 
+/// The state, its mark set to what the rising test says: the Rust reads the
+/// stored mark, ours never does.
+pub fn marked_state(w: &State) -> IonoState {
+    let mut s = state_of(w);
+    s.htr_rises = rises(w);
+    s
+}
+
+/// The state's words after a call on `marked_state`: where a profile was
+/// supplied, the stored mark is as it came.
+fn unmarked_words(s: &IonoState, before: &State) -> State {
+    let mut w = state_words(s);
+    if s.ielect {
+        w[RISES] = u32::from(before[RISES] != 0);
+    }
+    w
+}
+
 /// A state's words.
 pub fn state_words(s: &IonoState) -> State {
     let mut w = [0; STATE];
@@ -208,20 +226,9 @@ pub fn f2dis(deciles: &[u32], n: &[u32]) -> u32 {
     muf::f2dis(&deciles_of(deciles), n[0], n[1], n[2], n[3], n[4]).to_bits()
 }
 
-/// A circuit MUF's arguments beside the state.
-#[derive(Clone, Debug)]
-pub struct Hour {
-    pub es: Vec<u32>,
-    pub deciles: Vec<u32>,
-    pub clat: Vec<u32>,
-    pub clck: Vec<u32>,
-    /// gcd, gcdkm, amind, ssn.
-    pub numbers: Vec<u32>,
-}
-
 /// The state and the Es words after, and the hour.
 pub fn curmuf(state: &State, call: &Hour) -> (State, Vec<u32>, Vec<u32>) {
-    let mut s = state_of(state);
+    let mut s = marked_state(state);
     let mut es = es_of(&call.es);
     let n = numbers(&call.numbers);
     let hour = muf::curmuf(
@@ -237,7 +244,7 @@ pub fn curmuf(state: &State, call: &Hour) -> (State, Vec<u32>, Vec<u32>) {
     );
     let mut rows = call.es.clone();
     put_es(&es, &mut rows);
-    (state_words(&s), rows, hour_words(&hour))
+    (unmarked_words(&s, state), rows, hour_words(&hour))
 }
 
 pub fn sang(gcdkm: f32, amind: f32) -> u32 {
@@ -249,7 +256,7 @@ pub fn selmod(state: &State) -> u32 {
 }
 
 pub fn genion(state: &State, k: usize) -> Vec<u32> {
-    row_words(&ionogram::genion(&state_of(state), k))
+    row_words(&ionogram::genion(&marked_state(state), k))
 }
 
 /// The cells of `nang` angles.
@@ -269,12 +276,11 @@ pub fn alosfv(state: &State, k: usize, rows: &[u32], layers: &[u32]) -> Vec<u32>
 
 /// `lecden`, `genion`, `fobby`, `alosfv` in turn: state, rows, cells.
 pub fn sheet(state: &State, k: usize, nang: usize, layers: &[u32]) -> (State, Vec<u32>, Vec<u32>) {
-    let mut s = state_of(state);
+    let mut s = marked_state(state);
     muf::lecden(&mut s, k);
-    s.htr_rises = rises(&state_words(&s));
     let mut ion = ionogram::genion(&s, k);
     let cells = ionogram::fobby(&ion, nang);
     ionogram::alosfv(&s, k, &mut ion, &layers_of(layers));
     let cells = cells.iter().flatten().map(|c| *c as u32).collect();
-    (state_words(&s), row_words(&ion), cells)
+    (unmarked_words(&s, state), row_words(&ion), cells)
 }

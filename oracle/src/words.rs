@@ -39,6 +39,17 @@ pub const CELLS: usize = 30;
 
 pub type State = [u32; STATE];
 
+/// A circuit MUF's arguments beside the state.
+#[derive(Clone, Debug)]
+pub struct Hour {
+    pub es: Vec<u32>,
+    pub deciles: Vec<u32>,
+    pub clat: Vec<u32>,
+    pub clck: Vec<u32>,
+    /// gcd, gcdkm, amind, ssn.
+    pub numbers: Vec<u32>,
+}
+
 /// Which words of a layout are floats.
 pub type Floats = fn(usize) -> bool;
 

@@ -66,3 +66,22 @@ rounded s big fits =
 
     e'' : leading-top 64 s (lt-of-lt-of-le (lit< tt) big) fits .0 + leadingZeros 64 s ≡ 63
     e'' = omega (arith, leading-top 64 s (lt-of-lt-of-le (lit< tt) big) fits .1)
+
+-- the unit of the last place of s * 2 ^ -56, in units of 2 ^ -149
+abbrev pub place : ℕ → ℕ
+place s = 2 ^ (133 - leadingZeros 64 s)
+
+pub place-is : (s : ℕ) → leadingZeros 64 s ≤ 33 → place s ≡ 2 ^ 99 * 2 ^ (34 - leadingZeros 64 s)
+place-is s h = ap (λ (x : ℕ). 2 ^ x) (go (leadingZeros 64 s) h) ∙ pow-add 2 99 (34 - leadingZeros 64 s)
+  where
+    go : (l : ℕ) → l ≤ 33 → 133 - l ≡ 99 + (34 - l)
+    go l g = omega arith
+
+-- below the patterns of infinity and NaN
+pub pattern-lt : (s : ℕ) → 2 ^ 30 ≤ s → s < 2 ^ 64 → pattern s < 255 * 2 ^ 23
+pattern-lt s h k =
+    let m : mant s ≤ 2 ^ 24 = rounded s h k .most in
+    go (leadingZeros 64 s) (mant s) m
+  where
+    go : (l m : ℕ) → m ≤ 2 ^ 24 → (133 - l) * 2 ^ 23 + m < 255 * 2 ^ 23
+    go l m h = omega arith

@@ -12,7 +12,11 @@ use lib.Ieee.Digits.{size-lt, size-le}
 use lib.Ieee.Fits.{down-pos}
 use lib.Ieee.Bits.{cond-no}
 use lib.Ieee.Exact.{HasValue, odd-sign}
+use borrow.Author.Tests.{le-leb, lt-leb}
+use lib.Count.{leadingZeros}
 use Rattle.series.proofs.Cases.{split}
+use Rattle.fixed.specs.Fixed.{digits, mant, pattern}
+use Rattle.fixed.proofs.Round.{rounded, place, pattern-lt}
 
 -- ---- what a bit pattern stands for
 differ : (x : ℕ) → suc x < 255 → suc x ≡ 255 → ⊥
@@ -104,3 +108,24 @@ v-small b h =
 
     up-to : (a : ℕ) → 2 ^ 23 + a % 2 ^ 23 ≤ 2 ^ 24
     up-to a = omega arith
+
+-- ---- a sign and a pattern without one
+pub sign-plus : (b p : ℕ) → p < 255 * 2 ^ 23 → leb (2 ^ 31) (b / 2 ^ 31 * 2 ^ 31 + p) ≡ leb (2 ^ 31) b
+sign-plus b p h = split b (2 ^ 31) (λ l. lt-leb (2 ^ 31) (b / 2 ^ 31 * 2 ^ 31 + p) (omega arith) ∙ sym (lt-leb (2 ^ 31) b l)) (λ l. le-leb (2 ^ 31) (b / 2 ^ 31 * 2 ^ 31 + p) (omega arith) ∙ sym (le-leb (2 ^ 31) b l))
+
+-- the value of a rounded s * 2 ^ -56 with the sign t
+pub packed-value : (c s t : ℕ) → c ≡ t * 2 ^ 31 + pattern s → 2 ^ 30 ≤ s → s < 2 ^ 64 → HasValue (ofBits binary32 c) (leb (2 ^ 31) (t * 2 ^ 31 + pattern s)) (mant s * place s) (2 ^ 149)
+packed-value c s t e l h =
+    let R = rounded s l h in
+    subst (λ (x : ℕ). HasValue (ofBits binary32 x) (leb (2 ^ 31) (t * 2 ^ 31 + pattern s)) (mant s * place s) (2 ^ 149)) (sym e)
+    (value (t * 2 ^ 31 + pattern s) (133 - leadingZeros 64 s) (mant s) (rest t (pattern s) (pattern-lt s l h)) (R .least) (R .most) (fine (leadingZeros 64 s)))
+  where
+    rest : (t p : ℕ) → p < 255 * 2 ^ 23 → (t * 2 ^ 31 + p) % 2 ^ 31 ≡ p
+    rest t p k = omega arith
+
+    fine : (n : ℕ) → 133 - n < 253
+    fine n = omega arith
+
+-- the value of a normal pattern
+pub normal-value : (b : ℕ) → 0x0080_0000 ≤ b % 2 ^ 31 → b % 2 ^ 31 < 0x7f80_0000 → HasValue (ofBits binary32 b) (leb (2 ^ 31) b) (digits (b % 2 ^ 31) * 2 ^ (b % 2 ^ 31 / 2 ^ 23 - 1)) (2 ^ 149)
+normal-value b l h = value-normal b (b % 2 ^ 31 / 2 ^ 23 - 1) (digits (b % 2 ^ 31)) (omega arith) (omega arith) (omega arith) (omega arith)

@@ -2,7 +2,7 @@
 ghost use mathlib.Core.Path.{_≡_};
 ghost use Prim.Native.Nat.{_<_, _≤_};
 ghost use Rattle.layers.specs.State.{zeroState, withIedp, withIelect};
-ghost use Rattle.layers.specs.FromLayers.{countTaken, pointSet, pointsSet, emptyOf, fromLayersOf};
+ghost use Rattle.layers.specs.FromLayers.{countTaken, rowSet, pointSet, pointsSet, emptyOf, fromLayersOf};
 ghost use Rattle.layers.specs.Ionset.{layerFrom, twoSlots, threeSlots, assignedOf, tooClose, f1Settled, f2Settled, slotSettled, slotsSettled, ionsetOf};
 use refusal::Outcome;
 use refusal::Refusal;
@@ -85,7 +85,8 @@ fn count_taken(n: usize) -> bool
     n <= 5
 }
 
-fn zero_state() -> IonoState
+// Every number +0, nothing set.
+pub fn zero_state() -> IonoState
     ensures { λ r. ⌜ r ≡ zeroState ⌝ }
 {
     IonoState {
@@ -113,22 +114,36 @@ fn empty(n: usize) -> IonoState
     s
 }
 
+fn set_row(table: [f32; 15], k: usize, row: [f32; 3]) -> [f32; 15]
+    requires { ⌜ k < 5 ⌝ }
+    ensures { λ r. ⌜ r ≡ rowSet table k row ⌝ }
+{
+    let mut t = table;
+    let e = 3 * k;
+    let f1 = 3 * k + 1;
+    let f2 = 3 * k + 2;
+    t[e] = row[0];
+    t[f1] = row[1];
+    t[f2] = row[2];
+    t
+}
+
 fn set_point(mut s: IonoState, k: usize, p: LayerParams) -> IonoState
     requires { ⌜ k < 5 ⌝ }
     ensures { λ r. ⌜ r ≡ pointSet s k p ⌝ }
 {
-    let e = 3 * k;
-    let f1 = 3 * k + 1;
-    let f2 = 3 * k + 2;
-    s.fi[e] = p.fi[0];
-    s.fi[f1] = p.fi[1];
-    s.fi[f2] = p.fi[2];
-    s.yi[e] = p.yi[0];
-    s.yi[f1] = p.yi[1];
-    s.yi[f2] = p.yi[2];
-    s.hi[e] = p.hi[0];
-    s.hi[f1] = p.hi[1];
-    s.hi[f2] = p.hi[2];
+    let fi = s.fi;
+    let yi = s.yi;
+    let hi = s.hi;
+    let f = p.fi;
+    let y = p.yi;
+    let h = p.hi;
+    let fi = set_row(fi, k, f);
+    let yi = set_row(yi, k, y);
+    let hi = set_row(hi, k, h);
+    s.fi = fi;
+    s.yi = yi;
+    s.hi = hi;
     s
 }
 

@@ -1,16 +1,15 @@
 -- The three tests of `abs`: below zero the sign is turned, a zero becomes +0, and every other value, NaN too, has no sign. Assumes nothing.
 use mathlib.Core.Path.{_≡_, refl, sym, ap, _∙_, subst}
-use mathlib.Core.Logic.{_⊎_, inl, inr}
-use mathlib.Core.Bool.{Bool, true, false, not, _&&_, _||_, Bool·beq, true≢false, false≢true}
+use mathlib.Core.Bool.{Bool, true, false, _&&_, _||_, true≢false, false≢true}
 use Prim.Native.Nat.{ℕ, zero, suc, _+_, _*_, _^_, _≤_, _<_}
-use native.Mathlib.Nat.{lt-irrefl, mul-pos, pow-succ'}
+use native.Mathlib.Nat.{mul-pos, pow-succ'}
 use native.Mathlib.Omega.{arith}
 use lib.IntN.{ℤ, pos, negsuc}
 use lib.Dec.{T, eqb, ltb, eqb→eq}
 use lib.Pow.{pow-pos}
-use lib.Ieee.{Float, nan, inf, fin, Format, binary32, up, down, neg, lt, eq, fits, ofBits}
-use lib.Ieee.Fits.{up-pos, down-pos, and-l}
-use borrow.Author.Tests.{ltb-true, ltb-false, eqb-true, eqb-false}
+use lib.Ieee.{Float, nan, inf, fin, binary32, up, down, neg, lt, eq, fits, ofBits}
+use lib.Ieee.Fits.{up-pos}
+use borrow.Author.Tests.{ltb-true, ltb-false, eqb-true}
 use Rattle.scalar.specs.Scalar.{absOf}
 
 pub plus-zero : ofBits binary32 0 ≡ fin false 0 (pos 0)

@@ -1,8 +1,8 @@
 -- The cut to an i32 by the tests of `trunc`: outside -2 ^ 31 to 2 ^ 31 the answer is the end on that side, and inside the cut to 63 digits is already the cut to 31. Assumes nothing.
 use mathlib.Core.Path.{_≡_, refl, sym, ap, _∙_, subst}
-use mathlib.Core.Bool.{Bool, true, false, not, _&&_, _||_, Bool·beq, true≢false, false≢true}
-use Prim.Native.Nat.{ℕ, zero, suc, _+_, _-_, _*_, _/_, _^_, _≤_, _<_, min}
-use native.Mathlib.Nat.{mul-pos, le-div-iff-mul-le, div-lt-iff-lt-mul, le-of-suc-le-suc}
+use mathlib.Core.Bool.{Bool, true, false, _&&_, _||_, true≢false, false≢true}
+use Prim.Native.Nat.{ℕ, _+_, _-_, _*_, _/_, _^_, _≤_, _<_, min}
+use native.Mathlib.Nat.{mul-pos, le-div-iff-mul-le, div-lt-iff-lt-mul}
 use native.Mathlib.Omega.{arith}
 use lib.IntN.{ℤ, pos, negsuc, negℤ}
 use lib.Dec.{T, eqb, ltb, lt→ltb}
@@ -11,7 +11,7 @@ use lib.Ieee.{Float, nan, inf, fin, up, down, lt, le, eq, ne, toSigned}
 use lib.Ieee.Fits.{down-pos}
 use lib.Ieee.Casts.{toSigned-in}
 use lib.Ieee.Compare.{nan-differs}
-use borrow.Author.Tests.{ltb-true, ltb-false, eqb-true, eqb-false, eq-eqb}
+use borrow.Author.Tests.{ltb-true, ltb-false, eqb-true, eqb-false}
 use Rattle.scalar.specs.Scalar.{wholePart, truncOf}
 
 -- Document 01's rule is lib.Ieee's cut to 31 digits and a sign.

@@ -1,8 +1,11 @@
-// The arithmetic that everything else rests on: bit patterns, the cut to an i32, minimum, maximum
-// and abs. Each is total: it answers at NaN, at both infinities and at both zeros.
+// The arithmetic that everything else rests on: bit patterns, the cut to an i32, minimum, maximum,
+// abs and the square root. Each is total: it answers at NaN, at both infinities and at both zeros.
+mod root;
+
 ghost use mathlib.Core.Path.{_≡_};
 ghost use lib.Ieee.{binary32, ofBits, toBits};
 ghost use Rattle.scalar.specs.Scalar.{minOf, maxOf, absOf, truncOf};
+ghost use Rattle.scalar.specs.Root.{sqrtOf};
 
 // The float with the pattern b. `from_bits` is not defined at NaN's patterns: each of them gives
 // NaN here.
@@ -25,6 +28,7 @@ pub fn bits(x: f32) -> u32
     f32::to_bits(x)
 }
 
+// The smaller one. A NaN is dropped, and of two equal ones, -0 and +0 too, the first is the answer.
 pub fn min(a: f32, b: f32) -> f32
     ensures { λ r. ⌜ r ≡ minOf a b ⌝ }
 {
@@ -37,6 +41,7 @@ pub fn min(a: f32, b: f32) -> f32
     a
 }
 
+// The larger one, by the same rules.
 pub fn max(a: f32, b: f32) -> f32
     ensures { λ r. ⌜ r ≡ maxOf a b ⌝ }
 {
@@ -49,6 +54,7 @@ pub fn max(a: f32, b: f32) -> f32
     a
 }
 
+// x without its sign.
 pub fn abs(x: f32) -> f32
     ensures { λ r. ⌜ r ≡ absOf x ⌝ }
 {
@@ -76,4 +82,28 @@ pub fn trunc(x: f32) -> i32
         return -2147483648;
     }
     std::num::truncating_f32_to_i64(x) as i32
+}
+
+// The square root, correctly rounded: NaN of NaN and below zero, either zero of itself.
+pub fn sqrt(x: f32) -> f32
+    ensures { λ r. ⌜ r ≡ sqrtOf x ⌝ }
+{
+    if x != x {
+        return x;
+    }
+    let b = f32::to_bits(x);
+    if b == 0 {
+        return x;
+    }
+    if b < 0x7f80_0000 {
+        return f32::from_bits(root::positive_root(b));
+    }
+    if b == 0x7f80_0000 {
+        return x;
+    }
+    if b == 0x8000_0000 {
+        return x;
+    }
+    // below zero, -infinity too
+    0.0 / 0.0
 }

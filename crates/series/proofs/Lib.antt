@@ -12,6 +12,7 @@ pub mod WaveFraction
 pub mod Quarters
 pub mod Waves
 pub mod SmallAngle
+pub mod Sharp
 pub mod Bounds
 pub mod Pythagoras
 pub mod Circle

@@ -1,8 +1,7 @@
 -- `scalar::abs` meets its contract: its three ways out are the three lemmas of `proofs/Sign.antt`. Assumes nothing.
-use mathlib.Core.Path.{_≡_, sym, ap, _∙_, subst}
-use mathlib.Core.Bool.{Bool, true, false}
+use mathlib.Core.Path.{sym, _∙_, subst}
 use lib.Dec.{T}
-use lib.Ieee.{Float, binary32, fits, lt, eq}
+use lib.Ieee.{binary32, fits}
 use Rattle.scalar.proofs.Sign.{plus-zero, below-zero, at-zero, above-zero}
 use Rattle.scalar.proofs.abs.Statement.{statement}
 use Rattle.scalar.proofs.abs.Tie as tie

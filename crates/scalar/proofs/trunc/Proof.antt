@@ -1,15 +1,15 @@
 -- `scalar::trunc` meets its contract: each way out is a lemma of `proofs/Truncation.antt`. Assumes nothing.
 use mathlib.Core.Path.{_≡_, refl, sym, ap, _∙_, subst}
-use mathlib.Core.Bool.{Bool, true, false}
+use mathlib.Core.Bool.{true, false}
 use lib.IntN.{ℤ, pos}
 use Prim.Native.Nat.{_^_, _<_}
 use native.Mathlib.Nat.{lt-trans}
-use lib.Dec.{T, lit<}
+use lib.Dec.{lit<}
 use lib.Signed.{mag}
 use mir.Syntax.{w32, w64}
 use mir.Val.{SFits, toZ, ofZ}
 use mir.Facts.{toZ-ofZ}
-use lib.Ieee.{Float, nan, fin, binary32, ofBits, neg, lt, le}
+use lib.Ieee.{Float, nan, fin, binary32, ofBits, neg}
 use Rattle.scalar.specs.Scalar.{truncOf}
 use Rattle.scalar.proofs.Nan.{differs}
 use Rattle.scalar.proofs.Truncation.{Inside, inside, from-top, under-bottom, trunc-fits}

@@ -1,0 +1,14 @@
+pub mod Far
+pub mod Magnitude
+pub mod Patterns
+pub mod Tangent
+pub mod Cubic
+pub mod Step
+pub mod Angles
+pub mod Angle
+pub mod Reduce
+pub mod AtanBits
+pub mod Cosine
+pub mod AsinBits
+pub mod AtanMost
+pub mod Within

@@ -1,0 +1,29 @@
+-- `circular::table::angle_sum` meets its contract.
+use mathlib.Core.Path.{_≡_, refl, sym, ap, ap₂, _∙_, subst}
+use Prim.Native.Nat.{ℕ, zero, suc, _+_, _-_, _*_, _/_, _%_, _^_, _<_, _≤_}
+use native.Mathlib.Omega.{arith}
+use native.Mathlib.Nat.{le-of-lt}
+use Rattle.circular.proofs.Angle.{cube-small}
+use Rattle.circular.specs.Atan.{angles, steep, cubeOf, angleOf, lowAngle, midAngle, highAngle, atanMag, atanBits}
+use Rattle.fixed.specs.Fixed.{digits}
+use borrow.Author.Needs.{needs}
+use Rattle.circular.proofs.table.angle_sum.Statement.{statement}
+use Rattle.circular.proofs.table.angle_sum.Tie as tie
+
+less : (r j q : ℕ) → r ≡ j → 4 * j ≤ q → r ≤ q
+less r j q e h = omega arith
+
+cube-requires : tie.Need-cube-requires
+cube-requires c κs = search needs
+
+sub-result : tie.Need-sub-result
+sub-result c = less (c .cube .result) (cubeOf (c .before .args .q)) (c .before .args .q) (c .cube .ensures) (cube-small (c .before .args .q) (le-of-lt (c .before .pre .1)))
+
+add-result : tie.Need-add-result
+add-result c = omega (arith, c .before .pre .0, c .before .pre .1)
+
+returns : tie.Need-returns
+returns c = ap (λ (x : ℕ). c .before .args .a + (c .before .args .q - x)) (c .cube .ensures)
+
+pub angle-sum-spec : {M : Type 1} → statement M
+angle-sum-spec = tie.close (tie.spec cube-requires sub-result add-result returns)

@@ -1,0 +1,34 @@
+-- `circular::table::cube` meets its contract.
+use mathlib.Core.Path.{_≡_, refl, sym, ap, ap₂, _∙_, subst}
+use Prim.Native.Nat.{ℕ, zero, suc, _+_, _-_, _*_, _/_, _%_, _^_, _<_, _≤_}
+use native.Mathlib.Omega.{arith}
+use native.Mathlib.Nat.{mul-div-mul-right}
+use lib.Pow.{pow-pos}
+use Rattle.circular.specs.Atan.{angles, steep, cubeOf, angleOf, lowAngle, midAngle, highAngle, atanMag, atanBits}
+use Rattle.fixed.specs.Fixed.{digits}
+use borrow.Author.Needs.{needs}
+use Rattle.circular.proofs.table.cube.Statement.{statement}
+use Rattle.circular.proofs.table.cube.Tie as tie
+
+square : (q : ℕ) → q * 256 * (q * 256) / 2 ^ 64 ≡ q * q / 2 ^ 48
+square q = ap (λ (y : ℕ). y / 2 ^ 64) (go q) ∙ mul-div-mul-right (q * q) (2 ^ 48) (pow-pos 16)
+  where
+    go : (q : ℕ) → q * 256 * (q * 256) ≡ q * q * 2 ^ 16
+    go q = omega arith
+
+mul-w : tie.Need-mul-w
+mul-w c = search needs
+
+high-product-requires : tie.Need-high-product-requires
+high-product-requires c κs = search needs
+
+high-product-requires-2 : tie.Need-high-product-requires-2
+high-product-requires-2 c κs = search needs
+
+returns : tie.Need-returns
+returns c =
+    let q = c .before .before .args .q in
+    ap (λ (x : ℕ). x / 3) (c .high-product2 .ensures ∙ ap (λ (x : ℕ). q * x / 2 ^ 64) (c .before .high-product .ensures ∙ square q))
+
+pub cube-spec : {M : Type 1} → statement M
+cube-spec = tie.close (tie.spec mul-w high-product-requires high-product-requires-2 returns)

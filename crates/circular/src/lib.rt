@@ -1,0 +1,80 @@
+// Sine, cosine, arc sine and arc tangent of an f32 by whole numbers: from the bit pattern of x to that of the answer, with no float operation between.
+// specs/ says what each gives for every f32; crate `exact_circular` proves that this is less than one unit in the last place from the exact value.
+ghost use mathlib.Core.Path.{_≡_};
+ghost use Rattle.circular.specs.SinCos.{sinOf, cosOf};
+ghost use Rattle.circular.specs.Asin.{asinOf};
+ghost use Rattle.circular.specs.Atan.{atanOf};
+ghost use Rattle.circular.specs.Answers.{sinAnswer, cosAnswer, answerNumber};
+
+pub mod arcsin;
+pub mod arctan;
+pub mod table;
+pub mod waves;
+
+use refusal::Refusal;
+
+// sine and cosine answer from -4 to 4, and at NaN
+pub enum Answer {
+    Value(f32),
+    Refused(Refusal),
+}
+
+// NaN outside -4 to 4
+pub fn sin(x: f32) -> f32
+    ensures { λ r. ⌜ r ≡ sinOf x ⌝ }
+{
+    scalar::number(waves::sin_bits(scalar::bits(x)))
+}
+
+pub fn cos(x: f32) -> f32
+    ensures { λ r. ⌜ r ≡ cosOf x ⌝ }
+{
+    scalar::number(waves::cos_bits(scalar::bits(x)))
+}
+
+// NaN outside -1 to 1
+pub fn asin(x: f32) -> f32
+    ensures { λ r. ⌜ r ≡ asinOf x ⌝ }
+{
+    scalar::number(arcsin::asin_bits(scalar::bits(x)))
+}
+
+pub fn atan(x: f32) -> f32
+    ensures { λ r. ⌜ r ≡ atanOf x ⌝ }
+{
+    scalar::number(arctan::atan_bits(scalar::bits(x)))
+}
+
+pub fn sin_or_refuse(x: f32) -> Answer
+    ensures { λ r. ⌜ r ≡ sinAnswer x ⌝ }
+{
+    if x < -4.0 {
+        return Answer::Refused(Refusal::Angle);
+    }
+    if x > 4.0 {
+        return Answer::Refused(Refusal::Angle);
+    }
+    Answer::Value(sin(x))
+}
+
+pub fn cos_or_refuse(x: f32) -> Answer
+    ensures { λ r. ⌜ r ≡ cosAnswer x ⌝ }
+{
+    if x < -4.0 {
+        return Answer::Refused(Refusal::Angle);
+    }
+    if x > 4.0 {
+        return Answer::Refused(Refusal::Angle);
+    }
+    Answer::Value(cos(x))
+}
+
+// 0 for a value, else the refusal's number
+pub fn answer_number(a: Answer) -> u32
+    ensures { λ n. ⌜ n ≡ answerNumber a ⌝ }
+{
+    match a {
+        Answer::Value(r) => 0,
+        Answer::Refused(r) => refusal::number(r),
+    }
+}

@@ -1,0 +1,4 @@
+pub mod ExpRange
+pub mod ExpCases
+pub mod LnRange
+pub mod LnCases

@@ -1,0 +1,54 @@
+-- The difference is at least 2 ^ 30 units.
+use mathlib.Core.Path.{_≡_, refl, sym, ap, ap₂, _∙_, subst, subst₂}
+use Prim.Native.Nat.{ℕ, zero, suc, _+_, _-_, _*_, _/_, _%_, _^_, _<_, _≤_}
+use native.Mathlib.Omega.{arith}
+use mir.Syntax.{w32, w64}
+use mir.Val.{Fits}
+use lib.Dec.{lit≤}
+use Rattle.fixed.specs.Fixed.{pattern}
+use Rattle.fixed.proofs.Round.{pattern-lt}
+use Rattle.exponential.specs.Tables.{ln2}
+use Rattle.exponential.specs.Ln.{restOf, below}
+use Rattle.exponential.proofs.LnRange.{rest-le}
+use borrow.Author.Needs.{needs}
+use Rattle.exponential.proofs.logarithm.below_bits.Statement.{statement}
+use Rattle.exponential.proofs.logarithm.below_bits.Tie as tie
+
+module _ (c : tie.After-rest) where
+  abbrev m : ℕ
+  m = c .before .args .m
+
+  abbrev e : ℕ
+  e = c .before .args .e
+
+  abbrev y : ℕ
+  y = c .rest .result
+
+  most : y + 2 ^ 30 ≤ ln2
+  most = subst (λ (x : ℕ). x + 2 ^ 30 ≤ ln2) (sym (c .rest .ensures)) (rest-le m (c .before .pre .0) (c .before .pre .1))
+
+small : (x p : ℕ) → x ≡ p → p < 255 * 2 ^ 23 → Fits w32 (2147483648 + x)
+small x p e h = omega arith
+
+rest-requires : tie.Need-rest-requires
+rest-requires c κs = search needs
+
+mul-pack : tie.Need-mul-pack
+mul-pack c = search needs
+
+sub-pack : tie.Need-sub-pack
+sub-pack c = omega (arith, most c)
+
+pack-requires : tie.Need-pack-requires
+pack-requires c κs = (omega (arith, most c), omega (arith, most c))
+
+add-result : tie.Need-add-result
+add-result c = small (c .pack .result) (pattern (e (c .before) * ln2 - y (c .before))) (c .pack .ensures) (pattern-lt (e (c .before) * ln2 - y (c .before)) (omega (arith, most (c .before))) (omega (arith, most (c .before))))
+
+returns : tie.Need-returns
+unfolding below
+returns c = ap (λ (x : ℕ). 2 ^ 31 + x) (c .pack .ensures ∙ ap (λ (x : ℕ). pattern (c .before .before .args .e * ln2 - x)) (c .before .rest .ensures))
+
+pub below-bits-spec : {M : Type 1} → statement M
+below-bits-spec =
+    tie.close (tie.spec rest-requires mul-pack sub-pack pack-requires add-result returns)

@@ -1,0 +1,11 @@
+use Rattle.profile.specs.Density.{parabolaOf}
+use mathlib.Core.Path.{refl}
+use Rattle.profile.proofs.density.parabola.Statement.{statement}
+use Rattle.profile.proofs.density.parabola.Tie as tie
+
+returns : tie.Need-returns
+unfolding parabolaOf
+returns c = refl
+
+pub parabola-spec : {M : Type 1} → statement M
+parabola-spec = tie.close (tie.spec returns)

@@ -1,0 +1,18 @@
+use Rattle.profile.specs.Density.{fndOf}
+use borrow.Author.Needs.{needs}
+use Rattle.profile.proofs.density.tail.Statement.{statement}
+use Rattle.profile.proofs.density.tail.Tie as tie
+
+returns : tie.Need-returns
+unfolding fndOf
+returns c = rw (c .if1 .taken)
+
+exp-requires : tie.Need-exp-requires
+exp-requires c κs = search needs
+
+returns-2 : tie.Need-returns-2
+unfolding fndOf
+returns-2 c = rw (c .before .before .before .if1 .left, ← c .exp .ensures)
+
+pub tail-spec : {M : Type 1} → statement M
+tail-spec = tie.close (tie.spec returns exp-requires returns-2)

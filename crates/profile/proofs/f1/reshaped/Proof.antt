@@ -1,0 +1,11 @@
+use Rattle.profile.specs.F1.{reshapedOf}
+use mathlib.Core.Path.{refl}
+use Rattle.profile.proofs.f1.reshaped.Statement.{statement}
+use Rattle.profile.proofs.f1.reshaped.Tie as tie
+
+returns : tie.Need-returns
+unfolding reshapedOf
+returns c = refl
+
+pub reshaped-spec : {M : Type 1} → statement M
+reshaped-spec = tie.close (tie.spec returns)

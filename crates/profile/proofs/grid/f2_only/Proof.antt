@@ -1,0 +1,14 @@
+use Rattle.profile.specs.Grid.{f2OnlyOf}
+use Rattle.profile.proofs.grid.f2_only.Statement.{statement}
+use Rattle.profile.proofs.grid.f2_only.Tie as tie
+
+returns : tie.Need-returns
+unfolding f2OnlyOf
+returns c = rw (c .if1 .taken)
+
+returns-2 : tie.Need-returns-2
+unfolding f2OnlyOf
+returns-2 c = rw (c .before .before .if1 .left)
+
+pub f2-only-spec : {M : Type 1} → statement M
+f2-only-spec = tie.close (tie.spec returns returns-2)

@@ -1,0 +1,6 @@
+pub mod Rising
+pub mod F1
+pub mod Grid
+pub mod Density
+pub mod Lecden
+pub mod Kept

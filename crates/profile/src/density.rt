@@ -1,0 +1,100 @@
+// The plasma frequency squared at a height: the largest of the five shapes, each 0 outside its own range.
+ghost use mathlib.Core.Path.{_≡_};
+ghost use Rattle.profile.specs.Density.{fnvalOf, parabolaOf, fneOf, fndOf, fn1Of, fn2Of, candidatesOf, largestOf, densityOf};
+use crate::Candidates;
+use crate::Curves;
+
+fn valley(c: Curves, h: f32) -> f32
+    ensures { λ r. ⌜ r ≡ fnvalOf c h ⌝ }
+{
+    if h - c.hlow > 0.0 {
+        if h - c.hup < 0.0 {
+            return c.fup + c.asp * (h - c.hup);
+        }
+    }
+    0.0
+}
+
+fn parabola(fc: f32, hi: f32, yi: f32, h: f32) -> f32
+    ensures { λ r. ⌜ r ≡ parabolaOf fc hi yi h ⌝ }
+{
+    let z = (h - hi) / yi;
+    fc * (1.0 - z * z)
+}
+
+fn e_layer(c: Curves, h: f32) -> f32
+    ensures { λ r. ⌜ r ≡ fneOf c h ⌝ }
+{
+    if h - c.hex >= 0.0 {
+        if h - c.hte <= 0.0 {
+            return parabola(c.fce, c.hi0, c.yi0, h);
+        }
+    }
+    0.0
+}
+
+fn tail(c: Curves, h: f32) -> f32
+    ensures { λ r. ⌜ r ≡ fndOf c h ⌝ }
+{
+    if h - c.hex >= 0.0 {
+        return 0.0;
+    }
+    c.fce * c.fsq * exponential::exp(c.alp * (h - 70.0))
+}
+
+fn f1_layer(c: Curves, h: f32) -> f32
+    ensures { λ r. ⌜ r ≡ fn1Of c h ⌝ }
+{
+    if c.fi1 > 0.0 {
+        if c.hb1 - h <= 0.0 {
+            if h - c.ht1 <= 0.0 {
+                if c.lin {
+                    return c.s1 * (h - (c.hi1 - c.yi1));
+                }
+                return parabola(c.fc1, c.hi1, c.yi1, h);
+            }
+        }
+    }
+    0.0
+}
+
+fn f2_layer(c: Curves, h: f32) -> f32
+    ensures { λ r. ⌜ r ≡ fn2Of c h ⌝ }
+{
+    if c.hb2v - h <= 0.0 {
+        return parabola(c.fc2, c.hi2, c.yi2, h);
+    }
+    0.0
+}
+
+fn candidates(c: Curves, h: f32) -> Candidates
+    ensures { λ r. ⌜ r ≡ candidatesOf c h ⌝ }
+{
+    let fnd = tail(c, h);
+    let fne = e_layer(c, h);
+    let fnval = valley(c, h);
+    let fn1 = f1_layer(c, h);
+    let fn2 = f2_layer(c, h);
+    Candidates {
+        fnd,
+        fne,
+        fnval,
+        fn1,
+        fn2,
+    }
+}
+
+fn largest(c: Candidates) -> f32
+    ensures { λ r. ⌜ r ≡ largestOf c ⌝ }
+{
+    scalar::max(
+        scalar::max(scalar::max(scalar::max(c.fnd, c.fne), c.fnval), c.fn1),
+        c.fn2,
+    )
+}
+
+pub fn density(c: Curves, h: f32) -> f32
+    ensures { λ r. ⌜ r ≡ densityOf c h ⌝ }
+{
+    largest(candidates(c, h))
+}

@@ -1,0 +1,77 @@
+//! `f2dis` and `curmuf`.
+
+use super::*;
+use crate::routed::side;
+use crate::{ours, predict, routing, states};
+
+pub fn f2dis(r: &mut Random) -> Call {
+    let mut deciles = states::deciles(r);
+    if r.once_in(25) {
+        deciles.resize(r.pick(&[0, 575, 577, 1000]), MARK);
+    }
+    let given = states::spread(r);
+    let (numbers, out) = (resized(r, &given), room(r, 1));
+    let wanted = long_enough(&[(&numbers, 5), (&out, 1)])
+        .and_then(|()| predict::f2dis(&deciles, &numbers))
+        .map(|()| vec![side::f2dis(&deciles, &numbers)]);
+    let lists = vec![("deciles", deciles.clone()), ("numbers", numbers.clone())];
+    answering(lists, all_floats, out, wanted, |out| {
+        ours::port_f2dis(&deciles, &numbers, out)
+    })
+}
+
+pub fn curmuf(r: &mut Random) -> Call {
+    let plain = r.once_in(3);
+    let state = if plain {
+        states::slots(r)
+    } else {
+        states::any(r)
+    };
+    let mut hour = states::hour(r);
+    hour.numbers = resized(r, &hour.numbers);
+    curmuf_call(resized(r, &state), hour, room(r, HOUR))
+}
+
+fn curmuf_call(given: Vec<u32>, hour: Hour, mut out: Vec<u32>) -> Call {
+    let wanted = long_enough(&[(&given, STATE), (&hour.numbers, 4), (&out, HOUR)])
+        .and_then(|()| rust_hour(&state_at(&given), &hour));
+    let before = out.clone();
+    let (mut state, mut es) = (given.clone(), hour.es.clone());
+    let answer = ours::port_curmuf(
+        &mut state,
+        &mut es,
+        &hour.deciles,
+        &hour.clat,
+        &hour.clck,
+        &hour.numbers,
+        &mut out,
+    );
+    let part = |which: fn(&Answered) -> &[u32]| wanted.as_ref().ok().map(which);
+    Call {
+        answer,
+        wanted: refusal(&wanted),
+        lent: vec![
+            Lent::new("hour", out, &before, part(|w| &w.2), hour_floats),
+            Lent::new("state", state, &given, part(|w| &w.0), state_floats),
+            Lent::new("es", es, &hour.es, part(|w| &w.1), all_floats),
+        ],
+        given: vec![
+            ("state", given),
+            ("es", hour.es),
+            ("deciles", hour.deciles),
+            ("clat", hour.clat),
+            ("clck", hour.clck),
+            ("numbers", hour.numbers),
+        ],
+    }
+}
+
+/// The routed Rust's hour: no angle of sin or cos may leave -4 to 4, since
+/// the MUF never refuses 13.
+fn rust_hour(state: &State, hour: &Hour) -> Result<Answered, u32> {
+    predict::curmuf(state, hour)?;
+    routing::take_outside();
+    let answered = side::curmuf(state, hour);
+    assert_eq!(routing::take_outside(), 0, "an angle outside -4 to 4");
+    Ok(answered)
+}

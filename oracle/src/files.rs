@@ -1,0 +1,207 @@
+//! Circuit files of every kind: valid, permuted, with rubbish off the chain,
+//! damaged, and random.
+
+use crate::circuit::{zeros, Circuit, DECILES, DECILE_RECORDS, POINT, RECORD};
+use crate::random::Random;
+use crate::{states, words};
+
+/// Any bits; now and then an edge.
+fn word(r: &mut Random) -> u32 {
+    if r.once_in(3) {
+        r.edge().to_bits()
+    } else {
+        r.word()
+    }
+}
+
+/// A circuit of arbitrary numbers.
+pub fn circuit(r: &mut Random) -> Circuit {
+    let km = 1 + r.below(5);
+    Circuit {
+        km: km as u32,
+        shape: r.below(2) as u32,
+        numbers: std::array::from_fn(|_| word(r)),
+        points: (0..km).map(|_| [(); POINT].map(|_| word(r))).collect(),
+        deciles: deciles(r),
+    }
+}
+
+/// All +0, all but one, or arbitrary.
+fn deciles(r: &mut Random) -> Vec<u32> {
+    let mut d = vec![0; DECILES];
+    match r.below(4) {
+        0 | 1 => {}
+        2 => d[r.below(DECILES)] = r.pick(&[0x8000_0000, 1, 0x7fc0_0001]),
+        _ => d = d.iter().map(|_| word(r)).collect(),
+    }
+    d
+}
+
+/// A file that holds the circuit, its chain in any order among rubbish.
+pub fn permuted(r: &mut Random, circuit: &Circuit) -> Vec<u8> {
+    let with_deciles = !zeros(&circuit.deciles) || r.once_in(4);
+    let deciles = if with_deciles { DECILE_RECORDS } else { 0 };
+    let chain = 1 + circuit.points.len() + deciles;
+    let room = 2.max(chain) + r.below(65 - chain);
+    let places = places(r, chain, room.min(64));
+    let mut file: Vec<u8> = (0..room.min(64) * RECORD).map(|_| r.word() as u8).collect();
+    for (n, at) in places.iter().enumerate() {
+        let next = places.get(n + 1).copied().unwrap_or(0);
+        file[at * RECORD..][..RECORD].copy_from_slice(&circuit.record(n, next));
+    }
+    file
+}
+
+/// Where each record of the chain goes: 0 first, then any distinct places.
+fn places(r: &mut Random, chain: usize, room: usize) -> Vec<usize> {
+    let mut free: Vec<usize> = (1..room).collect();
+    let mut places = vec![0];
+    while places.len() < chain {
+        let i = if r.once_in(2) { 0 } else { r.below(free.len()) };
+        places.push(free.remove(i));
+    }
+    places
+}
+
+/// Changes the file in one place.
+pub fn damage(r: &mut Random, file: &mut Vec<u8>) {
+    let records = file.len() / RECORD;
+    if records == 0 {
+        return;
+    }
+    let at = RECORD * r.below(records);
+    match r.below(8) {
+        0 => file[at + r.below(RECORD)] = r.word() as u8,
+        1 => file[at + 2] = r.below(records + 2) as u8,
+        2 => file[at + 2..at + 4].fill(0),
+        3 => file[at + 3] ^= 1 << r.below(8),
+        4 => file[at] = r.below(5) as u8,
+        5 => file[at + 1] ^= 1 << r.below(8),
+        6 => file[4 + r.below(4)] = r.below(8) as u8,
+        _ => resize(r, file),
+    }
+}
+
+/// Another length: whole records more or less, or odd ones.
+fn resize(r: &mut Random, file: &mut Vec<u8>) {
+    let records = r.below(67) * RECORD;
+    let length = match r.below(4) {
+        0 => records,
+        1 => records + r.below(RECORD),
+        2 => file.len().saturating_sub(RECORD),
+        _ => r.pick(&[0, 63, 64, 65, 127, 128, 129, 4095, 4096, 4097, 4160]),
+    };
+    file.resize(length, 0);
+}
+
+/// Few records of plausible kinds and next indices: chains of every shape.
+pub fn tangle(r: &mut Random) -> Vec<u8> {
+    let most = r.pick(&[5, 8, 63]);
+    let records = 2 + r.below(most);
+    let km = 1 + r.below(5);
+    let mut file = vec![0; records * RECORD];
+    for n in 0..records {
+        let at = n * RECORD;
+        let usual = if n == 0 { 1 } else { 2 + u8::from(n > km) };
+        file[at] = if r.once_in(12) {
+            r.below(5) as u8
+        } else {
+            usual
+        };
+        let straight = (n + 1) % records;
+        file[at + 2] = if r.once_in(6) {
+            r.below(records + 1)
+        } else {
+            straight
+        } as u8;
+        if r.once_in(40) {
+            file[at + 52 + r.below(12)] = 1;
+        }
+    }
+    file[4] = km as u8;
+    file[5] = r.below(2) as u8;
+    file
+}
+
+/// A file of some class.
+pub fn any(r: &mut Random) -> Vec<u8> {
+    let circuit = circuit(r);
+    match r.below(10) {
+        0 => circuit.written(),
+        1 | 2 => permuted(r, &circuit),
+        3 => {
+            let length = r.below(4200);
+            (0..length).map(|_| r.word() as u8).collect()
+        }
+        4 | 5 => tangle(r),
+        _ => {
+            let mut file = if r.once_in(2) {
+                circuit.written()
+            } else {
+                permuted(r, &circuit)
+            };
+            for _ in 0..1 + r.below(3) {
+                damage(r, &mut file);
+            }
+            file
+        }
+    }
+}
+
+/// A circuit whose numbers are those of an hour: realistic, now and then with
+/// wild ones among them.
+pub fn hour_circuit(r: &mut Random) -> Circuit {
+    let km = 1 + r.below(5);
+    let mut circuit = Circuit {
+        km: km as u32,
+        shape: r.below(2) as u32,
+        numbers: states::any_path(r).map(f32::to_bits),
+        points: (0..km).map(|_| point(r)).collect(),
+        deciles: states::deciles(r),
+    };
+    if r.once_in(3) {
+        let k = r.below(km);
+        states::spoil(r, &mut circuit.points[k]);
+    }
+    circuit
+}
+
+fn point(r: &mut Random) -> [u32; POINT] {
+    let [layers, es] = [states::point(r).to_vec(), states::es_row(r).to_vec()];
+    let place = vec![states::latitude(r), states::clock(r)];
+    words::bits(&[layers, es, place].concat())
+        .try_into()
+        .unwrap()
+}
+
+/// A file for `sheet`: mostly a whole hour.
+pub fn any_hour(r: &mut Random) -> Vec<u8> {
+    let circuit = hour_circuit(r);
+    match r.below(8) {
+        0 => any(r),
+        1 => {
+            let mut file = circuit.written();
+            damage(r, &mut file);
+            file
+        }
+        2 | 3 => permuted(r, &circuit),
+        _ => circuit.written(),
+    }
+}
+
+#[cfg(test)]
+mod tests {
+    use super::*;
+    use crate::circuit::read;
+
+    #[test]
+    fn a_permuted_file_holds_its_circuit() {
+        let mut r = Random::new(7);
+        for _ in 0..2000 {
+            let circuit = circuit(&mut r);
+            let file = permuted(&mut r, &circuit);
+            assert_eq!(read(&file).unwrap().0, circuit);
+            assert_eq!(read(&circuit.written()).unwrap().0, circuit);
+        }
+    }
+}

@@ -1,0 +1,130 @@
+//! The paper's refusals, worked out without our code.
+
+use crate::routed::muf::reach;
+use crate::routed::side;
+use crate::routing;
+use crate::words::*;
+
+/// Slot and layer numbers: 0 to 2.
+pub fn slot(numbers: &[u32]) -> Result<(), u32> {
+    if numbers.iter().all(|n| *n <= 2) {
+        Ok(())
+    } else {
+        Err(6)
+    }
+}
+
+/// Reflectrix cells.
+pub fn cells(nang: u32, lent: usize) -> Result<(), u32> {
+    if nang <= 40 && lent >= CELLS * nang as usize {
+        Ok(())
+    } else {
+        Err(8)
+    }
+}
+
+/// `sang`'s distance.
+pub fn sang(gcdkm: f32) -> Result<(), u32> {
+    if (gcdkm / 2000.0 + 1.0) as i32 >= 1 {
+        Ok(())
+    } else {
+        Err(7)
+    }
+}
+
+/// The domain of the MUF.
+fn domain(numbers: &[u32]) -> Result<(), u32> {
+    let n = crate::words::numbers(numbers);
+    let (gcd, gcdkm, amind) = (n[0], n[1], n[2]);
+    let within = (0.0..=40100.0).contains(&gcdkm) && (0.0..=6.3).contains(&gcd);
+    // NaN amind counts as 0, so is not too steep.
+    let too_steep = amind > 90.0;
+    if within && !too_steep {
+        Ok(())
+    } else {
+        Err(9)
+    }
+}
+
+fn decile_count(deciles: &[u32]) -> Result<(), u32> {
+    if deciles.len() == DECILES {
+        Ok(())
+    } else {
+        Err(10)
+    }
+}
+
+fn time_block(deciles: &[u32], clck: u32) -> Result<(), u32> {
+    let none = f32::from_bits(deciles[0]) <= 0.0;
+    let block = (f32::from_bits(clck) / 4.0 + 1.55) as i32;
+    if none || block >= 1 {
+        Ok(())
+    } else {
+        Err(12)
+    }
+}
+
+/// `f2dis`, whose last number is the local time.
+pub fn f2dis(deciles: &[u32], numbers: &[u32]) -> Result<(), u32> {
+    decile_count(deciles)?;
+    time_block(deciles, numbers[4])
+}
+
+fn hops(counts: &[i32]) -> Result<(), u32> {
+    if counts.iter().all(|n| (0..=999).contains(n)) {
+        Ok(())
+    } else {
+        Err(11)
+    }
+}
+
+/// The controlling slot and the hop counts of the routed Rust, run with lists
+/// that it can't trip over.
+fn controlling(state: &State, call: &Hour) -> (usize, Vec<i32>) {
+    let safe = Hour {
+        deciles: vec![0; DECILES],
+        clat: vec![0; 3],
+        clck: vec![0; 3],
+        ..call.clone()
+    };
+    routing::take_hops();
+    let (_, _, hour) = side::curmuf(state, &safe);
+    (hour[KS] as usize, routing::take_hops())
+}
+
+/// The slot that a circuit MUF picks: none where it is refused 9, or 10 for
+/// its deciles.
+pub fn picks(state: &State, call: &Hour) -> Option<usize> {
+    let picks = domain(&call.numbers).and_then(|()| decile_count(&call.deciles));
+    picks.ok().map(|()| controlling(state, call).0)
+}
+
+/// The circuit MUF's, in the paper's order: 9, 10, E hops, F2 hops, deciles,
+/// F1 hops, Es hops by point.
+pub fn curmuf(state: &State, call: &Hour) -> Result<(), u32> {
+    domain(&call.numbers)?;
+    decile_count(&call.deciles)?;
+    let (slot, counts) = controlling(state, call);
+    let (_, Some(clck)) = call.clat.get(slot).zip(call.clck.get(slot)).unzip() else {
+        return Err(10);
+    };
+    hops(&counts[..2])?;
+    time_block(&call.deciles, *clck)?;
+    hops(&counts[2..])
+}
+
+/// The cursor that the walk hands up: how many of the upper 49 heights are at
+/// or below the height of the last read; 0 where no walk ran.
+pub fn cursor(state: &State, fxx: f32) -> u32 {
+    let (htr, fnsq) = (heights(state), densities(state));
+    let fr = fxx * fxx;
+    if fr - fnsq[0] <= 0.0 || !rises(state) {
+        return 0;
+    }
+    let ht = reach::profile_interpolate(&fnsq, &htr, fr) - htr[0];
+    // The last node read, on the side that is higher up.
+    let node = reach::NODES[19];
+    let part = if ht >= 0.0 { 1.0 - node } else { 1.0 + node };
+    let read = ht * (1.0 - 0.5 * part) + htr[0];
+    htr[1..].iter().filter(|h| **h <= read).count() as u32
+}

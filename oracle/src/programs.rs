@@ -1,0 +1,120 @@
+//! What the programs `chain` and `sheet` print for a file, from the paper and
+//! the routed Rust.
+
+use crate::circuit::{self, Circuit};
+use crate::float;
+use crate::predict;
+use crate::routed::side;
+use crate::words::*;
+
+/// A refused file gives only its number.
+fn or_refused(text: Result<String, u32>) -> String {
+    text.unwrap_or_else(|number| format!("refused {number}\n"))
+}
+
+/// Record, kind and next index for each step, then the count.
+pub fn chain(file: &[u8]) -> String {
+    or_refused(circuit::read(file).map(|(_, steps)| {
+        let lines = steps
+            .iter()
+            .map(|s| format!("{} {} {}\n", s.record, s.kind, s.next));
+        lines.collect::<String>() + &format!("end {}\n", steps.len())
+    }))
+}
+
+/// The circuit MUF and the rows of each slot.
+pub fn sheet(file: &[u8]) -> String {
+    or_refused(circuit::read(file).and_then(|(circuit, _)| sheet_of(&circuit)))
+}
+
+fn sheet_of(circuit: &Circuit) -> Result<String, u32> {
+    let [_, gcdkm, amind, _] = circuit.numbers.map(f32::from_bits);
+    predict::sang(gcdkm)?;
+    let (state, call) = (slots(circuit), hour(circuit));
+    predict::curmuf(&state, &call)?;
+    let (_, _, hour) = side::curmuf(&state, &call);
+    let nang = side::sang(gcdkm, amind) as usize;
+    let mut text = muf_lines(&hour);
+    for k in 0..state[KFX] as usize {
+        let (_, rows, _) = side::sheet(&state, k, nang, &hour[KS + 1..]);
+        text += &slot_lines(k, &rows);
+    }
+    Ok(text)
+}
+
+/// The slots as `ionset` leaves them.
+pub fn slots(circuit: &Circuit) -> State {
+    let layers = |p: &[u32; circuit::POINT]| p[..POINT].to_vec();
+    let points: Vec<u32> = circuit.points.iter().flat_map(layers).collect();
+    let mut state = side::from_layers(&points);
+    state[IEDP] = if circuit.shape == 0 { -1i32 } else { 0 } as u32;
+    side::ionset(&state)
+}
+
+/// The circuit MUF's arguments.
+pub fn hour(circuit: &Circuit) -> Hour {
+    let points = &circuit.points;
+    Hour {
+        es: points.iter().flat_map(|p| p[9..13].to_vec()).collect(),
+        deciles: circuit.deciles.clone(),
+        clat: points.iter().map(|p| p[13]).collect(),
+        clck: points.iter().map(|p| p[14]).collect(),
+        numbers: circuit.numbers.to_vec(),
+    }
+}
+
+/// Eight digits; every NaN alike.
+fn digits(word: u32) -> String {
+    let word = if float::is_nan(word) {
+        float::NAN
+    } else {
+        word
+    };
+    format!("{word:08x}")
+}
+
+fn muf_lines(hour: &[u32]) -> String {
+    let mufs: Vec<String> = hour[..5].iter().map(|w| digits(*w)).collect();
+    let (mode, slot) = (hour[MODMUF], hour[KS]);
+    let call = call_field(f32::from_bits(hour[4]));
+    format!("muf {} {mode} {slot}\ncall {call}\n", mufs.join(" "))
+}
+
+/// Cut, not rounded, to one decimal; ten times an f32 is exact in an f64.
+fn call_field(muf: f32) -> String {
+    if (0.0..1000.0).contains(&muf) {
+        let tenths = (f64::from(muf) * 10.0) as u32;
+        format!("{}.{}", tenths / 10, tenths % 10)
+    } else {
+        "-".to_string()
+    }
+}
+
+/// fvert, htrue, hprim, afac of each row.
+fn slot_lines(k: usize, rows: &[u32]) -> String {
+    let line = |i: usize| {
+        let fields = [0, 60, 30, 90].map(|column| digits(rows[column + i]));
+        format!("{} {}\n", i + 1, fields.join(" "))
+    };
+    format!("slot {k}\n") + &(0..30).map(line).collect::<String>()
+}
+
+#[cfg(test)]
+mod tests {
+    use super::*;
+
+    #[test]
+    fn the_papers_chain() {
+        let mut file = vec![0; 128];
+        (file[0], file[2], file[4], file[64]) = (1, 1, 1, 2);
+        assert_eq!(chain(&file), "0 1 1\n1 2 0\nend 2\n");
+        file[2] = 2;
+        assert_eq!(chain(&file), "refused 3\n");
+    }
+
+    #[test]
+    fn the_call_field_is_cut() {
+        let fields = [0.7, -0.0, 12.96, 1000.0, -1e-30, 999.99994].map(call_field);
+        assert_eq!(fields, ["0.6", "0.0", "12.9", "-", "-", "999.9"]);
+    }
+}
