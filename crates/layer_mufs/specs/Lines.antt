@@ -16,7 +16,8 @@ use Rattle.hops.specs.Rounds.{roundsOf}
 use Rattle.hops.specs.declared.Geometry.{Geometry}
 use Rattle.hops.specs.declared.HopGeometry.{HopGeometry}
 use Rattle.hops.specs.declared.Round.{Round}
-use Rattle.heights.specs.Gethp.{gethpOf, bendyOf, penOf}
+use Rattle.heights.specs.Bendy.{bendyOf, penOf}
+use Rattle.heights.specs.Gethp.{gethpOf}
 use Rattle.layers.specs.declared.IonoState.{IonoState}
 use Rattle.layers.specs.declared.LayerMuf.{LayerMuf}
 use Rattle.profile.specs.declared.Slot.{Slot}
