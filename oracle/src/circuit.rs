@@ -49,7 +49,7 @@ fn zero(bytes: &[u8]) -> bool {
 
 /// The circuit and its chain, or the refusal's number.
 pub fn read(file: &[u8]) -> Result<(Circuit, Vec<Step>), u32> {
-    if file.len() % RECORD != 0 || !(128..=4096).contains(&file.len()) {
+    if !file.len().is_multiple_of(RECORD) || !(128..=4096).contains(&file.len()) {
         return Err(1);
     }
     let records: Vec<&[u8]> = file.chunks_exact(RECORD).collect();

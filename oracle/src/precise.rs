@@ -2,6 +2,8 @@
 //! their sum, with power series. They check the f64 library functions that
 //! the exhaustive runs are measured against.
 
+use std::f64::consts;
+
 /// The sum of two f64, the second below half a place of the first.
 #[derive(Clone, Copy, Debug)]
 pub struct Pair(pub f64, pub f64);
@@ -10,12 +12,12 @@ const ZERO: Pair = Pair(0.0, 0.0);
 const ONE: Pair = Pair(1.0, 0.0);
 /// ln 2 and half of pi, each in three parts.
 const LN2: [f64; 3] = [
-    0.693_147_180_559_945_3,
+    consts::LN_2,
     2.319_046_813_846_299_6e-17,
     5.707_708_438_416_212e-34,
 ];
 const HALF_PI: [f64; 3] = [
-    1.570_796_326_794_896_6,
+    consts::FRAC_PI_2,
     6.123_233_995_736_766e-17,
     -1.497_384_904_859_169_8e-33,
 ];

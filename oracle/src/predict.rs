@@ -37,8 +37,9 @@ fn domain(numbers: &[u32]) -> Result<(), u32> {
     let n = crate::words::numbers(numbers);
     let (gcd, gcdkm, amind) = (n[0], n[1], n[2]);
     let within = (0.0..=40100.0).contains(&gcdkm) && (0.0..=6.3).contains(&gcd);
-    // NaN amind counts as 0.
-    if within && !(amind > 90.0) {
+    // NaN amind counts as 0, so is not too steep.
+    let too_steep = amind > 90.0;
+    if within && !too_steep {
         Ok(())
     } else {
         Err(9)
@@ -77,12 +78,9 @@ fn hops(counts: &[i32]) -> Result<(), u32> {
     }
 }
 
-/// The circuit MUF's, in the paper's order: 9, 10, E hops, F2 hops, deciles,
-/// F1 hops, Es hops by point. The controlling slot and the hop counts are
-/// those of the routed Rust, run once with lists that it can't trip over.
-pub fn curmuf(state: &State, call: &Hour) -> Result<(), u32> {
-    domain(&call.numbers)?;
-    decile_count(&call.deciles)?;
+/// The controlling slot and the hop counts of the routed Rust, run with lists
+/// that it can't trip over.
+fn controlling(state: &State, call: &Hour) -> (usize, Vec<i32>) {
     let safe = Hour {
         deciles: vec![0; DECILES],
         clat: vec![0; 3],
@@ -91,8 +89,22 @@ pub fn curmuf(state: &State, call: &Hour) -> Result<(), u32> {
     };
     routing::take_hops();
     let (_, _, hour) = side::curmuf(state, &safe);
-    let counts = routing::take_hops();
-    let slot = hour[KS] as usize;
+    (hour[KS] as usize, routing::take_hops())
+}
+
+/// The slot that a circuit MUF picks: none where it is refused 9, or 10 for
+/// its deciles.
+pub fn picks(state: &State, call: &Hour) -> Option<usize> {
+    let picks = domain(&call.numbers).and_then(|()| decile_count(&call.deciles));
+    picks.ok().map(|()| controlling(state, call).0)
+}
+
+/// The circuit MUF's, in the paper's order: 9, 10, E hops, F2 hops, deciles,
+/// F1 hops, Es hops by point.
+pub fn curmuf(state: &State, call: &Hour) -> Result<(), u32> {
+    domain(&call.numbers)?;
+    decile_count(&call.deciles)?;
+    let (slot, counts) = controlling(state, call);
     let (_, Some(clck)) = call.clat.get(slot).zip(call.clck.get(slot)).unzip() else {
         return Err(10);
     };

@@ -40,7 +40,7 @@ impl Random {
         Random(seed)
     }
 
-    pub fn next(&mut self) -> u64 {
+    fn draw(&mut self) -> u64 {
         self.0 = self.0.wrapping_add(0x9e37_79b9_7f4a_7c15);
         let z = (self.0 ^ (self.0 >> 30)).wrapping_mul(0xbf58_476d_1ce4_e5b9);
         let z = (z ^ (z >> 27)).wrapping_mul(0x94d0_49bb_1331_11eb);
@@ -48,12 +48,12 @@ impl Random {
     }
 
     pub fn word(&mut self) -> u32 {
-        (self.next() >> 32) as u32
+        (self.draw() >> 32) as u32
     }
 
     /// 0 to n-1.
     pub fn below(&mut self, n: usize) -> usize {
-        ((u128::from(self.next()) * n as u128) >> 64) as usize
+        ((u128::from(self.draw()) * n as u128) >> 64) as usize
     }
 
     /// True once in n.
@@ -67,7 +67,7 @@ impl Random {
 
     /// Evenly between two numbers.
     pub fn between(&mut self, low: f32, high: f32) -> f32 {
-        let part = (self.next() >> 40) as f32 / (1u32 << 24) as f32;
+        let part = (self.draw() >> 40) as f32 / (1u32 << 24) as f32;
         low + (high - low) * part
     }
 

@@ -1,5 +1,6 @@
 //! Counting what was compared.
 
+use std::hint::black_box;
 use std::time::Instant;
 
 /// How a comparison ended.
@@ -75,6 +76,18 @@ impl Tally {
             Verdict::Differs
         }
     }
+}
+
+/// Nanoseconds of one call on these numbers: the best of many rounds.
+pub fn nanoseconds(numbers: &[f32], f: impl Fn(f32) -> f32) -> f64 {
+    let round = || {
+        let started = Instant::now();
+        for x in numbers {
+            black_box(f(black_box(*x)));
+        }
+        started.elapsed().as_secs_f64() * 1e9 / numbers.len() as f64
+    };
+    (0..1000).map(|_| round()).fold(f64::MAX, f64::min)
 }
 
 /// Words as eight hexadecimal digits each.

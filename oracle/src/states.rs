@@ -221,20 +221,32 @@ fn densities_of(r: &mut Random, heights: &[f32; 50]) -> [f32; 50] {
         4 => std::array::from_fn(|i| (heights[i] - heights[0]) * 0.1),
         _ => [(); 50].map(|_| r.wild()),
     };
-    if r.once_in(3) {
-        disorder(r, &mut d);
+    match r.below(6) {
+        0 | 1 => disorder(r, &mut d),
+        2 => gap(r, &mut d),
+        _ => {}
     }
     d
 }
 
+/// A NaN, which the search passes over, then a slow rise: there it may answer
+/// below the lowest height.
+fn gap(r: &mut Random, d: &mut [f32; 50]) {
+    let i = if r.once_in(2) { 1 } else { 1 + r.below(12) };
+    d[i] = f32::NAN;
+    d[i + 2] = d[i + 1] * r.between(1.0, 1.2);
+}
+
 /// A frequency to read heights at: of the profile, beside it, or any.
 pub fn frequency(r: &mut Random, state: &State) -> f32 {
-    let some = f32::from_bits(state[FNSQ + r.below(50)]).abs().sqrt();
-    match r.below(6) {
+    let root = |i: usize| f32::from_bits(state[FNSQ + i]).abs().sqrt();
+    let some = root(r.below(50));
+    match r.below(7) {
         0 => some,
         1 => r.beside(some, 2),
         2 => some * r.between(0.5, 1.5),
         3 => r.wild(),
+        4 => root(0) * r.between(1.0, 1.3),
         _ => r.between(0.0, 18.0),
     }
 }
@@ -254,7 +266,7 @@ fn edge_path(r: &mut Random) -> [f32; 4] {
         gcdkm = r.beside(edge, 2);
     }
     if r.once_in(3) {
-        let edge = r.pick(&[0.0, 6.3, 3.141_592_7, 1e-20]);
+        let edge = r.pick(&[0.0, 6.3, std::f32::consts::PI, 1e-20]);
         gcd = r.beside(edge, 2);
     }
     if r.once_in(2) {

@@ -45,7 +45,7 @@ cube-low q =
     go : (q p r j : ℕ) → q * (p * 2 ^ 48) ≤ q * (q * q) → r * 2 ^ 64 ≤ q * p → j * 3 ≤ r → 3 * (2 ^ 56 * 2 ^ 56) * j ≤ q * q * q
     go q p r j a b c = omega arith
 
-cube-high : (q : ℕ) → q ≤ 2 ^ 64 → q * q * q ≤ 3 * (2 ^ 56 * 2 ^ 56) * (cubeOf q + 2)
+pub cube-high : (q : ℕ) → q ≤ 2 ^ 64 → q * q * q ≤ 3 * (2 ^ 56 * 2 ^ 56) * (cubeOf q + 2)
 cube-high q h =
     let p = q * q / 2 ^ 48 in
     let r = q * p / 2 ^ 64 in

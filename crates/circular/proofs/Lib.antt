@@ -8,3 +8,7 @@ pub mod Angles
 pub mod Angle
 pub mod Reduce
 pub mod AtanBits
+pub mod Cosine
+pub mod AsinBits
+pub mod AtanMost
+pub mod Within

@@ -37,141 +37,190 @@ low-reduced q l h =
       way = inl refl;
     }
 
--- ---- from 2 ^ -7 to 1
-module _ (X : ℕ) (l : 2 ^ 23 ≤ X) (h : X ≤ 2 ^ 30) where
+-- ---- a tangent n / c up to 1, and the margin d
+module _ (n c d : ℕ) (top : n ≤ c) (pos : 0 < d) (fine : d * 2 ^ 8 ≤ c) (coarse : c ≤ d * 2 ^ 10) (least : c ≤ n * 2 ^ 12) where
   abbrev i : ℕ
-  i = (X - 2 ^ 13) / 2 ^ 23
+  i = (2 ^ 7 * n - d) / c
 
   abbrev R : ℕ
-  R = 2 ^ 7 * (X - i * 2 ^ 23)
+  R = 2 ^ 7 * n - i * c
 
   abbrev P : ℕ
-  P = 2 ^ 37 + X * i
+  P = 2 ^ 7 * c + i * n
 
   abbrev q : ℕ
   q = R * 2 ^ 56 / P
 
-  pub i-lt : i < 128
-  i-lt = omega arith
+  c-pos : 0 < c
+  c-pos = omega arith
 
-  pub X-i : X * i ≤ 127 * 2 ^ 30
-  X-i = le-trans (mul-le-mul h (le-of-lt-suc i i-lt)) (lit≤ tt)
+  pub d-le : d ≤ 2 ^ 7 * n
+  d-le = omega arith
+
+  i-low : i * c ≤ 2 ^ 7 * n - d
+  i-low = div-mul-le-self (2 ^ 7 * n - d) c
+
+  i-high : 2 ^ 7 * n - d < i * c + c
+  i-high = lt-div-mul-add c-pos
+
+  pub i-lt : i < 128
+  i-lt = split i 128 (λ l. l) (λ l. absurd (go i l i-low (mul-le-mul-right c l)))
     where
-      le-of-lt-suc : (i : ℕ) → i < 128 → i ≤ 127
-      le-of-lt-suc i h = omega arith
+      go : (i : ℕ) → 128 ≤ i → i * c ≤ 2 ^ 7 * n - d → 128 * c ≤ i * c → ⊥
+      go i l a b = let e = d-le in omega arith
+
+  pub i-n : i * n ≤ 127 * c
+  i-n = mul-le-mul (go i i-lt) top
+    where
+      go : (i : ℕ) → i < 128 → i ≤ 127
+      go i h = omega arith
+
+  pub R-is : R + i * c ≡ 2 ^ 7 * n
+  R-is = go (i * c) i-low
+    where
+      go : (y : ℕ) → y ≤ 2 ^ 7 * n - d → 2 ^ 7 * n - y + y ≡ 2 ^ 7 * n
+      go y h = omega arith
+
+  pub R-least : d ≤ R
+  R-least = go (i * c) R i-low R-is
+    where
+      go : (y R : ℕ) → y ≤ 2 ^ 7 * n - d → R + y ≡ 2 ^ 7 * n → d ≤ R
+      go y R h e = let k = d-le in omega arith
+
+  pub R-most : R ≤ d + c
+  R-most = go (i * c) R i-high R-is
+    where
+      go : (y R : ℕ) → 2 ^ 7 * n - d < y + c → R + y ≡ 2 ^ 7 * n → R ≤ d + c
+      go y R h e = omega arith
 
   q-P : q * P ≤ R * 2 ^ 56
   q-P = div-mul-le-self (R * 2 ^ 56) P
 
+  P-pos : 0 < P
+  P-pos = go (i * n) c-pos
+    where
+      go : (y : ℕ) → 0 < c → 0 < 2 ^ 7 * c + y
+      go y h = omega arith
+
   P-q : R * 2 ^ 56 ≤ (q + 1) * P
-  P-q = div-high (R * 2 ^ 56) P (omega arith)
+  P-q = div-high (R * 2 ^ 56) P P-pos
 
   pub q-most : q ≤ 2 ^ 49 + 2 ^ 41
-  q-most = go q R (X * i) q-P (mul-le-mul-left q (omega arith)) (omega arith)
+  q-most = le-of-mul-le-mul-right {k = c} (go q R (i * n) q-P R-most) c-pos
     where
-      go : (q R y : ℕ) → q * (2 ^ 37 + y) ≤ R * 2 ^ 56 → q * 2 ^ 37 ≤ q * (2 ^ 37 + y) → R ≤ 2 ^ 30 + 2 ^ 20 → q ≤ 2 ^ 49 + 2 ^ 41
-      go q R y a b c = omega (arith, a, b, c)
+      go : (q R y : ℕ) → q * (2 ^ 7 * c + y) ≤ R * 2 ^ 56 → R ≤ d + c → q * c ≤ (2 ^ 49 + 2 ^ 41) * c
+      go q R y a b = omega (arith, a, b)
 
   q-least : 2 ^ 38 ≤ q
-  q-least = go q R (X * i) P-q (mul-le-mul-left (q + 1) X-i) (omega arith)
+  q-least = go q R (i * n) P-q (mul-le-mul-left (q + 1) i-n) R-least (mul-le-mul-left (q + 1) coarse)
     where
-      go : (q R y : ℕ) → R * 2 ^ 56 ≤ (q + 1) * (2 ^ 37 + y) → (q + 1) * y ≤ (q + 1) * (127 * 2 ^ 30) → 2 ^ 20 ≤ R → 2 ^ 38 ≤ q
-      go q R y a b c = omega (arith, a, b, c)
+      go : (q R y : ℕ) → R * 2 ^ 56 ≤ (q + 1) * (2 ^ 7 * c + y) → (q + 1) * y ≤ (q + 1) * (127 * c) → d ≤ R → (q + 1) * c ≤ (q + 1) * (d * 2 ^ 10) → 2 ^ 38 ≤ q
+      go q R y a b r f = le-of-mul-le-mul-right {k = d} (final q (omega (arith, a, b, r, f))) pos
+        where
+          final : (q : ℕ) → d * 2 ^ 56 ≤ (q + 1) * d * (255 * 2 ^ 10) → 2 ^ 38 * d ≤ q * d
+          final q h = omega (arith, h)
 
   pub E : Entry 128 i (getD angles i 0)
   E = entry 128 i (getD angles i 0) (angle i i-lt)
 
   q-large : 2 ^ 43 ≤ getD angles i 0 + q
-  q-large = split i 1 (λ k. at-zero (getD angles i 0) q R (X * i) P-q (R-large k) (mul-le-mul-left X (none k))) (λ k. later i (getD angles i 0) q k (E .least))
+  q-large = split i 1 (λ k. at-zero (getD angles i 0) i q k P-q) (λ k. later i (getD angles i 0) q k (E .least))
     where
-      none : i < 1 → i ≤ 0
-      none k = omega arith
+      at-zero : (A i q : ℕ) → i < 1 → (2 ^ 7 * n - i * c) * 2 ^ 56 ≤ (q + 1) * (2 ^ 7 * c + i * n) → 2 ^ 43 ≤ A + q
+      at-zero A zero q k h = le-trans (le-of-mul-le-mul-right {k = c} (go (mul-le-mul-left (q + 1) least)) c-pos) (up A q)
+        where
+          go : (q + 1) * c ≤ (q + 1) * (n * 2 ^ 12) → 2 ^ 43 * c ≤ q * c
+          go a = omega (arith, h, least)
 
-      R-large : i < 1 → 2 ^ 30 ≤ R
-      R-large k = omega arith
-
-      at-zero : (A q R y : ℕ) → R * 2 ^ 56 ≤ (q + 1) * (2 ^ 37 + y) → 2 ^ 30 ≤ R → y ≤ X * 0 → 2 ^ 43 ≤ A + q
-      at-zero A q R y a b c = let z : (q + 1) * y ≤ (q + 1) * (X * 0) = mul-le-mul-left (q + 1) c in omega (arith, a, b, z)
+          up : (A q : ℕ) → q ≤ A + q
+          up A q = omega arith
+      at-zero A (suc i) q k h = absurd (no i k)
+        where
+          no : (i : ℕ) → suc i < 1 → ⊥
+          no i l = omega arith
 
       later : (i A q : ℕ) → 1 ≤ i → i * 2 ^ 48 ≤ A → 2 ^ 43 ≤ A + q
       later i A q a b = omega arith
 
-  P-is : P ≡ 128 * 2 ^ 30 + i * X
-  P-is = omega arith
-
-  pub mid-reduced : Reduced X (2 ^ 30) (getD angles i 0) q
-  mid-reduced =
+  pub gentle-reduced : Reduced n c (getD angles i 0) q
+  gentle-reduced =
       record {
         x₀ = 128;
         y₀ = i;
         R = R;
         entry = E;
-        eR = omega arith;
-        far = omega arith;
-        q-low = subst (λ (y : ℕ). q * y ≤ R * 2 ^ 56) P-is q-P;
-        q-high = subst (λ (y : ℕ). R * 2 ^ 56 ≤ (q + 1) * y) P-is P-q;
+        eR = R-is;
+        far = far (i * n);
+        q-low = q-P;
+        q-high = P-q;
         most = q-most;
         large = q-large;
         way = inr q-least;
       }
+    where
+      far : (y : ℕ) → 64 * (c + n) ≤ 128 * c + y
+      far y = omega arith
 
--- ---- from 1 to 2 ^ 26: x = 4 m / e
-module _ (m e : ℕ) (l : 2 ^ 23 ≤ m) (h : m ≤ 2 ^ 24) (one : 1 ≤ e) (top : e ≤ 2 ^ 25) where
+-- ---- a tangent n / c from 1 up
+module _ (n c d : ℕ) (top : c ≤ n) (pos : 0 < d) (fine : d * 2 ^ 8 ≤ n) (coarse : 129 * (c + n) ≤ d * (2 ^ 18 - 2 ^ 10)) where
   abbrev at : ℕ
-  at = (2 ^ 7 * e + 2 ^ 16) / (4 * m)
+  at = (2 ^ 7 * c + d) / n
 
   abbrev rest : ℕ
-  rest = 4 * m * (at + 1) - 2 ^ 7 * e
+  rest = n * (at + 1) - 2 ^ 7 * c
 
   abbrev den : ℕ
-  den = e * (at + 1) + 2 ^ 9 * m
+  den = c * (at + 1) + 2 ^ 7 * n
 
   abbrev quo : ℕ
   quo = rest * 2 ^ 56 / den
 
-  pub at-low : at * (4 * m) ≤ 2 ^ 7 * e + 2 ^ 16
-  at-low = div-mul-le-self (2 ^ 7 * e + 2 ^ 16) (4 * m)
+  n-pos : 0 < n
+  n-pos = omega arith
 
-  pub at-high : 2 ^ 7 * e + 2 ^ 16 < at * (4 * m) + 4 * m
-  at-high = lt-div-mul-add (omega arith)
+  pub at-low : at * n ≤ 2 ^ 7 * c + d
+  at-low = div-mul-le-self (2 ^ 7 * c + d) n
+
+  pub at-high : 2 ^ 7 * c + d < at * n + n
+  at-high = lt-div-mul-add n-pos
 
   pub at-lt : at < 129
-  at-lt = go at at-low (mul-le-mul-left at l)
+  at-lt = split at 129 (λ l. l) (λ l. absurd (go at at-low (mul-le-mul-right n l)))
     where
-      go : (i : ℕ) → i * (4 * m) ≤ 2 ^ 7 * e + 2 ^ 16 → i * 2 ^ 23 ≤ i * m → i < 129
+      go : (i : ℕ) → i * n ≤ 2 ^ 7 * c + d → 129 * n ≤ i * n → ⊥
       go i a b = omega arith
 
-  pub rest-is : rest + 2 ^ 7 * e ≡ 4 * m * (at + 1)
+  pub rest-is : rest + 2 ^ 7 * c ≡ n * (at + 1)
   rest-is = go at at-high
     where
-      go : (i : ℕ) → 2 ^ 7 * e + 2 ^ 16 < i * (4 * m) + 4 * m → 4 * m * (i + 1) - 2 ^ 7 * e + 2 ^ 7 * e ≡ 4 * m * (i + 1)
+      go : (i : ℕ) → 2 ^ 7 * c + d < i * n + n → n * (i + 1) - 2 ^ 7 * c + 2 ^ 7 * c ≡ n * (i + 1)
       go i a = omega arith
 
-  pub rest-least : 2 ^ 16 ≤ rest
+  pub rest-least : d ≤ rest
   rest-least = go at rest rest-is at-high
     where
-      go : (i r : ℕ) → r + 2 ^ 7 * e ≡ 4 * m * (i + 1) → 2 ^ 7 * e + 2 ^ 16 < i * (4 * m) + 4 * m → 2 ^ 16 ≤ r
+      go : (i r : ℕ) → r + 2 ^ 7 * c ≡ n * (i + 1) → 2 ^ 7 * c + d < i * n + n → d ≤ r
       go i r a b = omega arith
 
-  pub rest-most : rest ≤ 2 ^ 16 + 4 * m
+  pub rest-most : rest ≤ d + n
   rest-most = go at rest rest-is at-low
     where
-      go : (i r : ℕ) → r + 2 ^ 7 * e ≡ 4 * m * (i + 1) → i * (4 * m) ≤ 2 ^ 7 * e + 2 ^ 16 → r ≤ 2 ^ 16 + 4 * m
+      go : (i r : ℕ) → r + 2 ^ 7 * c ≡ n * (i + 1) → i * n ≤ 2 ^ 7 * c + d → r ≤ d + n
       go i r a b = omega arith
 
   den-pos : 0 < den
-  den-pos = go (e * (at + 1))
+  den-pos = go (c * (at + 1)) n-pos
     where
-      go : (y : ℕ) → 0 < y + 2 ^ 9 * m
-      go y = omega arith
+      go : (y : ℕ) → 0 < n → 0 < y + 2 ^ 7 * n
+      go y h = omega arith
 
-  pub den-most : den ≤ 129 * 2 ^ 25 + 2 ^ 33
-  den-most = go (e * (at + 1)) (mul-le-mul top (le-of at at-lt))
+  pub den-most : den ≤ 129 * (c + n)
+  den-most = go (c * (at + 1)) (mul-le-mul-left c (le-of at at-lt))
     where
       le-of : (i : ℕ) → i < 129 → i + 1 ≤ 129
       le-of i k = omega arith
 
-      go : (y : ℕ) → y ≤ 2 ^ 25 * 129 → y + 2 ^ 9 * m ≤ 129 * 2 ^ 25 + 2 ^ 33
+      go : (y : ℕ) → y ≤ c * 129 → y + 2 ^ 7 * n ≤ 129 * (c + n)
       go y k = omega arith
 
   quo-low : quo * den ≤ rest * 2 ^ 56
@@ -181,48 +230,47 @@ module _ (m e : ℕ) (l : 2 ^ 23 ≤ m) (h : m ≤ 2 ^ 24) (one : 1 ≤ e) (top 
   quo-high = div-high (rest * 2 ^ 56) den den-pos
 
   pub quo-most : quo ≤ 2 ^ 49 + 2 ^ 41
-  quo-most = le-of-mul-le-mul-right {k = m} (go quo rest (e * (at + 1)) quo-low rest-most) (omega arith)
+  quo-most = le-of-mul-le-mul-right {k = n} (go quo rest (c * (at + 1)) quo-low rest-most) n-pos
     where
-      go : (q r y : ℕ) → q * (y + 2 ^ 9 * m) ≤ r * 2 ^ 56 → r ≤ 2 ^ 16 + 4 * m → q * m ≤ (2 ^ 49 + 2 ^ 41) * m
+      go : (q r y : ℕ) → q * (y + 2 ^ 7 * n) ≤ r * 2 ^ 56 → r ≤ d + n → q * n ≤ (2 ^ 49 + 2 ^ 41) * n
       go q r y a b = omega (arith, a, b)
 
   quo-least : 2 ^ 38 ≤ quo
-  quo-least = go quo rest den quo-high rest-least (mul-le-mul-left (quo + 1) den-most)
+  quo-least = le-of-mul-le-mul-right {k = d} (go quo rest den quo-high rest-least (mul-le-mul-left (quo + 1) (le-trans den-most coarse))) pos
     where
-      go : (q r d : ℕ) → r * 2 ^ 56 ≤ (q + 1) * d → 2 ^ 16 ≤ r → (q + 1) * d ≤ (q + 1) * (129 * 2 ^ 25 + 2 ^ 33) → 2 ^ 38 ≤ q
-      go q r d a b c = omega (arith, a, b, c)
+      go : (q r e : ℕ) → r * 2 ^ 56 ≤ (q + 1) * e → d ≤ r → (q + 1) * e ≤ (q + 1) * (d * (2 ^ 18 - 2 ^ 10)) → 2 ^ 38 * d ≤ q * d
+      go q r e a b f = omega (arith, a, b, f)
 
   pub steep-entry : Entry (at + 1) 128 (getD steep at 0)
   steep-entry = entry (at + 1) 128 (getD steep at 0) (steep-angle at at-lt)
 
-  den-is : den ≡ (at + 1) * e + 128 * (4 * m)
+  den-is : den ≡ (at + 1) * c + 128 * n
   den-is = go at
     where
-      go : (i : ℕ) → e * (i + 1) + 2 ^ 9 * m ≡ (i + 1) * e + 128 * (4 * m)
+      go : (i : ℕ) → c * (i + 1) + 2 ^ 7 * n ≡ (i + 1) * c + 128 * n
       go i = omega arith
 
-  module _ (e≤ : e ≤ 4 * m) where
-    pub high-reduced : Reduced (4 * m) e (getD steep at 0) quo
-    high-reduced =
-        record {
-          x₀ = at + 1;
-          y₀ = 128;
-          R = rest;
-          entry = steep-entry;
-          eR = rest-is ∙ mul-comm (4 * m) (at + 1);
-          far = far at;
-          q-low = subst (λ (y : ℕ). quo * y ≤ rest * 2 ^ 56) den-is quo-low;
-          q-high = subst (λ (y : ℕ). rest * 2 ^ 56 ≤ (quo + 1) * y) den-is quo-high;
-          most = quo-most;
-          large = large (getD steep at 0) quo (steep-entry .least);
-          way = inr quo-least;
-        }
-      where
-        far : (i : ℕ) → 64 * (e + 4 * m) ≤ (i + 1) * e + 128 * (4 * m)
-        far i = omega (arith, e≤)
+  pub steep-reduced : Reduced n c (getD steep at 0) quo
+  steep-reduced =
+      record {
+        x₀ = at + 1;
+        y₀ = 128;
+        R = rest;
+        entry = steep-entry;
+        eR = rest-is ∙ mul-comm n (at + 1);
+        far = far at;
+        q-low = subst (λ (y : ℕ). quo * y ≤ rest * 2 ^ 56) den-is quo-low;
+        q-high = subst (λ (y : ℕ). rest * 2 ^ 56 ≤ (quo + 1) * y) den-is quo-high;
+        most = quo-most;
+        large = large (getD steep at 0) quo (steep-entry .least);
+        way = inr quo-least;
+      }
+    where
+      far : (i : ℕ) → 64 * (c + n) ≤ (i + 1) * c + 128 * n
+      far i = omega arith
 
-        large : (A q : ℕ) → 128 * 2 ^ 48 ≤ A → 2 ^ 43 ≤ A + q
-        large A q k = omega arith
+      large : (A q : ℕ) → 128 * 2 ^ 48 ≤ A → 2 ^ 43 ≤ A + q
+      large A q k = omega arith
 
 -- ---- what the definition gives, for the patterns of 2 ^ -12 up to 2 ^ 26: x = n / c, and its numerator in units of 2 ^ -149 is n * k
 pub record Case (a : ℕ) : Type 0 where
@@ -247,6 +295,16 @@ dig-high a = omega arith
 -- d * 2 ^ i, cut by a power
 powers : (d i j k : ℕ) → i ≡ j + k → d * 2 ^ i ≡ d * 2 ^ j * 2 ^ k
 powers d i j k e = ap (λ (x : ℕ). d * 2 ^ x) e ∙ ap (λ (x : ℕ). d * x) (pow-add 2 j k) ∙ sym (mul-assoc d (2 ^ j) (2 ^ k))
+
+-- what the steep table asks of 4 m / e, m being a significand and e at most 2 ^ 25
+pub high-top : (m e : ℕ) → 2 ^ 23 ≤ m → e ≤ 2 ^ 25 → e ≤ 4 * m
+high-top m e h k = omega arith
+
+pub high-fine : (m : ℕ) → 2 ^ 23 ≤ m → 2 ^ 16 * 2 ^ 8 ≤ 4 * m
+high-fine m h = omega arith
+
+pub high-coarse : (m e : ℕ) → m ≤ 2 ^ 24 → e ≤ 2 ^ 25 → 129 * (e + 4 * m) ≤ 2 ^ 16 * (2 ^ 18 - 2 ^ 10)
+high-coarse m e h k = omega arith
 
 pub within : (d e i j : ℕ) → 2 ^ 23 ≤ d → d ≤ 2 ^ 24 → i ≤ e → e ≤ j → (2 ^ 23 * 2 ^ i ≤ d * 2 ^ e) × (d * 2 ^ e ≤ 2 ^ 24 * 2 ^ j)
 within d e i j l h a b = (mul-le-mul l (pow-mono a), mul-le-mul h (pow-mono b))
@@ -288,10 +346,10 @@ mid-case a l h =
     record {
       n = X;
       c = 2 ^ 30;
-      A = getD angles ((X - 2 ^ 13) / 2 ^ 23) 0;
-      q = 2 ^ 7 * (X - (X - 2 ^ 13) / 2 ^ 23 * 2 ^ 23) * 2 ^ 56 / (2 ^ 37 + X * ((X - 2 ^ 13) / 2 ^ 23));
+      A = getD angles ((2 ^ 7 * X - 2 ^ 20) / 2 ^ 30) 0;
+      q = (2 ^ 7 * X - (2 ^ 7 * X - 2 ^ 20) / 2 ^ 30 * 2 ^ 30) * 2 ^ 56 / (2 ^ 7 * 2 ^ 30 + (2 ^ 7 * X - 2 ^ 20) / 2 ^ 30 * X);
       k = 2 ^ 119;
-      red = mid-reduced X (le-trans (lit≤ tt) (w .0)) (w .1);
+      red = gentle-reduced X (2 ^ 30) (2 ^ 20) (w .1) (lit< tt) (lit≤ tt) (lit≤ tt) (le-trans (lit≤ tt) (mul-le-mul-right (2 ^ 12) (w .0)));
       is = mid-is a l h;
       c-pos = pow-pos 30;
       k-pos = pow-pos 119;
@@ -301,30 +359,27 @@ mid-case a l h =
 
 high-case : (a : ℕ) → 0x3f80_0000 ≤ a → a < 0x4c80_0000 → Case a
 high-case a l h =
-    let m = digits a in
+    let n = 4 * digits a in
     let z = 152 - a / 2 ^ 23 in
     let e = 2 ^ (152 - a / 2 ^ 23) in
     let top : e ≤ 2 ^ 25 = pow-mono {i = z} {j = 25} (omega arith) in
-    let i = (2 ^ 7 * e + 2 ^ 16) / (4 * m) in
+    let i = (2 ^ 7 * e + 2 ^ 16) / n in
     record {
-      n = 4 * m;
+      n = n;
       c = e;
       A = getD steep i 0;
-      q = (4 * m * (i + 1) - 2 ^ 7 * e) * 2 ^ 56 / (e * (i + 1) + 2 ^ 9 * m);
+      q = (n * (i + 1) - 2 ^ 7 * e) * 2 ^ 56 / (e * (i + 1) + 2 ^ 7 * n);
       k = 2 ^ (a / 2 ^ 23 - 3);
-      red = high-reduced m e (dig-low a) (dig-high a) (pow-pos z) top (le-trans top (big m (dig-low a)));
+      red = steep-reduced n e (2 ^ 16) (high-top (digits a) e (dig-low a) top) (lit< tt) (high-fine (digits a) (dig-low a)) (high-coarse (digits a) e (dig-high a) top);
       is = high-is a (omega arith) l;
       c-pos = pow-pos z;
       k-pos = pow-pos (a / 2 ^ 23 - 3);
       unit = sym (pow-add 2 z (a / 2 ^ 23 - 3)) ∙ ap (λ (x : ℕ). 2 ^ x) (sum (a / 2 ^ 23) (omega arith) (omega arith));
-      value = powers m (a / 2 ^ 23 - 1) 2 (a / 2 ^ 23 - 3) (omega arith) ∙ ap (λ (x : ℕ). x * 2 ^ (a / 2 ^ 23 - 3)) (mul-comm m (2 ^ 2));
+      value = powers (digits a) (a / 2 ^ 23 - 1) 2 (a / 2 ^ 23 - 3) (omega arith) ∙ ap (λ (x : ℕ). x * 2 ^ (a / 2 ^ 23 - 3)) (mul-comm (digits a) (2 ^ 2));
     }
   where
     sum : (y : ℕ) → 3 ≤ y → y ≤ 152 → 152 - y + (y - 3) ≡ 149
     sum y g h = omega arith
-
-    big : (m : ℕ) → 2 ^ 23 ≤ m → 2 ^ 25 ≤ 4 * m
-    big m k = omega arith
 
 pub case : (a : ℕ) → 0x3980_0000 ≤ a → a < 0x4c80_0000 → Case a
 case a l h = split a 0x3c00_0000 (λ x. low-case a l x) (λ x. split a 0x3f80_0000 (λ y. mid-case a x y) (λ y. high-case a y h))

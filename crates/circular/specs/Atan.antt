@@ -23,26 +23,30 @@ cubeOf q = q * (q * q / 2 ^ 48) / 2 ^ 64 / 3
 abbrev pub angleOf : (A q : ℕ) → ℕ
 angleOf A q = A + (q - cubeOf q)
 
--- In all that follows a is the pattern of |x|
--- x from 2 ^ -12 to 2 ^ -7: no table
+-- The angle whose tangent is n / c. For n ≤ c: the table's i / 128 is below it, by d / (128 c) at least
+abbrev pub gentleOf : (n c d : ℕ) → ℕ
+gentleOf n c d =
+    let i = (2 ^ 7 * n - d) / c in
+    angleOf (getD angles i 0) ((2 ^ 7 * n - i * c) * 2 ^ 56 / (2 ^ 7 * c + i * n))
+
+-- for c ≤ n: the table's 128 / j is below it, j being above 128 c / n by d / n at least
+abbrev pub steepOf : (n c d : ℕ) → ℕ
+steepOf n c d =
+    let i = (2 ^ 7 * c + d) / n in
+    let j = i + 1 in
+    angleOf (getD steep i 0) ((n * j - 2 ^ 7 * c) * 2 ^ 56 / (c * j + 2 ^ 7 * n))
+
+-- In all that follows a is the pattern of |x|. x from 2 ^ -12 to 2 ^ -7: no table
 abbrev pub lowAngle : ℕ → ℕ
 lowAngle a = angleOf 0 (scaledOf a 94)
 
--- x from 2 ^ -7 to 1, X in units of 2 ^ -30. The table's i / 128 is below x by 2 ^ -17 at least
+-- x from 2 ^ -7 to 1, in units of 2 ^ -30
 abbrev pub midAngle : ℕ → ℕ
-midAngle a =
-    let X = scaledOf a 120 in
-    let i = (X - 2 ^ 13) / 2 ^ 23 in
-    angleOf (getD angles i 0) (2 ^ 7 * (X - i * 2 ^ 23) * 2 ^ 56 / (2 ^ 37 + X * i))
+midAngle a = gentleOf (scaledOf a 120) (2 ^ 30) (2 ^ 20)
 
--- x from 1 to 2 ^ 26: x = 4 m / e, 128 / j the table's tangent
+-- x from 1 to 2 ^ 26
 abbrev pub highAngle : ℕ → ℕ
-highAngle a =
-    let m = digits a in
-    let e = 2 ^ (152 - a / 2 ^ 23) in
-    let i = (2 ^ 7 * e + 2 ^ 16) / (4 * m) in
-    let j = i + 1 in
-    angleOf (getD steep i 0) ((4 * m * j - 2 ^ 7 * e) * 2 ^ 56 / (e * j + 2 ^ 9 * m))
+highAngle a = steepOf (4 * digits a) (2 ^ (152 - a / 2 ^ 23)) (2 ^ 16)
 
 -- from the bit pattern of x to that of its arc tangent: below 2 ^ -12 x itself, from 2 ^ 26 on half pi, and a NaN as it is
 unfoldable pub atanMag : ℕ → ℕ

@@ -1,3 +1,4 @@
 pub mod SinCos
 pub mod Atan
+pub mod Asin
 pub mod Answers

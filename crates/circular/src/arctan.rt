@@ -24,8 +24,8 @@ pub fn mid_angle(a: u32) -> u64
     ensures { λ r. ⌜ r ≡ midAngle a ⌝ }
 {
     let x = scaled(a, 120);
-    let i = (x - 8192) / 8388608;
-    let q = quotient(128 * (x - i * 8388608), 137438953472 + x * i);
+    let i = (128 * x - 1048576) / 1073741824;
+    let q = quotient(128 * x - i * 1073741824, 137438953472 + i * x);
     angle_sum(gentle_angle(i as usize), q)
 }
 
@@ -34,11 +34,11 @@ pub fn high_angle(a: u32) -> u64
     requires { ⌜ (0x3f80_0000 ≤ a) × (a < 0x4c80_0000) ⌝ }
     ensures { λ r. ⌜ r ≡ highAngle a ⌝ }
 {
-    let m = (8388608 + a % 8388608) as u64;
+    let n = 4 * ((8388608 + a % 8388608) as u64);
     let e = power(152 - a / 8388608);
-    let i = (128 * e + 65536) / (4 * m);
+    let i = (128 * e + 65536) / n;
     let j = i + 1;
-    let q = quotient(4 * m * j - 128 * e, e * j + 512 * m);
+    let q = quotient(n * j - 128 * e, e * j + 128 * n);
     angle_sum(steep_angle(i as usize), q)
 }
 

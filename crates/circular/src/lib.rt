@@ -2,9 +2,11 @@
 // specs/ says what each gives for every f32; crate `exact_circular` proves that this is less than one unit in the last place from the exact value.
 ghost use mathlib.Core.Path.{_≡_};
 ghost use Rattle.circular.specs.SinCos.{sinOf, cosOf};
+ghost use Rattle.circular.specs.Asin.{asinOf};
 ghost use Rattle.circular.specs.Atan.{atanOf};
 ghost use Rattle.circular.specs.Answers.{sinAnswer, cosAnswer, answerNumber};
 
+pub mod arcsin;
 pub mod arctan;
 pub mod table;
 pub mod waves;
@@ -28,6 +30,13 @@ pub fn cos(x: f32) -> f32
     ensures { λ r. ⌜ r ≡ cosOf x ⌝ }
 {
     scalar::number(waves::cos_bits(scalar::bits(x)))
+}
+
+// NaN outside -1 to 1
+pub fn asin(x: f32) -> f32
+    ensures { λ r. ⌜ r ≡ asinOf x ⌝ }
+{
+    scalar::number(arcsin::asin_bits(scalar::bits(x)))
 }
 
 pub fn atan(x: f32) -> f32

@@ -293,13 +293,23 @@ pub fn cube(q: u64) -> u64
     high_product(q, high_product(w, w)) / 3
 }
 
-// n / d in units of 2 ^ -56, by two divisions
+// n / d in units of 2^-56, by two divisions
 pub fn quotient(n: u64, d: u64) -> u64
     requires { ⌜ (n < 2 ^ 31) × (2 ^ 25 ≤ d) × (d ≤ 2 ^ 38) ⌝ }
     ensures { λ r. ⌜ r ≡ n * 2 ^ 56 / d ⌝ }
 {
     let m = n * 1073741824;
     (m / d) * 67108864 + (m % d) * 67108864 / d
+}
+
+// the same for larger n and d, by three divisions
+pub fn long_quotient(n: u64, d: u64) -> u64
+    requires { ⌜ (n ≤ d) × (0 < d) × (d ≤ 2 ^ 44) ⌝ }
+    ensures { λ r. ⌜ r ≡ n * 2 ^ 56 / d ⌝ }
+{
+    let m = n * 524288;
+    let k = (m % d) * 1048576;
+    (m / d) * 137438953472 + ((k / d) * 131072 + (k % d) * 131072 / d)
 }
 
 // the angle a, and the small one whose tangent is q * 2^-56

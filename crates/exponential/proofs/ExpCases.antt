@@ -45,12 +45,12 @@ module _ (b : ℕ) where
   at-minus s l h = minus (omega arith) l s ∙ ap (λ (x : Bool). pick x 0 (shrunk (scaledOf (b % 2 ^ 31) 94))) (lt-leb _ _ h)
 
 -- ---- the two ways to round e ^ -x
-module _ (E h : ℕ) where
-  pub lowered-normal : E ≤ 126 → lowered E h ≡ (126 - E) * 2 ^ 23 + rounded h
-  lowered-normal k = ap (λ (x : Bool). pick x ((126 - E) * 2 ^ 23 + rounded h) ((h / 2 ^ (E - 88) + 1) / 2)) (le-leb _ _ k)
+module _ (e h : ℕ) where
+  pub lowered-normal : e ≤ 125 → lowered e h ≡ (125 - e) * 2 ^ 23 + rounded h
+  lowered-normal k = ap (λ (x : Bool). pick x ((125 - e) * 2 ^ 23 + rounded h) ((h / 2 ^ (e - 87) + 1) / 2)) (le-leb _ _ k)
 
-  pub lowered-subnormal : 126 < E → lowered E h ≡ (h / 2 ^ (E - 88) + 1) / 2
-  lowered-subnormal k = ap (λ (x : Bool). pick x ((126 - E) * 2 ^ 23 + rounded h) ((h / 2 ^ (E - 88) + 1) / 2)) (lt-leb _ _ k)
+  pub lowered-subnormal : 125 < e → lowered e h ≡ (h / 2 ^ (e - 87) + 1) / 2
+  lowered-subnormal k = ap (λ (x : Bool). pick x ((125 - e) * 2 ^ 23 + rounded h) ((h / 2 ^ (e - 87) + 1) / 2)) (lt-leb _ _ k)
 
 -- ---- the magnitude's range: m * 2 ^ e with e up to 39
 module _ (a : ℕ) where
@@ -74,3 +74,44 @@ module _ (a : ℕ) where
 
   pub below-minus : a < 0x42d0_0000 → scaledOf a 94 ≤ 104 * 2 ^ 56
   below-minus h = le-trans (scaled-le 0xcf_ffff (lit≤ tt) (omega arith) (lit< tt)) (lit≤ tt)
+
+-- ---- the sign's choices, as the code makes them: v is the limit
+module _ (b v : ℕ) (e : v ≡ pick (ltb (b / 2 ^ 31) 1) 0x42b1_7218 0x42d0_0000) where
+  if-plus : b / 2 ^ 31 < 1 → {x : ℕ} (y z : ℕ) → x ≡ pick (ltb (b / 2 ^ 31) 1) y z → x ≡ y
+  if-plus s y z p = p ∙ ap (λ (t : Bool). pick t y z) (lt-ltb _ _ s)
+
+  if-minus : 1 ≤ b / 2 ^ 31 → {x : ℕ} (y z : ℕ) → x ≡ pick (ltb (b / 2 ^ 31) 1) y z → x ≡ z
+  if-minus s y z p = p ∙ ap (λ (t : Bool). pick t y z) (le-ltb _ _ s)
+
+  pub at-past : (w : ℕ) → b % 2 ^ 31 ≤ 0x7f80_0000 → v ≤ b % 2 ^ 31 → w ≡ pick (ltb (b / 2 ^ 31) 1) 0x7f80_0000 0 → w ≡ expBits b
+  at-past w h k f =
+      split (b / 2 ^ 31) 1
+      (λ s. if-plus s 0x7f80_0000 0 f ∙ sym (at-top b h s (le-trans (le-of-eq (sym (if-plus s 0x42b1_7218 0x42d0_0000 e))) k)))
+      (λ s. if-minus s 0x7f80_0000 0 f ∙ sym (at-bottom b h s (le-trans (le-of-eq (sym (if-minus s 0x42b1_7218 0x42d0_0000 e))) k)))
+
+  pub at-signed : (w : ℕ) → 0x3300_0000 ≤ b % 2 ^ 31 → b % 2 ^ 31 < v → w ≡ pick (ltb (b / 2 ^ 31) 1) (grown (scaledOf (b % 2 ^ 31) 94)) (shrunk (scaledOf (b % 2 ^ 31) 94)) → w ≡ expBits b
+  at-signed w l k f =
+      split (b / 2 ^ 31) 1
+      (λ s. if-plus s (grown (scaledOf (b % 2 ^ 31) 94)) (shrunk (scaledOf (b % 2 ^ 31) 94)) f ∙ sym (at-plus b s l (less (if-plus s 0x42b1_7218 0x42d0_0000 e) k)))
+      (λ s. if-minus s (grown (scaledOf (b % 2 ^ 31) 94)) (shrunk (scaledOf (b % 2 ^ 31) 94)) f ∙ sym (at-minus b s l (less (if-minus s 0x42b1_7218 0x42d0_0000 e) k)))
+    where
+      less : {a x y : ℕ} → x ≡ y → a < x → a < y
+      less p q = omega arith
+
+  pub limit-le : v ≤ 0x42d0_0000
+  limit-le = split (b / 2 ^ 31) 1 (λ s. le-trans (le-of-eq (if-plus s 0x42b1_7218 0x42d0_0000 e)) (lit≤ tt)) (λ s. le-of-eq (if-minus s 0x42b1_7218 0x42d0_0000 e))
+
+  pub in-range : b % 2 ^ 31 < v → scaledOf (b % 2 ^ 31) 94 + (1 - b / 2 ^ 31) * (0x1e_8de9 * 2 ^ 39) ≤ 104 * 2 ^ 56
+  in-range k =
+      split (b / 2 ^ 31) 1
+      (λ s. plus' (scaledOf (b % 2 ^ 31) 94) (b / 2 ^ 31) (below-plus (b % 2 ^ 31) (less (if-plus s 0x42b1_7218 0x42d0_0000 e) k)))
+      (λ s. minus' (scaledOf (b % 2 ^ 31) 94) (b / 2 ^ 31) s (below-minus (b % 2 ^ 31) (less (if-minus s 0x42b1_7218 0x42d0_0000 e) k)))
+    where
+      less : {a x y : ℕ} → x ≡ y → a < x → a < y
+      less p q = omega arith
+
+      plus' : (x s : ℕ) → x ≤ 0xb1_7217 * 2 ^ 39 → x + (1 - s) * (0x1e_8de9 * 2 ^ 39) ≤ 104 * 2 ^ 56
+      plus' x s h = omega arith
+
+      minus' : (x s : ℕ) → 1 ≤ s → x ≤ 104 * 2 ^ 56 → x + (1 - s) * (0x1e_8de9 * 2 ^ 39) ≤ 104 * 2 ^ 56
+      minus' x s p h = omega arith

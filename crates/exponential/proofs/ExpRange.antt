@@ -17,15 +17,15 @@ module _ (u : ℕ) (h : u < 2 ^ 32) where
   unfolding term
   term-1 = omega (arith, mul-le-mul (le-of-lt h) (le-of-lt h))
 
-  pub term-2 : term u 2 ≤ 2 ^ 22
+  pub term-2 : term u 2 ≤ 2796202
   unfolding term
   term-2 = omega (arith, mul-le-mul term-1 (le-of-lt h))
 
-  pub term-3 : term u 3 ≤ 2 ^ 16
+  pub term-3 : term u 3 ≤ 43691
   unfolding term
   term-3 = omega (arith, mul-le-mul term-2 (le-of-lt h))
 
-  pub term-4 : term u 4 ≤ 2 ^ 12
+  pub term-4 : term u 4 ≤ 547
   unfolding term
   term-4 = omega (arith, mul-le-mul term-3 (le-of-lt h))
 
@@ -57,12 +57,12 @@ module _ (j : ℕ) (h : j < 12) where
 pub product-le : (F p : ℕ) → F ≤ 2 ^ 63 - 2 ^ 46 → p ≤ 2 ^ 32 + 2 ^ 28 → F / 2 ^ 32 * p ≤ 2 ^ 63 + 2 ^ 59
 product-le F p h k = let a : F / 2 ^ 32 ≤ 2 ^ 31 = omega arith in le-trans (mul-le-mul a k) (omega arith)
 
-pub power-lt : (R : ℕ) → R < ln2 → powerOf R < 2 ^ 64
+pub power-lt : (R : ℕ) → R ≤ ln2 → powerOf R < 2 ^ 64
 unfolding powerOf
 power-lt R h =
     let f = entry-le (R / 2 ^ 52) (omega arith) in
     omega (arith, product-le (factor R) (riseOf (left R)) f (rise-le (left R) (omega arith)))
 
 -- h moved down by at least 39 places
-pub cut-le : (h E : ℕ) → h < 2 ^ 64 → 126 < E → h / 2 ^ (E - 88) ≤ 2 ^ 25
-cut-le h E f k = div-le-of-le-mul (2 ^ (E - 88)) (le-trans (le-of-lt f) (le-trans {m = 2 ^ 39 * 2 ^ 25} (lit≤ tt) (mul-le-mul-right (2 ^ 25) (pow-mono {i = 39} {j = E - 88} (omega arith)))))
+pub cut-le : (h e : ℕ) → h < 2 ^ 64 → 125 < e → h / 2 ^ (e - 87) ≤ 2 ^ 25
+cut-le h e f k = div-le-of-le-mul (2 ^ (e - 87)) (le-trans (le-of-lt f) (le-trans {m = 2 ^ 39 * 2 ^ 25} (lit≤ tt) (mul-le-mul-right (2 ^ 25) (pow-mono {i = 39} {j = e - 87} (omega arith)))))

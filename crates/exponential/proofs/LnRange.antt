@@ -11,8 +11,7 @@ use lib.ListN.{getD, length}
 use borrow.Author.Tests.{le-leb, lt-leb}
 use Rattle.series.proofs.Cases.{split}
 use Rattle.series.proofs.Entries.{entry}
-use Rattle.fixed.specs.Fixed.{pick, mant, pattern}
-use Rattle.fixed.proofs.Round.{Rounded, rounded}
+use Rattle.fixed.specs.Fixed.{pick}
 use Rattle.exponential.specs.Tables.{ln2, eighths}
 use Rattle.exponential.specs.Ln.{excessOf, quotient, lengthened, twiceOf, index, centre, restOf}
 
@@ -274,10 +273,3 @@ module _ (m : ℕ) (low : 2 ^ 23 ≤ m) (high : m < 2 ^ 24) where
 
       last : (a y : ℕ) → y + (8 - index m) * 4650490555939334 ≤ ln2 → a ≤ y → 2 ^ 30 ≤ a → y - a + 2 ^ 30 ≤ ln2
       last a y p q r = omega arith
-
--- ---- a packed number is below the sign's place
-pub pattern-lt : (S : ℕ) → 2 ^ 30 ≤ S → S < 2 ^ 64 → pattern S < 2 ^ 31
-pattern-lt S b f = go (leadingZeros 64 S) (mant S) (rounded S b f .most)
-  where
-    go : (l m : ℕ) → m ≤ 2 ^ 24 → (133 - l) * 2 ^ 23 + m < 2 ^ 31
-    go l m h = omega arith

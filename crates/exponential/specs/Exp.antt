@@ -20,7 +20,7 @@ sumTo u (suc k) = sumTo u k + term u (suc k)
 abbrev pub riseOf : ℕ → ℕ
 riseOf u = sumTo u 4
 
--- ---- e ^ (R / 2 ^ 56) in units of 2 ^ -62, for R below ln 2: F * (1 + p), with F from the table by R's sixteenths, and p from what is left of R
+-- ---- e ^ (R / 2 ^ 56) in units of 2 ^ -62, for R up to ln 2: F * (1 + p), with F from the table by R's sixteenths, and p from what is left of R
 abbrev pub factor : ℕ → ℕ
 factor R = getD sixteenths (R / 2 ^ 52) 0
 
@@ -34,21 +34,18 @@ powerOf R = factor R + factor R / 2 ^ 32 * riseOf (left R) / 2 ^ 4
 abbrev pub rounded : ℕ → ℕ
 rounded h = (h / 2 ^ 38 + 1) / 2
 
--- ---- e ^ X and e ^ -X, X in units of 2 ^ -56: X is E * ln 2 + R, or E * ln 2 - R
+-- ---- e ^ X and e ^ -X, X in units of 2 ^ -56: X is e * ln 2 + R, or (e + 1) * ln 2 - R
 unfoldable pub grown : ℕ → ℕ
 unfolding powerOf
-grown X = (126 + X / ln2) * 2 ^ 23 + rounded (powerOf (X - X / ln2 * ln2))
+grown X = (126 + X / ln2) * 2 ^ 23 + rounded (powerOf (X % ln2))
 
-abbrev pub ceiling : ℕ → ℕ
-ceiling X = (X + (ln2 - 1)) / ln2
-
--- below 2 ^ -126 the result is a whole number of units 2 ^ -149
-abbrev pub lowered : (E h : ℕ) → ℕ
-lowered E h = pick (leb E 126) ((126 - E) * 2 ^ 23 + rounded h) ((h / 2 ^ (E - 88) + 1) / 2)
+-- h / 2 ^ (e + 1): below 2 ^ -126 a whole number of units 2 ^ -149
+abbrev pub lowered : (e h : ℕ) → ℕ
+lowered e h = pick (leb e 125) ((125 - e) * 2 ^ 23 + rounded h) ((h / 2 ^ (e - 87) + 1) / 2)
 
 unfoldable pub shrunk : ℕ → ℕ
 unfolding powerOf
-shrunk X = lowered (ceiling X) (powerOf (ceiling X * ln2 - X))
+shrunk X = lowered (X / ln2) (powerOf (ln2 - X % ln2))
 
 -- ---- from the pattern b of x to that of e ^ x. a is the pattern with no sign
 -- an infinity from 2 ^ 128 up, where x is 88.72283935546875; and 0 from x = -104 down

@@ -1,9 +1,11 @@
 // e to an f32 by whole numbers: a power of two, a table of twelve entries and five terms of the series.
 ghost use mathlib.Core.Path.{_≡_};
 ghost use Prim.Native.Nat.{_+_, _-_, _*_, _/_, _%_, _^_, _<_, _≤_};
+ghost use lib.Dec.{ltb};
 ghost use lib.ListN.{getD};
+ghost use Rattle.fixed.specs.Fixed.{pick};
 ghost use Rattle.exponential.specs.Tables.{ln2, sixteenths};
-ghost use Rattle.exponential.specs.Exp.{riseOf, powerOf, grown, shrunk, expBits};
+ghost use Rattle.exponential.specs.Exp.{riseOf, powerOf, rounded, lowered, grown, shrunk, expBits};
 use fixed::scaled;
 
 const SIXTEENTHS: [u64; 12] = [
@@ -41,9 +43,9 @@ fn rise(u: u64) -> u64
     u + t2 + t3 + t4 + t5
 }
 
-// e^(r / 2^56) in units of 2^-62, for r below ln 2
+// e^(r / 2^56) in units of 2^-62, for r up to ln 2
 fn power(r: u64) -> u64
-    requires { ⌜ r < ln2 ⌝ }
+    requires { ⌜ r ≤ ln2 ⌝ }
     ensures { λ h. ⌜ h ≡ powerOf r ⌝ }
 {
     let f = sixteenth(r / 4503599627370496);
@@ -51,27 +53,69 @@ fn power(r: u64) -> u64
     f + f / 4294967296 * p / 16
 }
 
-// the pattern of e^x, x in units of 2^-56
-fn grow(x: u64) -> u32
-    requires { ⌜ x ≤ 0xb1_7217 * 2 ^ 39 ⌝ }
-    ensures { λ r. ⌜ r ≡ grown x ⌝ }
+// What depends on the sign s of x alone stands in small functions of its own, which compile to no branch.
+// r, or what it lacks to ln 2
+fn folded(s: u32, r: u64) -> u64
+    requires { ⌜ r < ln2 ⌝ }
+    ensures { λ v. ⌜ v ≡ pick (ltb s 1) r (ln2 - r) ⌝ }
 {
-    let e = x / 49946518145322873;
-    let h = power(x - e * 49946518145322873);
-    (126 + e as u32) * 8388608 + (((h >> 38) + 1) / 2) as u32
+    if s < 1 {
+        return r;
+    }
+    49946518145322873 - r
 }
 
-// the pattern of e^-x, x in units of 2^-56
-fn shrink(x: u64) -> u32
-    requires { ⌜ x ≤ 104 * 2 ^ 56 ⌝ }
-    ensures { λ r. ⌜ r ≡ shrunk x ⌝ }
+// the exponent's field, less one
+fn field(s: u32, e: u32) -> u32
+    requires { ⌜ e + s * 1000 ≤ 1125 ⌝ }
+    ensures { λ v. ⌜ v ≡ pick (ltb s 1) (126 + e) (125 - e) ⌝ }
 {
-    let e = (x + 49946518145322872) / 49946518145322873;
-    let h = power(e * 49946518145322873 - x);
-    if e <= 126 {
-        return (126 - e as u32) * 8388608 + (((h >> 38) + 1) / 2) as u32;
+    if s < 1 {
+        return 126 + e;
     }
-    (((h >> (e - 88)) + 1) / 2) as u32
+    125 - e
+}
+
+// the least pattern without its sign from which on e^x is infinite, or 0
+fn limit(s: u32) -> u32
+    ensures { λ v. ⌜ v ≡ pick (ltb s 1) 0x42b1_7218 0x42d0_0000 ⌝ }
+{
+    if s < 1 {
+        return 0x42b17218;
+    }
+    0x42d00000
+}
+
+fn past(s: u32) -> u32
+    ensures { λ v. ⌜ v ≡ pick (ltb s 1) 0x7f80_0000 0 ⌝ }
+{
+    if s < 1 {
+        return 0x7f800000;
+    }
+    0
+}
+
+// the pattern of h * 2^(e - 62), or of h * 2^-(e + 63)
+fn packed(s: u32, e: u64, h: u64) -> u32
+    requires { ⌜ (s < 2) × (e ≤ 127 + s * 23) ⌝ }
+    ensures { λ v. ⌜ v ≡ pick (ltb s 1) ((126 + e) * 2 ^ 23 + rounded h) (lowered e h) ⌝ }
+{
+    if 1125 < e + (s as u64) * 1000 {
+        return (((h >> (e - 87)) + 1) / 2) as u32;
+    }
+    field(s, e as u32) * 8388608 + (((h >> 38) + 1) / 2) as u32
+}
+
+// the pattern of e^x, or of e^-x, x in units of 2^-56
+fn signed(s: u32, x: u64) -> u32
+    requires { ⌜ (s < 2) × (x + (1 - s) * (0x1e_8de9 * 2 ^ 39) ≤ 104 * 2 ^ 56) ⌝ }
+    ensures { λ v. ⌜ v ≡ pick (ltb s 1) (grown x) (shrunk x) ⌝ }
+{
+    packed(
+        s,
+        x / 49946518145322873,
+        power(folded(s, x % 49946518145322873)),
+    )
 }
 
 // from the pattern of x to that of e^x
@@ -85,14 +129,9 @@ pub fn exp_bits(b: u32) -> u32
     if a < 0x33000000 {
         return 0x3f800000;
     }
-    if b / 2147483648 < 1 {
-        if 0x42b17218 <= a {
-            return 0x7f800000;
-        }
-        return grow(scaled(a, 94));
+    let s = b / 2147483648;
+    if limit(s) <= a {
+        return past(s);
     }
-    if 0x42d00000 <= a {
-        return 0;
-    }
-    shrink(scaled(a, 94))
+    signed(s, scaled(a, 94))
 }

@@ -2,7 +2,9 @@
 // whose logarithm stands in a table, and ln ((1 + s) / (1 - s)) is 2 (s + s^3 / 3 + s^5 / 5 + ..).
 ghost use mathlib.Core.Path.{_≡_};
 ghost use Prim.Native.Nat.{_+_, _-_, _*_, _/_, _%_, _^_, _<_, _≤_};
+ghost use lib.Dec.{leb};
 ghost use lib.ListN.{getD};
+ghost use Rattle.fixed.specs.Fixed.{pick};
 ghost use Rattle.exponential.specs.Tables.{ln2, eighths};
 ghost use Rattle.exponential.specs.Ln.{excessOf, twiceOf, restOf, above, below, lnBits};
 use fixed::pack;
@@ -50,6 +52,16 @@ fn twice(n: u64, d: u64) -> u64
     ((q + q * g / 17179869184) * 1048576) >> (l - 37)
 }
 
+// a small function of its own, so that it compiles to no branch: which of the two is larger cannot be foreseen
+fn distance(m: u64, c: u64) -> u64
+    ensures { λ r. ⌜ r ≡ pick (leb c m) (m - c) (c - m) ⌝ }
+{
+    if c <= m {
+        return m - c;
+    }
+    c - m
+}
+
 // ln (m / 2^23) in units of 2^-56
 fn rest(m: u64) -> u64
     requires { ⌜ (2 ^ 23 ≤ m) × (m < 2 ^ 24) ⌝ }
@@ -58,10 +70,11 @@ fn rest(m: u64) -> u64
     let i = (m - 7864320) / 1048576;
     let c = (8 + i) * 1048576;
     let y = eighth(i);
+    let a = twice(distance(m, c), m + c);
     if c <= m {
-        return y + twice(m - c, m + c);
+        return y + a;
     }
-    y - twice(c - m, m + c)
+    y - a
 }
 
 // the pattern of ln (m / 2^23 * 2^e), which is above 0

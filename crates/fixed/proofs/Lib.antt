@@ -1,3 +1,4 @@
 pub mod Product
 pub mod Round
 pub mod Values
+pub mod Sizes

@@ -280,3 +280,11 @@ affine-rising f x b y y' p q s s' h k r =
 pub affine-falling : (f : Format) (x b y y' : Float) → T (fits f x) → T (fits f b) → T (share y) → T (share y') → T (lt x nought) → T (le y y') → T (real (affine f x b y')) → T (le (affine f x b y') (affine f x b y))
 affine-falling f x b y y' p q s s' h k r =
     add-mono f (mul f x y') (mul f x y) b (mul-fits f x y') (mul-fits f x y) q (mul-falling f x y y' h (share-positive y s) (share-positive y' s') k) r (affine-real f x b y' y p s' s r)
+
+-- and none is a NaN where x is not one and b is finite
+pub affine-defined : (f : Format) (x b y : Float) → T (fits f x) → T (share y) → T (real x) → T (finite b) → T (real (affine f x b y))
+affine-defined f nan b y p s a h = absurd a
+affine-defined f (inf t) nan y p s a h = absurd h
+affine-defined f (inf t) (inf r) y p s a h = absurd h
+affine-defined f (inf t) (fin r n d) y p s a h = subst (λ (z : Float). T (real (add f z (fin r n d)))) (sym (inf-mul f t y (share-positive y s))) (unfold add in tt)
+affine-defined f (fin t m e) b y p s a h = real-of-finite f (mul f (fin t m e) y) b (mul-finite f (fin t m e) y p tt s) (finite-real b h)

@@ -5,8 +5,9 @@ pub mod MinMax
 pub mod Sign
 pub mod Truncation
 pub mod WholeRoot
-pub mod Closest
 pub mod MeanStep
+pub mod Closest
+pub mod Guess
 pub mod RootDigits
 pub mod RootPattern
 pub mod Normalise

@@ -32,6 +32,7 @@ step-not-below n r h =
     half : (r q : ℕ) → r + suc q ≤ 2 * ((r + q) / 2 + 1)
     half r q = omega arith
 
+-- a guess whose square is above n is above zero
 pub guess-pos : (n r : ℕ) → n < r * r → 0 < r
 guess-pos n zero h = absurd (not-suc-le-zero h)
 guess-pos n (suc r) h = zero-lt-suc r

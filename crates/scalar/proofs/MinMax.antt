@@ -4,11 +4,26 @@ use mathlib.Core.Path.{_≡_, refl, sym, ap, _∙_}
 use mathlib.Core.Logic.{_⊎_, inl, inr}
 use mathlib.Core.Bool.{Bool, true, false, _||_, true≢false}
 use lib.Dec.{T}
-use lib.Ieee.{Float, nan, lt, le, eq, isNan}
+use lib.Ieee.{Float, nan, lt, le, eq, ne, isNan}
 use Rattle.scalar.specs.Scalar.{orSecond, minOf, maxOf}
-use Rattle.scalar.proofs.Nan.{nan-only}
+use Rattle.scalar.proofs.Nan.{nan-only, differs-is-nan}
 use Rattle.scalar.proofs.Order.{at-most-itself, in-order, less-at-most, equal-not-less, equal-number, nan-not-less, not-less-than-nan}
 
+-- ---- what the code's tests say, for its two functions
+module _ (better : Float → Float → Bool) (a b : Float) where
+  pub of-nan : ne a a ≡ true → b ≡ orSecond (isNan a || better b a) a b
+  unfolding orSecond
+  of-nan n = rw (← differs-is-nan a, n)
+
+  pub of-better : ne a a ≡ false → better b a ≡ true → b ≡ orSecond (isNan a || better b a) a b
+  unfolding orSecond
+  of-better n e = rw (← differs-is-nan a, n, e)
+
+  pub of-other : ne a a ≡ false → better b a ≡ false → a ≡ orSecond (isNan a || better b a) a b
+  unfolding orSecond
+  of-other n e = rw (← differs-is-nan a, n, e)
+
+-- ---- the sentences
 nan-is : isNan nan ≡ true
 unfolding isNan
 nan-is = refl
@@ -64,7 +79,7 @@ module _ (better asGood : Float → Float → Bool) where
       go false true n e = (λ k. rw (n, e) (weaker b a e), λ k. rw (n, e) (itself b k))
       go false false n e = (λ k. rw (n, e) (itself a k), λ k. rw (n, e) (total a b n k e))
 
-abbrev more : Float → Float → Bool
+abbrev pub more : Float → Float → Bool
 more x y = lt y x
 
 abbrev atLeast : Float → Float → Bool

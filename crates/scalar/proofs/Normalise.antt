@@ -1,13 +1,15 @@
 -- Digits shifted to be 24 of them: by the zeros that lead them in 32 digits, less 8. The exponent falls by as much. Assumes nothing.
-use mathlib.Core.Path.{_≡_, sym, ap, _∙_}
+use mathlib.Core.Path.{_≡_, sym, ap, _∙_, subst}
 use Prim.Native.Nat.{ℕ, suc, _+_, _-_, _*_, _/_, _%_, _^_, _≤_, _<_}
 use native.Mathlib.Nat.{le-trans, le-of-eq, lt-of-lt-of-le, lt-of-le-of-lt, lt-of-not-le, lt-irrefl, mul-assoc, mul-le-mul-right, mod-eq-of-lt}
 use native.Mathlib.Omega.{arith}
 use lib.Dec.{lit≤}
 use lib.Pow.{pow-add, pow-mono, shl-lt}
 use lib.Count.{leadingZeros, leading-top}
+use lib.Ieee.{binary32, ofBits}
+use Rattle.scalar.specs.Root.{rootOfUnits}
 use Rattle.scalar.specs.RootPattern.{rootDigits, rootPattern}
-use Rattle.scalar.proofs.RootPattern.{digits-in}
+use Rattle.scalar.proofs.RootPattern.{digits-in, root-pattern}
 
 -- t * 2 ^ k units are m * 2 ^ (h - 126) units, said without a fraction
 pub record Shifted (t k z m h : ℕ) : Type 0 where
@@ -62,3 +64,24 @@ pattern-lt m h lo hi l = go h (rootDigits m h) l (digits-in m h lo hi .1)
   where
     go : (h d : ℕ) → h ≤ 400 → d ≤ 2 ^ 24 → h / 2 * 2 ^ 23 + d < 0x7f80_0000
     go h d a b = omega arith
+
+-- ---- the root of t * 2 ^ k units, by the pattern of its shifted digits
+pub record Rooted (t k m h : ℕ) : Type 0 where
+  pub low : 2 ^ 23 ≤ m
+  pub high : m < 2 ^ 24
+  pub is : ofBits binary32 (rootPattern m h) ≡ rootOfUnits (t * 2 ^ k)
+  pub finite : rootPattern m h < 0x7f80_0000
+
+pub rooted : (t k z : ℕ) → 0 < t → t < 2 ^ 24 → k ≤ 253 → z ≡ leadingZeros 32 t - 8 → Rooted t k (t * 2 ^ z % 2 ^ 32) (k + 126 - z)
+rooted t k z p l b e = go (subst (λ (x : ℕ). Shifted t k x (t * 2 ^ x) (k + 126 - x)) (sym e) (shifted t k p l))
+  where
+    go : Shifted t k z (t * 2 ^ z) (k + 126 - z) → Rooted t k (t * 2 ^ z % 2 ^ 32) (k + 126 - z)
+    go s =
+        let few : k + 126 - z ≤ 400 = omega arith in
+        subst (λ (m : ℕ). Rooted t k m (k + 126 - z)) (sym (in-word (t * 2 ^ z) (s .high)))
+        (record {
+          low = s .low;
+          high = s .high;
+          is = sym (root-pattern (t * 2 ^ k) (t * 2 ^ z) (k + 126 - z) (s .low) (s .high) (omega (arith, s .most)) few (s .exact));
+          finite = pattern-lt (t * 2 ^ z) (k + 126 - z) (s .low) (s .high) few;
+        })

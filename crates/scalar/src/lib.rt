@@ -28,6 +28,7 @@ pub fn bits(x: f32) -> u32
     f32::to_bits(x)
 }
 
+// The smaller one. A NaN is dropped, and of two equal ones, -0 and +0 too, the first is the answer.
 pub fn min(a: f32, b: f32) -> f32
     ensures { λ r. ⌜ r ≡ minOf a b ⌝ }
 {
@@ -40,6 +41,7 @@ pub fn min(a: f32, b: f32) -> f32
     a
 }
 
+// The larger one, by the same rules.
 pub fn max(a: f32, b: f32) -> f32
     ensures { λ r. ⌜ r ≡ maxOf a b ⌝ }
 {
@@ -52,6 +54,7 @@ pub fn max(a: f32, b: f32) -> f32
     a
 }
 
+// x without its sign.
 pub fn abs(x: f32) -> f32
     ensures { λ r. ⌜ r ≡ absOf x ⌝ }
 {
@@ -81,7 +84,7 @@ pub fn trunc(x: f32) -> i32
     std::num::truncating_f32_to_i64(x) as i32
 }
 
-// The square root, correctly rounded.
+// The square root, correctly rounded: NaN of NaN and below zero, either zero of itself.
 pub fn sqrt(x: f32) -> f32
     ensures { λ r. ⌜ r ≡ sqrtOf x ⌝ }
 {

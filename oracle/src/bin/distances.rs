@@ -63,7 +63,8 @@ fn main() {
     ours::warn_of_stand_ins();
     let mut r = Random::new(argument(2, 1));
     let mut mufs = Histogram::new("MUFs (E, F1, F2, Es, circuit)");
-    let mut rows = Histogram::new("rows");
+    let mut rows = Histogram::new("rows (fvert, hprim, htrue)");
+    let mut losses = Histogram::new("loss factors (afac)");
     let mut cells = Histogram::new("cells, kHz");
     for _ in 0..argument(1, 100_000) {
         let state = states::slots(&mut r);
@@ -74,10 +75,11 @@ fn main() {
         let k = ours[KS] as usize;
         let ours = routed::side::sheet(&state, k, 34, &ours[KS + 1..]);
         let rust = voacap::side::sheet(&state, k, 34, &rust[KS + 1..]);
-        rows.numbers(&ours.1, &rust.1);
+        rows.numbers(&ours.1[..90], &rust.1[..90]);
+        losses.numbers(&ours.1[90..], &rust.1[90..]);
         cells.whole(&ours.2, &rust.2);
     }
-    for histogram in [mufs, rows, cells] {
+    for histogram in [mufs, rows, losses, cells] {
         histogram.print();
     }
 }

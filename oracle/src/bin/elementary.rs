@@ -9,10 +9,8 @@
 use oracle::float::{distance, same};
 use oracle::precise::{self, Pair};
 use oracle::random::Random;
-use oracle::report::{argument, finish, Verdict};
+use oracle::report::{argument, finish, nanoseconds, Verdict};
 use oracle::{float, ours};
-use std::hint::black_box;
-use std::time::Instant;
 
 /// One function under trial.
 struct Function {
@@ -168,8 +166,9 @@ impl Found {
         let unit = last_place(got);
         let error = ((f64::from(got) - exact) / unit).abs();
         self.not_nearest += u64::from(error > 0.5);
-        // Not `>=`: a NaN error is too far.
-        if !(error < 1.0) {
+        // A NaN error is too far.
+        let near = error < 1.0;
+        if !near {
             self.too_far += 1;
             if self.too_far <= 3 {
                 println!("  {}({:08x}): {error} last places", f.name, x.to_bits());
@@ -179,7 +178,7 @@ impl Found {
             self.largest = error;
             self.largest_at = x.to_bits();
         }
-        if self.inputs % SAMPLE == 0 && exact.abs() > 1e-300 {
+        if self.inputs.is_multiple_of(SAMPLE) && exact.abs() > 1e-300 {
             self.check_reference(f, x, exact, unit);
         }
     }
@@ -187,7 +186,8 @@ impl Found {
     fn check_reference(&mut self, f: &Function, x: f32, exact: f64, unit: f64) {
         self.checked += 1;
         let off = (f.precise)(f64::from(x)).distance(exact, unit);
-        self.reference_off += u64::from(!(off < 2f64.powi(-28)));
+        let near = off < 2f64.powi(-28);
+        self.reference_off += u64::from(!near);
     }
 
     fn distance(&mut self, ours: f32, rust: f32) {
@@ -262,17 +262,6 @@ fn time(f: &Function) {
     let rust = nanoseconds(&numbers, f.rust);
     let ratio = ours / rust;
     println!("  ours {ours:.1} ns, Rust's own {rust:.1} ns, ratio {ratio:.2}");
-}
-
-fn nanoseconds(numbers: &[f32], f: fn(f32) -> f32) -> f64 {
-    let rounds = 500;
-    let started = Instant::now();
-    for _ in 0..rounds {
-        for x in numbers {
-            black_box(f(black_box(*x)));
-        }
-    }
-    started.elapsed().as_secs_f64() * 1e9 / (rounds * numbers.len()) as f64
 }
 
 fn main() {

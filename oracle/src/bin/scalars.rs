@@ -7,10 +7,8 @@
 use oracle::float::{same, same_number};
 use oracle::ours;
 use oracle::random::{Random, EDGES};
-use oracle::report::{argument, finish, Tally, Verdict};
+use oracle::report::{argument, finish, nanoseconds, Tally, Verdict};
 use oracle::routing::{max_rule, min_rule};
-use std::hint::black_box;
-use std::time::Instant;
 
 fn main() {
     let pairs = argument(1, 100_000_000);
@@ -86,19 +84,8 @@ fn on_pairs(name: &'static str, pairs: u64, ours: Pair, rule: Pair) -> Verdict {
 fn time_roots() {
     let mut random = Random::new(2);
     let numbers: Vec<f32> = (0..4096).map(|_| random.between(0.0001, 1.0)).collect();
-    let ours = nanoseconds(&numbers, |x| ours::scalar_sqrt(x));
+    let ours = nanoseconds(&numbers, ours::scalar_sqrt);
     let rust = nanoseconds(&numbers, f32::sqrt);
     let ratio = ours / rust;
     println!("sqrt: ours {ours:.2} ns, hardware {rust:.2} ns, ratio {ratio:.2}");
-}
-
-fn nanoseconds(numbers: &[f32], f: impl Fn(f32) -> f32) -> f64 {
-    let rounds = 2000;
-    let started = Instant::now();
-    for _ in 0..rounds {
-        for x in numbers {
-            black_box(f(black_box(*x)));
-        }
-    }
-    started.elapsed().as_secs_f64() * 1e9 / (rounds * numbers.len()) as f64
 }

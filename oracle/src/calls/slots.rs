@@ -15,7 +15,7 @@ pub fn from_layers(r: &mut Random) -> Call {
     let before = state.clone();
     let count = points.len() / POINT;
     let wanted = long_enough(&[(&state, STATE)]).and_then(|()| {
-        let right = points.len() % POINT == 0 && (1..=5).contains(&count);
+        let right = points.len().is_multiple_of(POINT) && (1..=5).contains(&count);
         right.then(|| side::from_layers(&points)).ok_or(5)
     });
     Call {

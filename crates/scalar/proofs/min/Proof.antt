@@ -1,20 +1,21 @@
 -- `scalar::min` meets its contract: the two tests of the code are the two of the definition, in that order. Assumes nothing.
-use Rattle.scalar.specs.Scalar.{orSecond, minOf}
-use Rattle.scalar.proofs.Nan.{differs-is-nan}
+use lib.Ieee.{lt}
+use Rattle.scalar.specs.Scalar.{minOf}
+use Rattle.scalar.proofs.MinMax.{of-nan, of-better, of-other}
 use Rattle.scalar.proofs.min.Statement.{statement}
 use Rattle.scalar.proofs.min.Tie as tie
 
 returns : tie.Need-returns
-unfolding minOf orSecond
-returns c = rw (← differs-is-nan (c .before .args .a), c .if1 .taken)
+unfolding minOf
+returns c = of-nan lt (c .before .args .a) (c .before .args .b) (c .if1 .taken)
 
 returns-2 : tie.Need-returns-2
-unfolding minOf orSecond
-returns-2 c = rw (← differs-is-nan (c .before .before .args .a), c .before .if1 .left, c .if2 .taken)
+unfolding minOf
+returns-2 c = of-better lt (c .before .before .args .a) (c .before .before .args .b) (c .before .if1 .left) (c .if2 .taken)
 
 returns-3 : tie.Need-returns-3
-unfolding minOf orSecond
-returns-3 c = rw (← differs-is-nan (c .before .before .args .a), c .before .if1 .left, c .if2 .left)
+unfolding minOf
+returns-3 c = of-other lt (c .before .before .args .a) (c .before .before .args .b) (c .before .if1 .left) (c .if2 .left)
 
 pub min-spec : {M : Type 1} → statement M
 min-spec = tie.close (tie.spec returns returns-2 returns-3)

@@ -1,12 +1,18 @@
 -- Each return is one case of the definition.
 use mathlib.Core.Path.{_≡_, refl, sym, ap, ap₂, _∙_, subst, subst₂}
 use Prim.Native.Nat.{ℕ, zero, suc, _+_, _-_, _*_, _/_, _%_, _^_, _<_, _≤_}
-use native.Mathlib.Nat.{le-trans, le-of-eq}
+use native.Mathlib.Omega.{arith}
+use native.Mathlib.Nat.{le-trans, le-of-eq, lt-of-lt-of-le}
+use Rattle.fixed.specs.Fixed.{scaledOf, pick}
+use lib.Dec.{ltb}
 use Rattle.exponential.specs.Exp.{grown, shrunk, expBits}
-use Rattle.exponential.proofs.ExpCases.{at-nan, at-tiny, at-top, at-plus, at-bottom, at-minus, below-plus, below-minus}
+use Rattle.exponential.proofs.ExpCases.{at-nan, at-tiny, at-past, at-signed, limit-le, in-range}
 use borrow.Author.Needs.{needs}
 use Rattle.exponential.proofs.exponent.exp_bits.Statement.{statement}
 use Rattle.exponential.proofs.exponent.exp_bits.Tie as tie
+
+field-le : (a v : ℕ) → a < v → v ≤ 0x42d0_0000 → a / 2 ^ 23 ≤ 133
+field-le a v h k = omega arith
 
 returns : tie.Need-returns
 returns c = sym (at-nan (c .before .args .b) (c .if1 .taken))
@@ -14,29 +20,23 @@ returns c = sym (at-nan (c .before .args .b) (c .if1 .taken))
 returns-2 : tie.Need-returns-2
 returns-2 c = sym (at-tiny (c .before .before .args .b) (c .if2 .taken))
 
+limit-requires : tie.Need-limit-requires
+limit-requires c κs = search needs
+
+past-requires : tie.Need-past-requires
+past-requires c κs = search needs
+
 returns-3 : tie.Need-returns-3
-returns-3 c = sym (at-top (c .before .before .before .before .args .b) (c .before .before .before .if1 .left) (c .before .if3 .taken) (c .if4 .taken))
+returns-3 c = let s = c .before .before .before .before .before in at-past (s .args .b) (c .before .before .limit .result) (c .before .before .limit .ensures) (c .past .result) (c .before .before .before .before .if1 .left) (c .before .if3 .taken) (c .past .ensures)
 
 scaled-requires : tie.Need-scaled-requires
-scaled-requires c κs = search needs
+scaled-requires c κs = let s = c .before .before .before .before in (omega arith, field-le (s .args .b % 2 ^ 31) (c .before .limit .result) (c .if3 .left) (limit-le (s .args .b) (c .before .limit .result) (c .before .limit .ensures)))
 
-grow-requires : tie.Need-grow-requires
-grow-requires c κs = le-trans (le-of-eq (c .scaled .ensures)) (below-plus (c .before .before .before .before .before .args .b % 2 ^ 31) (c .before .if4 .left))
+signed-requires : tie.Need-signed-requires
+signed-requires c κs = let s = c .before .before .before .before .before in (omega arith, subst (λ (x : ℕ). x + (1 - s .args .b / 2 ^ 31) * (0x1e_8de9 * 2 ^ 39) ≤ 104 * 2 ^ 56) (sym (c .scaled .ensures)) (in-range (s .args .b) (c .before .before .limit .result) (c .before .before .limit .ensures) (c .before .if3 .left)))
 
 returns-4 : tie.Need-returns-4
-returns-4 c = c .grow .ensures ∙ ap grown (c .before .scaled .ensures) ∙ sym (at-plus (c .before .before .before .before .before .before .args .b) (c .before .before .before .if3 .taken) (c .before .before .before .before .if2 .left) (c .before .before .if4 .left))
-
-returns-5 : tie.Need-returns-5
-returns-5 c = sym (at-bottom (c .before .before .before .before .args .b) (c .before .before .before .if1 .left) (c .before .if3 .left) (c .if5 .taken))
-
-scaled-requires-2 : tie.Need-scaled-requires-2
-scaled-requires-2 c κs = search needs
-
-shrink-requires : tie.Need-shrink-requires
-shrink-requires c κs = le-trans (le-of-eq (c .scaled2 .ensures)) (below-minus (c .before .before .before .before .before .args .b % 2 ^ 31) (c .before .if5 .left))
-
-returns-6 : tie.Need-returns-6
-returns-6 c = c .shrink .ensures ∙ ap shrunk (c .before .scaled2 .ensures) ∙ sym (at-minus (c .before .before .before .before .before .before .args .b) (c .before .before .before .if3 .left) (c .before .before .before .before .if2 .left) (c .before .before .if5 .left))
+returns-4 c = let s = c .before .before .before .before .before .before in at-signed (s .args .b) (c .before .before .before .limit .result) (c .before .before .before .limit .ensures) (c .signed .result) (c .before .before .before .before .if2 .left) (c .before .before .if3 .left) (c .signed .ensures ∙ ap (λ (x : ℕ). pick (ltb (s .args .b / 2 ^ 31) 1) (grown x) (shrunk x)) (c .before .scaled .ensures))
 
 pub exp-bits-spec : {M : Type 1} → statement M
 exp-bits-spec =
@@ -44,11 +44,9 @@ exp-bits-spec =
     (tie.spec
     returns
     returns-2
+    limit-requires
+    past-requires
     returns-3
     scaled-requires
-    grow-requires
-    returns-4
-    returns-5
-    scaled-requires-2
-    shrink-requires
-    returns-6)
+    signed-requires
+    returns-4)

@@ -13,7 +13,7 @@ use Rattle.exponential.proofs.exponent.power.Statement.{statement}
 use Rattle.exponential.proofs.exponent.power.Tie as tie
 
 -- with the entry F and the rise p that the two calls give
-module _ (R f p : ℕ) (h : R < ln2) (e : f ≡ factor R) (r : p ≡ riseOf (left R)) where
+module _ (R f p : ℕ) (h : R ≤ ln2) (e : f ≡ factor R) (r : p ≡ riseOf (left R)) where
   bound : f / 2 ^ 32 * p ≤ 2 ^ 63 + 2 ^ 59
   bound = subst₂ (λ (x y : ℕ). x / 2 ^ 32 * y ≤ 2 ^ 63 + 2 ^ 59) (sym e) (sym r) (product-le (factor R) (riseOf (left R)) (entry-le (R / 2 ^ 52) (omega arith)) (rise-le (left R) (omega arith)))
 

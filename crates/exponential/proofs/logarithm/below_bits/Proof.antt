@@ -6,10 +6,10 @@ use mir.Syntax.{w32, w64}
 use mir.Val.{Fits}
 use lib.Dec.{lit≤}
 use Rattle.fixed.specs.Fixed.{pattern}
-use Rattle.fixed.proofs.Round.{rounded}
+use Rattle.fixed.proofs.Round.{pattern-lt}
 use Rattle.exponential.specs.Tables.{ln2}
 use Rattle.exponential.specs.Ln.{restOf, below}
-use Rattle.exponential.proofs.LnRange.{rest-le, pattern-lt}
+use Rattle.exponential.proofs.LnRange.{rest-le}
 use borrow.Author.Needs.{needs}
 use Rattle.exponential.proofs.logarithm.below_bits.Statement.{statement}
 use Rattle.exponential.proofs.logarithm.below_bits.Tie as tie
@@ -27,7 +27,7 @@ module _ (c : tie.After-rest) where
   most : y + 2 ^ 30 ≤ ln2
   most = subst (λ (x : ℕ). x + 2 ^ 30 ≤ ln2) (sym (c .rest .ensures)) (rest-le m (c .before .pre .0) (c .before .pre .1))
 
-small : (x p : ℕ) → x ≡ p → p < 2 ^ 31 → Fits w32 (2147483648 + x)
+small : (x p : ℕ) → x ≡ p → p < 255 * 2 ^ 23 → Fits w32 (2147483648 + x)
 small x p e h = omega arith
 
 rest-requires : tie.Need-rest-requires

@@ -1,48 +1,30 @@
--- `scalar::root::whole_root` meets its contract. The loop's invariant: n is below the square of r + 1, and r is at most 2 ^ 25. The measure is r. Assumes nothing.
-use mathlib.Core.Path.{subst}
-use Prim.Native.Nat.{ℕ, _+_, _*_, _^_, _≤_, _<_}
-use native.Mathlib.Nat.{lt-of-le-of-lt, mul-le-mul, div-le-self}
-use native.Mathlib.Numerals.{add-one}
+-- `scalar::root::whole_root` meets its contract: the two tests say that the guess is the root, and else `raised` gives it. Assumes nothing.
+use Prim.Native.Nat.{_^_}
+use native.Mathlib.Nat.{le-of-lt, lt-of-le-of-lt, mul-le-mul}
 use native.Mathlib.Omega.{arith}
+use borrow.Author.Needs.{needs}
 use lib.Dec.{lit<}
 use Rattle.scalar.proofs.WholeRoot.{root-only}
-use Rattle.scalar.proofs.MeanStep.{step-not-below, step-down, guess-pos}
 use Rattle.scalar.proofs.root.whole_root.Statement.{statement}
 use Rattle.scalar.proofs.root.whole_root.Tie as tie
 
-abbrev Inv-loop : tie.InvT-loop
-Inv-loop n r₀ r = (n < (r + 1) * (r + 1)) × (r ≤ 2 ^ 25)
+mul-square : tie.Need-mul-square
+mul-square c = record { fits = lt-of-le-of-lt (mul-le-mul (le-of-lt (c .pre .1)) (le-of-lt (c .pre .1))) (lit< tt) }
 
-abbrev μ-loop : tie.MeasureT-loop
-μ-loop n r₀ r = r
+mul-if2 : tie.Need-mul-if2
+mul-if2 c = search needs
 
-loop-holds : tie.Need-loop-holds Inv-loop μ-loop
-loop-holds c = omega arith
+returns : tie.Need-returns
+returns c = root-only (c .before .before .args .n) (c .before .before .args .guess) (omega arith, omega arith)
 
-mul-loop : tie.Need-mul-loop Inv-loop μ-loop
-mul-loop c = record { fits = lt-of-le-of-lt (mul-le-mul (c .loop .inv .1) (c .loop .inv .1)) (lit< tt) }
+lowered-requires : tie.Need-lowered-requires
+lowered-requires c κs = search needs
 
-div-r : tie.Need-div-r Inv-loop μ-loop
-div-r c = guess-pos (c .before .before .args .n) (c .before .loop .r) (c .loop-test .taken)
+raised-requires : tie.Need-raised-requires
+raised-requires c κs = search needs
 
-add-r : tie.Need-add-r Inv-loop μ-loop
-add-r c = omega (arith, div-le-self (c .before .before .args .n) (c .before .loop .r))
-
-loop-less : tie.Need-loop-less Inv-loop μ-loop
-loop-less c = step-down (c .before .before .args .n) (c .before .loop .r) (c .loop-test .taken)
-
-loop-again : tie.Need-loop-again Inv-loop μ-loop
-loop-again c =
-    let n = c .before .before .args .n in
-    let r = c .before .loop .r in
-    let d = step-down n r (c .loop-test .taken) in
-    (step-not-below n r (guess-pos n r (c .loop-test .taken)), omega arith)
-
-returns : tie.Need-returns Inv-loop μ-loop
-returns c =
-    let n = c .before .before .args .n in
-    let r = c .before .loop .r in
-    root-only n r (c .loop-test .left, subst (λ (x : ℕ). n < x * x) (add-one r) (c .before .loop .inv .0))
+returns-2 : tie.Need-returns-2
+returns-2 c = search needs
 
 pub whole-root-spec : {M : Type 1} → statement M
-whole-root-spec = tie.close (tie.spec Inv-loop μ-loop loop-holds mul-loop div-r add-r loop-less loop-again returns)
+whole-root-spec = tie.close (tie.spec mul-square mul-if2 returns lowered-requires raised-requires returns-2)

@@ -1,0 +1,52 @@
+-- The circuit that a file holds, or where the file is turned away.
+use Prim.Native.Nat.{ℕ, zero, suc, _+_, _-_}
+use mathlib.Core.List.{List, [], _++_}
+use lib.ListN.{getD, replicate}
+use Rattle.refusal.specs.declared.Outcome.{Outcome}
+use Rattle.circuit.specs.declared.Chain.{Chain}
+use Rattle.circuit.specs.declared.Circuit.{Circuit}
+use Rattle.circuit.specs.declared.ReadAnswer.{ReadAnswer}
+use Rattle.circuit.specs.Record.{Form, recordAt, wordAt, wordsOf}
+use Rattle.circuit.specs.Chain.{chainOf, kmOf, shapeOf, padded}
+
+-- the words, so many a record, of n records of the chain from place `from` on
+unfoldable pub numbersOf : Form → List ℕ → List ℕ → ℕ → ℕ → ℕ → List ℕ
+numbersOf o f order from words zero = []
+numbersOf o f order from words (suc n) =
+    numbersOf o f order from words n ++ wordsOf (recordAt o f (getD order (from + n) 0)) words
+
+-- Record 0, then the points, then what the chain has of kind 3: where it has none, all 576 deciles are zero.
+unfoldable pub circuitOf : Form → List ℕ → Chain → Circuit
+circuitOf o f c =
+    let head = recordAt o f 0 in
+    let km = kmOf head in
+    record {
+      km = km;
+      shape = shapeOf head;
+      gcd = wordAt head 8;
+      gcdkm = wordAt head 12;
+      amind = wordAt head 16;
+      ssn = wordAt head 20;
+      points = padded 75 (numbersOf o f (c .order) 1 15 km);
+      deciles = padded 576 (numbersOf o f (c .order) (1 + km) 12 (c .count - (1 + km)));
+    }
+
+unfoldable pub noCircuit : Circuit
+noCircuit =
+    record {
+      km = 0;
+      shape = 0;
+      gcd = 0;
+      gcdkm = 0;
+      amind = 0;
+      ssn = 0;
+      points = replicate 75 0;
+      deciles = replicate 576 0;
+    }
+
+abbrev pub readBy : Outcome → Circuit → ReadAnswer
+readBy Outcome.Answered c = record { outcome = Outcome.Answered; circuit = c }
+readBy (Outcome.Refused r) c = record { outcome = Outcome.Refused r; circuit = noCircuit }
+
+unfoldable pub readOf : Form → List ℕ → ReadAnswer
+readOf o f = let c = chainOf o f in readBy (c .outcome) (circuitOf o f c)

@@ -1,0 +1,46 @@
+-- A record of a circuit file, and the numbers in it, least significant byte first (document 01, "Circuit file").
+use Prim.Native.Nat.{ℕ, zero, suc, _+_, _*_}
+use mathlib.Core.List.{List, [], _∷_, _++_}
+use mathlib.Core.Bool.{Bool, true, false, _&&_}
+use lib.ListN.{getD, take, drop}
+use lib.Dec.{eqb}
+
+-- How a file is laid out: bytes in a record, the kind of record 0, words in a point.
+pub record Form : Type 0 where
+  pub size : ℕ
+  pub first : ℕ
+  pub point : ℕ
+
+abbrev pub old : Form
+old = record { size = 64; first = 1; point = 15 }
+
+-- the bytes of record n
+abbrev pub recordAt : Form → List ℕ → ℕ → List ℕ
+recordAt o f n = take (o .size) (drop (o .size * n) f)
+
+-- the two, and the four, bytes from `at` as a number
+unfoldable pub halfAt : List ℕ → ℕ → ℕ
+halfAt r at = getD r at 0 + 256 * getD r (at + 1) 0
+
+unfoldable pub wordAt : List ℕ → ℕ → ℕ
+wordAt r at =
+    getD r at 0 + 256 * getD r (at + 1) 0 + 65536 * getD r (at + 2) 0 + 16777216 * getD r (at + 3) 0
+
+abbrev pub kindOf : List ℕ → ℕ
+kindOf r = halfAt r 0
+
+abbrev pub nextOf : List ℕ → ℕ
+nextOf r = halfAt r 2
+
+-- the first n words from byte 4 on
+unfoldable pub wordsOf : List ℕ → ℕ → List ℕ
+wordsOf r zero = []
+wordsOf r (suc n) = wordsOf r n ++ (wordAt r (4 + 4 * n) ∷ [])
+
+unfoldable pub allZero : List ℕ → Bool
+allZero [] = true
+allZero (b ∷ bs) = eqb b 0 && allZero bs
+
+-- of this kind, and zero after so many words
+unfoldable pub fits : ℕ → ℕ → List ℕ → Bool
+fits kind words r = eqb (kindOf r) kind && allZero (drop (4 + 4 * words) r)

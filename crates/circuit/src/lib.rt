@@ -1,0 +1,103 @@
+// The circuit file: a chain of 64-byte records that holds the numbers of one circuit. Every number is held by its bits, so that a
+// NaN keeps its payload.
+mod numbers;
+mod record;
+mod walk;
+
+ghost use mathlib.Core.Path.{_≡_};
+ghost use mathlib.Core.List.{map};
+ghost use mathlib.Core.Bool.{not};
+ghost use lib.Ieee.{ofBits, binary32};
+ghost use Rattle.circuit.specs.Record.{old, allZero};
+ghost use Rattle.circuit.specs.Chain.{chainOf};
+ghost use Rattle.circuit.specs.Read.{readOf};
+use refusal::Outcome;
+use refusal::Refusal;
+
+// The records of a chain, in its order: `count` of them, then zeros. Beside a refusal all are zero.
+pub struct Chain {
+    pub outcome: Outcome,
+    pub order: [usize; 64],
+    pub count: usize,
+}
+
+// A point is fifteen words: fi, yi, hi and Es fs, three each, hs, clat, clck. Points past km are zero.
+pub struct Circuit {
+    pub km: usize,
+    pub shape: usize,
+    pub gcd: u32,
+    pub gcdkm: u32,
+    pub amind: u32,
+    pub ssn: u32,
+    pub points: [u32; 75],
+    pub deciles: [u32; 576],
+}
+
+// Beside a refusal every number of the circuit is zero.
+pub struct ReadAnswer {
+    pub outcome: Outcome,
+    pub circuit: Circuit,
+}
+
+// Where the next index of a record leads: nowhere, to a record that is there and was not met before, or astray.
+pub enum Step {
+    End,
+    To(usize),
+    Astray,
+}
+
+// The chain of a file, or where it is turned away.
+pub fn follow(file: &[u8]) -> Chain
+    ensures { λ c. ⌜ c ≡ chainOf old (now (file .entry)) ⌝ }
+{
+    walk::follow(file)
+}
+
+// The circuit of a file, or where it is turned away. Records off the chain are not looked at.
+pub fn read(file: &[u8]) -> ReadAnswer
+    ensures { λ r. ⌜ r ≡ readOf old (now (file .entry)) ⌝ }
+{
+    let c = walk::follow(file);
+    let outcome = c.outcome;
+    match outcome {
+        Outcome::Answered => {
+            let circuit = numbers::circuit(file, c);
+            ReadAnswer {
+                outcome: Outcome::Answered,
+                circuit,
+            }
+        }
+        Outcome::Refused(r) => {
+            let circuit = numbers::nothing();
+            ReadAnswer {
+                outcome: Outcome::Refused(r),
+                circuit,
+            }
+        }
+    }
+}
+
+// Whether a circuit has deciles to write: some number of the 576 is not +0.
+pub fn has_deciles(c: Circuit) -> bool
+    ensures { λ b. ⌜ b ≡ not (allZero (c .deciles)) ⌝ }
+{
+    let d = c.deciles;
+    !numbers::all_zero(&d)
+}
+
+// The flat decile table. It stays as it is made where the chain had no record of kind 3.
+pub fn decile_table(c: Circuit) -> [f32; 576]
+    ensures { λ t. ⌜ t ≡ map (ofBits binary32) (c .deciles) ⌝ }
+{
+    let mut table = [0.0; 576];
+    let d = c.deciles;
+    if numbers::all_zero(&d) {
+        return table;
+    }
+    let mut i = 0;
+    while i < 576 {
+        table[i] = scalar::number(d[i]);
+        i += 1;
+    }
+    table
+}

@@ -1,0 +1,5 @@
+pub mod Terms
+pub mod Sums
+pub mod Waves
+pub mod Ends
+pub mod Atan

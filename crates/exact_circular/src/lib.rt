@@ -1,0 +1,1 @@
+// Sine, cosine, arc sine and arc tangent are less than one unit in the last place from the exact values: theorems, no code.

@@ -1,0 +1,1 @@
+// exp and ln are near the exact values: theorems, no code.

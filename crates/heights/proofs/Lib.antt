@@ -1,0 +1,5 @@
+pub mod Tables
+pub mod Owned
+pub mod Rise
+pub mod Walks
+pub mod Whole

@@ -1,0 +1,101 @@
+-- The loop's invariant: the sum of the terms that are done.
+use mathlib.Core.Path.{_≡_, refl}
+use mathlib.Core.List.{List}
+use Prim.Native.Nat.{_≤_, _<_, _+_, _-_, _*_, ℕ, suc}
+use native.Mathlib.Nat.{le-antisymm}
+use native.Mathlib.Numerals.{add-one}
+use native.Mathlib.Omega.{arith}
+use borrow.Author.Needs.{needs}
+use lib.Ieee.{Float}
+use Rattle.scalar.specs.F32.{_+f_, _*f_}
+use Rattle.readings.specs.Scan.{at}
+use Rattle.heights.specs.Nodes.{wt}
+use Rattle.heights.specs.Gethp.{mupOf, hpOf}
+use Rattle.heights.specs.Walk.{flat}
+use Rattle.heights.proofs.quadrature.Statement.{statement}
+use Rattle.heights.proofs.quadrature.Tie as tie
+
+one-turn : (ysq wts : List Float) (ig : ℕ) (hp m0 m1 : Float) → wts ≡ wt → hp ≡ hpOf (flat ysq) ig → m0 ≡ mupOf (at ysq (2 * ig)) → m1 ≡ mupOf (at ysq (2 * ig + 1)) → hp +f at wts ig *f (m0 +f m1) ≡ hpOf (flat ysq) (ig + 1)
+unfolding hpOf
+one-turn ysq wts ig hp m0 m1 ew eh e0 e1 = let z : 2 * ig + 0 ≡ 2 * ig = omega arith in rw (add-one ig, z, ew, eh, e0, e1)
+
+abbrev Inv-loop : tie.InvT-loop
+Inv-loop ysq wts hp₀ ig₀ hp ig = (ig ≤ 20) × (hp ≡ hpOf (flat ysq) ig)
+
+abbrev μ-loop : tie.MeasureT-loop
+μ-loop ysq wts hp₀ ig₀ hp ig = 20 - ig
+
+loop-holds : tie.Need-loop-holds Inv-loop μ-loop
+unfolding hpOf
+loop-holds c = (omega arith, refl)
+
+mul-lower : tie.Need-mul-lower Inv-loop μ-loop
+mul-lower c = omega arith
+
+mul-upper : tie.Need-mul-upper Inv-loop μ-loop
+mul-upper c = omega arith
+
+add-upper : tie.Need-add-upper Inv-loop μ-loop
+add-upper c = omega arith
+
+mul-mup : tie.Need-mul-mup Inv-loop μ-loop
+mul-mup c = omega arith
+
+element-copy-out-mup : tie.Need-element-copy-out-mup Inv-loop μ-loop
+element-copy-out-mup c = omega arith
+
+mup-requires : tie.Need-mup-requires Inv-loop μ-loop
+mup-requires c κs = search needs
+
+mul-mup-2 : tie.Need-mul-mup-2 Inv-loop μ-loop
+mul-mup-2 c = omega arith
+
+element-copy-out-mup-2 : tie.Need-element-copy-out-mup-2 Inv-loop μ-loop
+element-copy-out-mup-2 c = omega arith
+
+mup-requires-2 : tie.Need-mup-requires-2 Inv-loop μ-loop
+mup-requires-2 c κs = search needs
+
+mul-w : tie.Need-mul-w Inv-loop μ-loop
+mul-w c = omega arith
+
+element-copy-out-w : tie.Need-element-copy-out-w Inv-loop μ-loop
+element-copy-out-w c = omega arith
+
+add-ig : tie.Need-add-ig Inv-loop μ-loop
+add-ig c = omega arith
+
+loop-less : tie.Need-loop-less Inv-loop μ-loop
+loop-less c = omega arith
+
+loop-again : tie.Need-loop-again Inv-loop μ-loop
+loop-again c =
+    let l = c .before .before .before .before .before .before .loop in
+    let s = c .before .before .before .before .before .before .before in
+    (omega arith, one-turn (s .args .ysq .now) (s .args .wts .now) (l .ig) (l .hp) _ _ (c .before .before .before .before .before .before .before .pre) (l .inv .1) (c .before .before .before .mup .ensures) (c .before .mup2 .ensures))
+
+returns : tie.Need-returns Inv-loop μ-loop
+returns c = rw (le-antisymm (c .before .loop .inv .0) (c .loop-test .left)) at (c .before .loop .inv .1)
+
+pub quadrature-spec : {M : Type 1} → statement M
+quadrature-spec =
+    tie.close
+    (tie.spec
+    Inv-loop
+    μ-loop
+    loop-holds
+    mul-lower
+    mul-upper
+    add-upper
+    mul-mup
+    element-copy-out-mup
+    mup-requires
+    mul-mup-2
+    element-copy-out-mup-2
+    mup-requires-2
+    mul-w
+    element-copy-out-w
+    add-ig
+    loop-less
+    loop-again
+    returns)

@@ -1,0 +1,84 @@
+-- The loop's invariant: the table holds the densities of the turns that are done.
+use mathlib.Core.Path.{_≡_, refl}
+use mathlib.Core.List.{List}
+use Prim.Native.Nat.{_≤_, _<_, _+_, _-_, _/_, _%_, ℕ, suc}
+use native.Mathlib.Nat.{le-antisymm}
+use native.Mathlib.Numerals.{add-one}
+use native.Mathlib.Omega.{arith}
+use borrow.Author.Needs.{needs}
+use lib.ListN.{set}
+use lib.Ieee.{Float}
+use Rattle.readings.specs.Scan.{at, readingOf}
+use Rattle.readings.specs.declared.Reading.{Reading}
+use Rattle.heights.specs.Nodes.{heightOf}
+use Rattle.heights.specs.Gethp.{cutOf, ysqOf}
+use Rattle.heights.specs.Walk.{filled, scanTable}
+use Rattle.heights.proofs.scan_densities.Statement.{statement}
+use Rattle.heights.proofs.scan_densities.Tie as tie
+
+one-turn : (htr fnsq : List Float) (ht fr : Float) (k : ℕ) (ysq : List Float) (zi : Float) (g : Reading) (y : Float) → ysq ≡ scanTable htr fnsq ht fr k → zi ≡ heightOf (at htr 0) ht (k / 2) (k % 2) → g ≡ readingOf htr fnsq zi → y ≡ cutOf g fr → set ysq k y ≡ scanTable htr fnsq ht fr (k + 1)
+unfolding scanTable filled ysqOf
+one-turn htr fnsq ht fr k ysq zi g y el ez eg ey = rw (add-one k, ey, eg, ez, el)
+
+abbrev Inv-loop : tie.InvT-loop
+Inv-loop htr fnsq xts ht fr h0 ysq₀ k₀ ysq k = (k ≤ 40) × (ysq ≡ scanTable htr fnsq ht fr k) × (h0 ≡ at htr 0)
+
+abbrev μ-loop : tie.MeasureT-loop
+μ-loop htr fnsq xts ht fr h0 ysq₀ k₀ ysq k = 40 - k
+
+element-copy-out-h0 : tie.Need-element-copy-out-h0 Inv-loop μ-loop
+element-copy-out-h0 c = omega arith
+
+loop-holds : tie.Need-loop-holds Inv-loop μ-loop
+unfolding scanTable filled
+loop-holds c = (omega arith, refl, refl)
+
+height-requires : tie.Need-height-requires Inv-loop μ-loop
+height-requires c κs = (omega arith, c .before .before .before .pre)
+
+read-by-scan-requires : tie.Need-read-by-scan-requires Inv-loop μ-loop
+read-by-scan-requires c κs = search needs
+
+cut-requires : tie.Need-cut-requires Inv-loop μ-loop
+cut-requires c κs = search needs
+
+mul-ysq : tie.Need-mul-ysq Inv-loop μ-loop
+mul-ysq c = omega arith
+
+array-write-ysq : tie.Need-array-write-ysq Inv-loop μ-loop
+array-write-ysq c = omega arith
+
+add-k : tie.Need-add-k Inv-loop μ-loop
+add-k c = omega arith
+
+loop-less : tie.Need-loop-less Inv-loop μ-loop
+loop-less c = omega arith
+
+loop-again : tie.Need-loop-again Inv-loop μ-loop
+loop-again c =
+    let l = c .before .before .before .before .loop in (
+      omega arith,
+      one-turn _ _ _ _ (l .k) _ _ _ _ (l .inv .1) (rw (l .inv .2) at (c .before .before .height .ensures)) (c .before .read-by-scan .ensures) (c .cut .ensures),
+      l .inv .2,
+    )
+
+returns : tie.Need-returns Inv-loop μ-loop
+returns c = rw (le-antisymm (c .before .loop .inv .0) (c .loop-test .left)) at (c .before .loop .inv .1)
+
+pub scan-densities-spec : {M : Type 1} → statement M
+scan-densities-spec =
+    tie.close
+    (tie.spec
+    Inv-loop
+    μ-loop
+    element-copy-out-h0
+    loop-holds
+    height-requires
+    read-by-scan-requires
+    cut-requires
+    mul-ysq
+    array-write-ysq
+    add-k
+    loop-less
+    loop-again
+    returns)

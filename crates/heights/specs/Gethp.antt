@@ -1,0 +1,64 @@
+-- `gethp`: the virtual and the true height of a vertical frequency, off the density profile, with the cursor that document 01 adds.
+-- The densities are those of forty full scans. On a rising profile the code reads them by one walk; that this is the same is proved (`walk-is-scan`).
+use mathlib.Core.Bool.{Bool, true, false}
+use mathlib.Core.List.{List}
+use Prim.Native.Nat.{ℕ, zero, suc}
+use lib.Ieee.{Float}
+use Rattle.scalar.specs.F32.{_+f_, _-f_, _*f_, _/f_, _≤f_}
+use Rattle.scalar.specs.Literals.{f0, f0·9999, f1}
+use Rattle.scalar.specs.Scalar.{minOf}
+use Rattle.scalar.specs.Root.{sqrtOf}
+use Rattle.layers.specs.declared.IonoState.{IonoState}
+use Rattle.profile.specs.Rising.{risesOf}
+use Rattle.readings.specs.Scan.{at, valueOf, profileInterpolateOf, readingOf}
+use Rattle.readings.specs.Cursor.{countOf}
+use Rattle.readings.specs.declared.Reading.{Reading}
+use Rattle.heights.specs.Nodes.{wt, xnpl, twdiv, heightOf, heightAt}
+use Rattle.heights.specs.declared.Heights.{Heights}
+
+-- ---- the densities
+-- a reading's density over fr, cut at 0.9999; a NaN becomes 0.9999
+unfoldable pub cutOf : Reading → Float → Float
+cutOf r fr = let y = valueOf r in minOf (y /f fr) f0·9999
+
+-- ysq[ig][ib]
+unfoldable pub ysqOf : List Float → List Float → Float → Float → ℕ → ℕ → Float
+ysqOf htr fnsq ht fr ig ib = let zi = heightOf (at htr 0) ht ig ib in cutOf (readingOf htr fnsq zi) fr
+
+-- ---- the quadrature
+unfoldable pub mupOf : Float → Float
+mupOf ysq = f1 /f sqrtOf (f1 -f ysq)
+
+-- the first terms, from ig = 0 on
+unfoldable pub hpOf : (ℕ → ℕ → Float) → ℕ → Float
+hpOf ysq zero = f0
+hpOf ysq (suc ig) = hpOf ysq ig +f at wt ig *f (mupOf (ysq ig 0) +f mupOf (ysq ig 1))
+
+-- ---- the whole, over the densities and the cursor that a height difference gives: is fr - fnsq[0] <= 0
+abbrev pub gethpBy : Bool → List Float → List Float → Float → (Float → ℕ → ℕ → Float) → (Float → ℕ) → Heights
+gethpBy true htr fnsq fr ysq cursor = record { hp = at htr 0; ht = at htr 0; cursor = 0 }
+gethpBy false htr fnsq fr ysq cursor =
+    let ht = profileInterpolateOf fnsq htr fr -f at htr 0 in
+    let hrmz = ht *f twdiv *f xnpl in
+    let hp = hpOf (ysq ht) 20 in
+    record { hp = at htr 0 +f hrmz *f hp; ht = at htr 0 +f ht; cursor = cursor ht }
+
+-- the cursor after the last read: document 01's count where the heights rise, and 0 where no walk runs
+unfoldable pub cursorBy : Bool → List Float → Float → ℕ
+cursorBy true htr ht = countOf htr (heightAt (at htr 0) ht 39)
+cursorBy false htr ht = 0
+
+unfoldable pub gethpOf : IonoState → Float → Heights
+gethpOf s fxx =
+    let htr = s .htr in
+    let fnsq = s .fnsq in
+    let fr = fxx *f fxx in
+    gethpBy (fr -f at fnsq 0 ≤f f0) htr fnsq fr (λ ht. ysqOf htr fnsq ht fr) (λ ht. cursorBy (risesOf htr) htr ht)
+
+-- by forty scans on every profile: no walk, so no cursor
+unfoldable pub gethpScanOf : IonoState → Float → Heights
+gethpScanOf s fxx =
+    let htr = s .htr in
+    let fnsq = s .fnsq in
+    let fr = fxx *f fxx in
+    gethpBy (fr -f at fnsq 0 ≤f f0) htr fnsq fr (λ ht. ysqOf htr fnsq ht fr) (λ ht. 0)

@@ -1,0 +1,38 @@
+-- What is claimed of the forty reads of `gethp` on a profile whose heights pass the rising test.
+use Prim.Native.Nat.{ℕ, suc, _<_, _≤_}
+use mathlib.Core.Path.{_≡_}
+use mathlib.Core.Bool.{false}
+use lib.Dec.{T}
+use lib.Ieee.{Float}
+use lib.Ieee.Scale.{finite}
+use Rattle.scalar.specs.F32.{_-f_, _*f_, _≤f_}
+use Rattle.scalar.specs.Literals.{f0}
+use Rattle.order.specs.Units.{real}
+use Rattle.layers.specs.declared.IonoState.{IonoState}
+use Rattle.readings.specs.Scan.{at, profileInterpolateOf, readingOf}
+use Rattle.readings.specs.Cursor.{countOf}
+use Rattle.walk.specs.Walk.{movesOf}
+use Rattle.heights.specs.Nodes.{heightAt}
+use Rattle.heights.specs.Gethp.{gethpOf}
+use Rattle.heights.specs.Walk.{readAt, cursorAfter}
+
+-- the reflecting height less the lowest one
+abbrev pub differenceOf : IonoState → Float → Float
+differenceOf s fxx = profileInterpolateOf (s .fnsq) (s .htr) (fxx *f fxx) -f at (s .htr) 0
+
+-- the height of read k
+abbrev pub readHeight : IonoState → Float → ℕ → Float
+readHeight s fxx k = heightAt (at (s .htr) 0) (differenceOf s fxx) k
+
+pub record FortyReads (s : IonoState) (fxx : Float) : Type 0 where
+  -- each reading of the walk, kind and number, is the scan's
+  pub scanned : (k : ℕ) → k < 40 → readAt (s .htr) (s .fnsq) (differenceOf s fxx) k .reading ≡ readingOf (s .htr) (s .fnsq) (readHeight s fxx k)
+  -- the cursor is 0 before the first read, and after each one the count of its height
+  pub starts : cursorAfter (s .htr) (s .fnsq) (differenceOf s fxx) 0 ≡ 0
+  pub counts : (k : ℕ) → k < 40 → cursorAfter (s .htr) (s .fnsq) (differenceOf s fxx) (suc k) ≡ countOf (s .htr) (readHeight s fxx k)
+  -- the last one's is handed up, where the reads take place
+  pub handed : (fxx *f fxx -f at (s .fnsq) 0 ≤f f0) ≡ false → gethpOf s fxx .cursor ≡ cursorAfter (s .htr) (s .fnsq) (differenceOf s fxx) 40
+  -- its moves over the forty reads
+  pub moved : movesOf (s .htr) (s .fnsq) (readHeight s fxx) 40 ≤ 49
+  -- no read is below the one before it, where the lowest height is finite and the difference is not a NaN
+  pub rising : T (real (differenceOf s fxx)) → T (finite (at (s .htr) 0)) → (k : ℕ) → suc k < 40 → T (readHeight s fxx k ≤f readHeight s fxx (suc k))

@@ -1,0 +1,14 @@
+-- `xlin` of sigdis.rs at length 50: after its first test the loop is that of `profile_interpolate`, letter for letter.
+use mathlib.Core.Bool.{Bool, true, false}
+use mathlib.Core.List.{List}
+use lib.Ieee.{Float}
+use Rattle.scalar.specs.F32.{_-f_, _>f_}
+use Rattle.scalar.specs.Literals.{f0}
+use Rattle.readings.specs.Scan.{at, profileInterpolateOf}
+
+abbrev pub xlinBy : Bool → Float → List Float → List Float → Float
+xlinBy true x xn yn = at yn 0
+xlinBy false x xn yn = profileInterpolateOf xn yn x
+
+unfoldable pub xlinOf : Float → List Float → List Float → Float
+xlinOf x xn yn = xlinBy (at xn 0 -f x >f f0) x xn yn

@@ -1,0 +1,348 @@
+// Heights off the density profile: port of GETHP, by 20-point Gaussian integration.
+ghost use mathlib.Core.Path.{_≡_};
+ghost use Prim.Native.Nat.{_<_};
+ghost use lib.Dec.{eqb};
+ghost use denote.Ref.{now};
+ghost use Rattle.profile.specs.Rising.{risesOf};
+ghost use Rattle.heights.specs.Nodes.{xt, wt, zgBy, heightOf, igAt, ibAt};
+ghost use Rattle.heights.specs.Gethp.{cutOf, mupOf, hpOf, gethpOf, gethpScanOf};
+ghost use Rattle.heights.specs.Bendy.{bendyOf, penOf, bendyAnswer, penAnswer};
+ghost use Rattle.heights.specs.Xlin.{xlinOf};
+ghost use Rattle.heights.specs.Walk.{flat, walkTable, scanTable, tableBy, cursorAfter, cursorReadBy, gethpReadOf};
+use layers::IonoState;
+use profile::rises_throughout;
+use readings::Reading;
+use readings::profile_interpolate;
+use readings::read_by_scan;
+use readings::read_on;
+use readings::value;
+use refusal::Refusal;
+
+pub struct Heights {
+    // virtual height, km
+    pub hp: f32,
+    // true height, km
+    pub ht: f32,
+    // the walk's cursor after its last read; 0 where no walk ran
+    pub cursor: usize,
+}
+
+// 20-point Gauss abscissas.
+const XT: [f32; 20] = [
+    0.0387724175,
+    0.1160840707,
+    0.1926975807,
+    0.2681521850,
+    0.3419940908,
+    0.4137792043,
+    0.4830758017,
+    0.5494671251,
+    0.6125538897,
+    0.6719566846,
+    0.7273182552,
+    0.7783056514,
+    0.8246122308,
+    0.8659595032,
+    0.9020988070,
+    0.9328128083,
+    0.9579168192,
+    0.9772599500,
+    0.9907262387,
+    0.9982377097,
+];
+
+// The matching weights.
+const WT: [f32; 20] = [
+    0.0775059480,
+    0.0770398182,
+    0.0761103619,
+    0.0747231691,
+    0.0728865824,
+    0.0706116474,
+    0.0679120458,
+    0.0648040135,
+    0.0613062425,
+    0.0574397691,
+    0.0532278470,
+    0.0486958076,
+    0.0438709082,
+    0.0387821680,
+    0.0334601953,
+    0.0279370070,
+    0.0222458492,
+    0.0164210584,
+    0.0104982845,
+    0.0045212771,
+];
+
+// The tables are built once a call and lent: a constant array is built anew in each function that reads it.
+fn abscissas() -> [f32; 20]
+    ensures { λ r. ⌜ r ≡ xt ⌝ }
+{
+    XT
+}
+
+fn weights() -> [f32; 20]
+    ensures { λ r. ⌜ r ≡ wt ⌝ }
+{
+    WT
+}
+
+fn node(x: f32, ib: usize) -> f32
+    ensures { λ r. ⌜ r ≡ zgBy (eqb ib 0) x ⌝ }
+{
+    if ib == 0 {
+        return 1.0 - x;
+    }
+    1.0 + x
+}
+
+// The height of node `ig` of the half `ib`, over the lowest height `h0`.
+fn height(xts: &[f32; 20], h0: f32, ht: f32, ig: usize, ib: usize) -> f32
+    requires { ⌜ (ig < 20) × (now xts ≡ xt) ⌝ }
+    ensures { λ r. ⌜ r ≡ heightOf h0 ht ig ib ⌝ }
+{
+    let x = xts[ig];
+    let zg = node(x, ib);
+    ht * (1.0 - 0.5 * zg) + h0
+}
+
+// The node of read `k` in the walk's order, and its half.
+fn ig_at(k: usize) -> usize
+    requires { ⌜ k < 40 ⌝ }
+    ensures { λ r. ⌜ (r < 20) × (r ≡ igAt k) ⌝ }
+{
+    if k < 20 {
+        return 19 - k;
+    }
+    k - 20
+}
+
+fn ib_at(up: bool, k: usize) -> usize
+    ensures { λ r. ⌜ (r < 2) × (r ≡ ibAt up k) ⌝ }
+{
+    if up {
+        if k < 20 {
+            return 1;
+        }
+        return 0;
+    }
+    if k < 20 {
+        return 0;
+    }
+    1
+}
+
+// A density over `fr`, cut at 0.9999; a NaN becomes 0.9999.
+fn cut(r: Reading, fr: f32) -> f32
+    ensures { λ y. ⌜ y ≡ cutOf r fr ⌝ }
+{
+    let y = value(r);
+    scalar::min(y / fr, 0.9999)
+}
+
+// Forty densities, `ysq[ig][ib]` of the Rust at 2 * ig + ib, and the cursor after the last read.
+pub struct Densities {
+    pub ysq: [f32; 40],
+    pub cursor: usize,
+}
+
+// By one walk in rising order of the nodes: each read goes on from the cursor that the one before left.
+fn walk_densities(htr: &[f32; 50], fnsq: &[f32; 50], xts: &[f32; 20], ht: f32, fr: f32) -> Densities
+    requires { ⌜ now xts ≡ xt ⌝ }
+    ensures { λ r. ⌜ ((r .ysq) ≡ walkTable (now (htr .entry)) (now (fnsq .entry)) ht fr 40) × ((r .cursor) ≡ cursorAfter (now (htr .entry)) (now (fnsq .entry)) ht 40) ⌝ }
+{
+    let up = ht >= 0.0;
+    let h0 = htr[0];
+    let mut ysq = [0.0; 40];
+    let mut ih = 0usize;
+    for k in 0..40 {
+        let ig = ig_at(k);
+        let ib = ib_at(up, k);
+        let zi = height(xts, h0, ht, ig, ib);
+        let r = read_on(htr, fnsq, zi, ih);
+        ih = r.cursor;
+        let g = r.reading;
+        let y = cut(g, fr);
+        let place = 2 * ig + ib;
+        ysq[place] = y;
+    }
+    Densities {
+        ysq: ysq,
+        cursor: ih,
+    }
+}
+
+// By forty scans.
+fn scan_densities(htr: &[f32; 50], fnsq: &[f32; 50], xts: &[f32; 20], ht: f32, fr: f32) -> [f32; 40]
+    requires { ⌜ now xts ≡ xt ⌝ }
+    ensures { λ r. ⌜ r ≡ scanTable (now (htr .entry)) (now (fnsq .entry)) ht fr 40 ⌝ }
+{
+    let h0 = htr[0];
+    let mut ysq = [0.0; 40];
+    for k in 0..40 {
+        let ig = k / 2;
+        let ib = k % 2;
+        let zi = height(xts, h0, ht, ig, ib);
+        let g = read_by_scan(htr, fnsq, zi);
+        let y = cut(g, fr);
+        ysq[k] = y;
+    }
+    ysq
+}
+
+fn gethp_densities(htr: &[f32; 50], fnsq: &[f32; 50], rises: bool, ht: f32, fr: f32) -> Densities
+    ensures { λ r. ⌜ ((r .ysq) ≡ tableBy rises (now (htr .entry)) (now (fnsq .entry)) ht fr) × ((r .cursor) ≡ cursorReadBy rises (now (htr .entry)) (now (fnsq .entry)) ht) ⌝ }
+{
+    let xts = abscissas();
+    if rises {
+        return walk_densities(htr, fnsq, &xts, ht, fr);
+    }
+    let ysq = scan_densities(htr, fnsq, &xts, ht, fr);
+    Densities {
+        ysq: ysq,
+        cursor: 0,
+    }
+}
+
+fn mup(ysq: f32) -> f32
+    ensures { λ r. ⌜ r ≡ mupOf ysq ⌝ }
+{
+    1.0 / scalar::sqrt(1.0 - ysq)
+}
+
+// The sum in `ig` order from 0: the order in which terms are added decides the last bits.
+fn quadrature(ysq: &[f32; 40], wts: &[f32; 20]) -> f32
+    requires { ⌜ now wts ≡ wt ⌝ }
+    ensures { λ r. ⌜ r ≡ hpOf (flat (now (ysq .entry))) 20 ⌝ }
+{
+    let mut hp = 0.0;
+    for ig in 0..20 {
+        let lower = 2 * ig;
+        let upper = 2 * ig + 1;
+        let m0 = mup(ysq[lower]);
+        let m1 = mup(ysq[upper]);
+        let w = wts[ig];
+        hp = hp + w * (m0 + m1);
+    }
+    hp
+}
+
+// `gethp` with the densities read by a walk, or by scans.
+fn gethp_read(htr: &[f32; 50], fnsq: &[f32; 50], rises: bool, fxx: f32) -> Heights
+    ensures { λ r. ⌜ r ≡ gethpReadOf rises (now (htr .entry)) (now (fnsq .entry)) fxx ⌝ }
+{
+    let fr = fxx * fxx;
+    let h0 = htr[0];
+    if fr - fnsq[0] <= 0.0 {
+        return Heights {
+            hp: h0,
+            ht: h0,
+            cursor: 0,
+        };
+    }
+    let top = profile_interpolate(fnsq, htr, fr);
+    let ht = top - h0;
+    let hrmz = ht * 0.5 * 1.0;
+    let d = gethp_densities(htr, fnsq, rises, ht, fr);
+    let cursor = d.cursor;
+    let ysq = d.ysq;
+    let wts = weights();
+    let hp = quadrature(&ysq, &wts);
+    Heights {
+        hp: h0 + hrmz * hp,
+        ht: h0 + ht,
+        cursor: cursor,
+    }
+}
+
+// The heights of the vertical frequency `fxx`, where `rises` is what the rising test says of the state's heights: for a caller that asks for many frequencies on one profile.
+pub fn gethp_rising(s: IonoState, rises: bool, fxx: f32) -> Heights
+    requires { ⌜ rises ≡ risesOf (s .htr) ⌝ }
+    ensures { λ r. ⌜ r ≡ gethpOf s fxx ⌝ }
+{
+    let htr = s.htr;
+    let fnsq = s.fnsq;
+    gethp_read(&htr, &fnsq, rises, fxx)
+}
+
+// The virtual and the true height of the vertical frequency `fxx`. The heights are tested here: the state's rising mark is not read.
+pub fn gethp(s: IonoState, fxx: f32) -> Heights
+    ensures { λ r. ⌜ r ≡ gethpOf s fxx ⌝ }
+{
+    let htr = s.htr;
+    let rises = rises_throughout(&htr);
+    gethp_rising(s, rises, fxx)
+}
+
+// The same by forty scans on every profile.
+pub fn gethp_scan(s: IonoState, fxx: f32) -> Heights
+    ensures { λ r. ⌜ r ≡ gethpScanOf s fxx ⌝ }
+{
+    let htr = s.htr;
+    let fnsq = s.fnsq;
+    gethp_read(&htr, &fnsq, false, fxx)
+}
+
+// Linear interpolation of `yn` at `x` over the grid `xn`, with the Fortran's handling of level and falling segments.
+pub fn xlin(x: f32, xn: &[f32; 50], yn: &[f32; 50]) -> f32
+    ensures { λ r. ⌜ r ≡ xlinOf x (now (xn .entry)) (now (yn .entry)) ⌝ }
+{
+    if xn[0] - x > 0.0 {
+        let lowest = yn[0];
+        return lowest;
+    }
+    profile_interpolate(xn, yn, x)
+}
+
+// A layer's number, or the refusal of a slot or layer number above 2.
+pub enum LayerNumber {
+    Value(f32),
+    Refused(Refusal),
+}
+
+pub fn bendy_at(s: IonoState, i: usize, k: usize, f: f32) -> f32
+    requires { ⌜ (i < 3) × (k < 3) ⌝ }
+    ensures { λ r. ⌜ r ≡ bendyOf s i k f ⌝ }
+{
+    let n = 3 * k + i;
+    let x = scalar::min(f / s.fi[n], 0.999);
+    let l = exponential::ln((1.0 + x) / (1.0 - x));
+    0.5 * x * s.yi[n] * l
+}
+
+pub fn pen_at(s: IonoState, i: usize, k: usize, f: f32) -> f32
+    requires { ⌜ (i < 3) × (k < 3) ⌝ }
+    ensures { λ r. ⌜ r ≡ penOf s i k f ⌝ }
+{
+    let n = 3 * k + i;
+    let x = scalar::max(f / s.fi[n], 1.001);
+    let l = exponential::ln((1.0 + x) / (x - 1.0));
+    s.yi[n] * l * x
+}
+
+// The bending that the parabolic layer `i` of slot `k` adds to the virtual height.
+pub fn bendy(s: IonoState, i: usize, k: usize, f: f32) -> LayerNumber
+    ensures { λ r. ⌜ r ≡ bendyAnswer s i k f ⌝ }
+{
+    if i > 2 {
+        return LayerNumber::Refused(Refusal::SlotNumber);
+    }
+    if k > 2 {
+        return LayerNumber::Refused(Refusal::SlotNumber);
+    }
+    LayerNumber::Value(bendy_at(s, i, k, f))
+}
+
+// The retardation that the parabolic layer `i` of slot `k` adds where it lies below the reflection.
+pub fn pen(s: IonoState, i: usize, k: usize, f: f32) -> LayerNumber
+    ensures { λ r. ⌜ r ≡ penAnswer s i k f ⌝ }
+{
+    if i > 2 {
+        return LayerNumber::Refused(Refusal::SlotNumber);
+    }
+    if k > 2 {
+        return LayerNumber::Refused(Refusal::SlotNumber);
+    }
+    LayerNumber::Value(pen_at(s, i, k, f))
+}

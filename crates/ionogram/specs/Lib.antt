@@ -1,0 +1,3 @@
+pub mod Angles
+pub mod Selmod
+pub mod Fobby

@@ -1,0 +1,11 @@
+use Rattle.losses.specs.Alosfv.{withAfac}
+use mathlib.Core.Path.{refl}
+use Rattle.losses.proofs.with_afac.Statement.{statement}
+use Rattle.losses.proofs.with_afac.Tie as tie
+
+returns : tie.Need-returns
+unfolding withAfac
+returns c = refl
+
+pub with-afac-spec : {M : Type 1} → statement M
+with-afac-spec = tie.close (tie.spec returns)

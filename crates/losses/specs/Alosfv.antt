@@ -1,0 +1,144 @@
+-- `alosfv`: the deviative loss factors of the thirty rows for slot k. They are above zero only for reflections from above the height at each layer's MUF.
+use mathlib.Core.Bool.{Bool, true, false}
+use mathlib.Core.List.{List}
+use Prim.Native.Nat.{ℕ, zero, suc, _+_, _*_}
+use lib.Dec.{leb}
+use lib.ListN.{getD, set, replicate}
+use lib.IntN.{pos}
+use lib.Ieee.{Float, nan}
+use Rattle.scalar.specs.F32.{_-f_, _*f_, _/f_, _<f_, _≤f_, negf}
+use Rattle.scalar.specs.Literals.{f0, f0·05, f0·1, f0·2, f0·5, f2, f10}
+use Rattle.scalar.specs.Scalar.{maxOf}
+use Rattle.exponential.specs.Exp.{expOf}
+use Rattle.refusal.specs.declared.Refusal.{Refusal}
+use Rattle.refusal.specs.declared.Outcome.{Outcome}
+use Rattle.layers.specs.State.{at}
+use Rattle.layers.specs.declared.IonoState.{IonoState}
+use Rattle.layers.specs.declared.LayerMuf.{LayerMuf}
+use Rattle.ionogram.specs.declared.Ionogram.{Ionogram}
+use Rattle.ionogram.specs.declared.IonogramAnswer.{IonogramAnswer}
+use Rattle.losses.specs.declared.Factors.{Factors}
+use Rattle.losses.specs.declared.Decay.{Decay}
+
+-- a * e ^ zexp, with zexp = -2 * (htrue - hz) / y, and at least -10
+unfoldable pub decayOf : Float → Decay → Float → Float
+decayOf a d htrue =
+    let zexp = maxOf (negf f2 *f (htrue -f d .hz) /f d .y) (negf f10) in
+    a *f expOf zexp
+
+-- c * (hprim - htrue - hm)
+unfoldable pub factorOf : Float → Ionogram → ℕ → Float → Float
+factorOf c ion ih hm = c *f (at (ion .hprim) ih -f at (ion .htrue) ih -f hm)
+
+unfoldable pub stored : Factors → ℕ → Float → Float → Factors
+stored f ih cf a = record { cf = cf; afac = set (f .afac) ih a }
+
+-- the height at the layer's MUF, and the virtual height's excess there
+abbrev pub excess : LayerMuf → Float
+excess l = l .hpmuf -f l .htmuf
+
+-- ---- E layer: rows 0 to 9, of which cf keeps the last constant worked out
+
+abbrev pub eRowBy : Bool → Factors → Ionogram → LayerMuf → Decay → ℕ → Factors
+eRowBy true f ion l d ih = stored f ih (f .cf) f0
+eRowBy false f ion l d ih =
+    let cf = decayOf f0·2 d (at (ion .htrue) ih) in
+    stored f ih cf (factorOf cf ion ih (excess l))
+
+unfoldable pub eRow : Factors → Ionogram → LayerMuf → Decay → ℕ → Factors
+eRow f ion l d ih = eRowBy (at (ion .htrue) ih -f l .htmuf ≤f f0) f ion l d ih
+
+unfoldable pub eRows : Factors → Ionogram → LayerMuf → Decay → ℕ → Factors
+eRows f ion l d zero = f
+eRows f ion l d (suc n) = eRow (eRows f ion l d n) ion l d n
+
+-- ---- a cusp: two rows from `ih`, whose constant starts from that of the rows below, and a zero row after them
+
+unfoldable pub cuspRow : Factors → Ionogram → Float → Decay → Float → ℕ → Factors
+cuspRow f ion a d hm ih =
+    let c = maxOf (decayOf a d (at (ion .htrue) ih)) f0·05 in
+    stored f ih c (factorOf c ion ih hm)
+
+unfoldable pub cuspOf : Factors → Ionogram → Decay → ℕ → Factors
+cuspOf f ion d ih =
+    let a = f .cf in
+    let hm = at (ion .hprim) (ih + 2) -f at (ion .htrue) (ih + 2) in
+    let g = cuspRow (cuspRow f ion a d hm ih) ion a d hm (ih + 1) in
+    stored g (ih + 2) (g .cf) f0
+
+-- ---- the n rows of a layer from row `first` on: zero up to the height at its MUF; cf keeps the last constant worked out
+
+abbrev pub tailRowBy : Bool → Factors → Ionogram → LayerMuf → Decay → Float → ℕ → Factors
+tailRowBy true f ion l d floor ih = stored f ih (f .cf) f0
+tailRowBy false f ion l d floor ih =
+    let c = maxOf (decayOf f0·1 d (at (ion .htrue) ih)) floor in
+    stored f ih c (factorOf c ion ih (excess l))
+
+unfoldable pub tailRow : Factors → Ionogram → LayerMuf → Decay → Float → ℕ → Factors
+tailRow f ion l d floor ih = tailRowBy (at (ion .htrue) ih -f l .htmuf ≤f f0) f ion l d floor ih
+
+unfoldable pub tailRows : Factors → Ionogram → LayerMuf → Decay → Float → ℕ → ℕ → Factors
+tailRows f ion l d floor first zero = f
+tailRows f ion l d floor first (suc n) = tailRow (tailRows f ion l d floor first n) ion l d floor (first + n)
+
+-- ---- the rows above the E layer
+
+-- F2 layer with no F1 layer: the source's floor of the tail is 0.5 here, and 0.05 everywhere else
+unfoldable pub withoutF1 : Factors → Ionogram → LayerMuf → Float → Factors
+withoutF1 f ion f2l y2 =
+    let d : Decay = record { hz = at (ion .htrue) 10; y = y2 } in
+    tailRows (cuspOf f ion d 10) ion f2l d f0·5 13 17
+
+-- F1 layer, and F2 above it: the F1-F2 cusp starts from the last constant of the F1 rows, or from that of the E-F1 cusp where these used none
+unfoldable pub withF1 : Factors → Ionogram → LayerMuf → LayerMuf → Float → Float → Factors
+withF1 f ion f1l f2l y1 y2 =
+    let d1 : Decay = record { hz = at (ion .htrue) 10; y = y1 } in
+    let g = tailRows (cuspOf f ion d1 10) ion f1l d1 f0·05 13 7 in
+    let d2 : Decay = record { hz = at (ion .htrue) 20; y = y2 } in
+    tailRows (cuspOf g ion d2 20) ion f2l d2 f0·05 23 7
+
+-- ---- the whole
+
+-- past the end, where no code reads
+abbrev pub noLine : LayerMuf
+noLine = record { sigl = nan; sigu = nan; delmuf = nan; hpmuf = nan; htmuf = nan; fvmuf = nan; afmuf = nan; nhopmf = pos 0; yfot = nan; ymuf = nan; yhpf = nan }
+
+abbrev pub lineAt : List LayerMuf → ℕ → LayerMuf
+lineAt layers i = getD layers i noLine
+
+abbrev pub aboveBy : Bool → Factors → IonoState → ℕ → Ionogram → List LayerMuf → Factors
+aboveBy true f s k ion layers = withoutF1 f ion (lineAt layers 2) (at (s .yi) (3 * k + 2))
+aboveBy false f s k ion layers = withF1 f ion (lineAt layers 1) (lineAt layers 2) (at (s .yi) (3 * k + 1)) (at (s .yi) (3 * k + 2))
+
+unfoldable pub aboveOf : Factors → IonoState → ℕ → Ionogram → List LayerMuf → Factors
+aboveOf f s k ion layers = aboveBy (at (s .fi) (3 * k + 1) ≤f f0) f s k ion layers
+
+-- negative factors become zero, NaN stays
+abbrev pub zeroIf : Bool → Float → Float
+zeroIf true a = f0
+zeroIf false a = a
+
+unfoldable pub notBelowZero : Float → Float
+notBelowZero a = zeroIf (a <f f0) a
+
+unfoldable pub notBelowZeros : List Float → ℕ → List Float
+notBelowZeros l zero = l
+notBelowZeros l (suc n) = set (notBelowZeros l n) n (notBelowZero (at (notBelowZeros l n) n))
+
+unfoldable pub withAfac : Ionogram → List Float → Ionogram
+withAfac ion afac = record { fvert = ion .fvert; hprim = ion .hprim; htrue = ion .htrue; afac = afac }
+
+unfoldable pub alosfvOf : IonoState → ℕ → Ionogram → List LayerMuf → Ionogram
+alosfvOf s k ion layers =
+    let d : Decay = record { hz = at (s .hi) (3 * k) -f at (s .yi) (3 * k); y = at (s .yi) (3 * k) } in
+    let start : Factors = record { cf = f0; afac = ion .afac } in
+    let f = aboveOf (eRows start ion (lineAt layers 0) d 10) s k ion layers in
+    withAfac ion (notBelowZeros (f .afac) 30)
+
+-- a slot number above 2 is refused, with the ionogram as it came
+abbrev pub answeredBy : Bool → IonoState → ℕ → Ionogram → List LayerMuf → IonogramAnswer
+answeredBy true s k ion layers = record { outcome = Outcome.Answered; ion = alosfvOf s k ion layers }
+answeredBy false s k ion layers = record { outcome = Outcome.Refused Refusal.SlotNumber; ion = ion }
+
+unfoldable pub alosfvAnswer : IonoState → ℕ → Ionogram → List LayerMuf → IonogramAnswer
+alosfvAnswer s k ion layers = answeredBy (leb k 2) s k ion layers

@@ -1,0 +1,86 @@
+-- `genion`: the ionogram of slot k, off the density profile that `lecden` made for the same slot. Document 01: 6 for a slot above 2.
+use mathlib.Core.Bool.{Bool, true, false}
+use mathlib.Core.List.{List, [], _∷_, _++_}
+use Prim.Native.Nat.{ℕ, zero, suc, _+_, _*_}
+use lib.Dec.{leb}
+use lib.IntN.{pos}
+use lib.Signed.{ltZ}
+use lib.ListN.{set, replicate}
+use lib.Ieee.{Float}
+use Rattle.scalar.specs.F32.{_+f_, _-f_, _*f_, _>f_}
+use Rattle.scalar.specs.Literals.{f0, f2, f70, f84·51, f87·4, f88·52, f93, f94, f94·26, f95·71, f97·68, f98·68, f100·2, f100·27, f102·65, f104·22, f107·15, f107·19, f113·74, f125·25, f140·03}
+use Rattle.layers.specs.State.{at}
+use Rattle.layers.specs.declared.IonoState.{IonoState}
+use Rattle.heights.specs.Gethp.{gethpOf, gethpScanOf}
+use Rattle.heights.specs.Xlin.{xlinOf}
+use Rattle.heights.specs.Bendy.{bendyOf, penOf}
+use Rattle.heights.specs.declared.Heights.{Heights}
+use Rattle.refusal.specs.declared.Refusal.{Refusal}
+use Rattle.refusal.specs.declared.Outcome.{Outcome}
+use Rattle.ionogram.specs.declared.Ionogram.{Ionogram}
+use Rattle.ionogram.specs.declared.IonogramAnswer.{IonogramAnswer}
+use Rattle.sounding.specs.Grid.{fvertOf}
+
+-- true and virtual heights at the first ten frequencies for an E layer of 110 km and 20 km semithickness, then zeros
+unfoldable pub HTE : List Float
+HTE = (f70 ∷ f84·51 ∷ f88·52 ∷ f93 ∷ f94·26 ∷ f95·71 ∷ f97·68 ∷ f100·27 ∷ f104·22 ∷ f107·19 ∷ []) ++ replicate 20 f0
+
+unfoldable pub HPE : List Float
+HPE = (f70 ∷ f87·4 ∷ f94 ∷ f98·68 ∷ f100·2 ∷ f102·65 ∷ f107·15 ∷ f113·74 ∷ f125·25 ∷ f140·03 ∷ []) ++ replicate 20 f0
+
+-- n rows from `first` on, each by its frequency
+unfoldable pub rowsOf : (Float → Float) → List Float → ℕ → List Float → ℕ → List Float
+rowsOf row fv first out zero = out
+rowsOf row fv first out (suc n) = set (rowsOf row fv first out n) (first + n) (row (at fv (first + n)))
+
+-- the two heights, as `gethp` finds them: by a walk, or by forty scans
+abbrev pub Finder : Type 0
+Finder = IonoState → Float → Heights
+
+unfoldable pub trueByProfile : IonoState → Float → Float
+trueByProfile s f = let fn = f *f f in xlinOf fn (s .fnsq) (s .htr)
+
+unfoldable pub virtualByParabola : IonoState → ℕ → Float → Float
+virtualByParabola s k f = at (s .hi) (3 * k + 2) -f at (s .yi) (3 * k + 2) +f bendyOf s 2 k f +f (penOf s 0 k f -f f2 *f at (s .yi) (3 * k))
+
+-- an F1 layer has too many shapes for the closed form: `fi[k][1] > 0.0`
+abbrev pub virtualBy : Bool → Finder → IonoState → ℕ → Float → Float
+virtualBy true find s k f = find s f .hp
+virtualBy false find s k f = virtualByParabola s k f
+
+abbrev pub made : List Float → List Float → List Float → Ionogram
+made fv hprim htrue = record { fvert = fv; hprim = hprim; htrue = htrue; afac = replicate 30 f0 }
+
+-- `iedp < 0`: every height off the profile; else the E rows from the table, the others by the profile's true heights
+abbrev pub rowsBy : Bool → Finder → IonoState → ℕ → List Float → Ionogram
+rowsBy true find s k fv = made fv (rowsOf (λ f. find s f .hp) fv 0 (replicate 30 f0) 30) (rowsOf (λ f. find s f .ht) fv 0 (replicate 30 f0) 30)
+rowsBy false find s k fv =
+    made fv
+    (rowsOf (λ f. virtualBy (at (s .fi) (3 * k + 1) >f f0) find s k f) fv 10 HPE 20)
+    (rowsOf (λ f. trueByProfile s f) fv 10 HTE 20)
+
+unfoldable pub fvertAt : IonoState → ℕ → List Float
+fvertAt s k = fvertOf (at (s .fi) (3 * k)) (at (s .fi) (3 * k + 1)) (at (s .fi) (3 * k + 2))
+
+unfoldable pub rowsAt : Finder → IonoState → ℕ → List Float → Ionogram
+rowsAt find s k fv = rowsBy (ltZ (s .iedp) (pos 0)) find s k fv
+
+unfoldable pub genionBy : Finder → IonoState → ℕ → Ionogram
+genionBy find s k = rowsAt find s k (fvertAt s k)
+
+unfoldable pub genionOf : IonoState → ℕ → Ionogram
+genionOf s k = genionBy gethpOf s k
+
+-- with forty scans in place of each walk
+unfoldable pub genionScanOf : IonoState → ℕ → Ionogram
+genionScanOf s k = genionBy gethpScanOf s k
+
+abbrev pub noRows : Ionogram
+noRows = record { fvert = replicate 30 f0; hprim = replicate 30 f0; htrue = replicate 30 f0; afac = replicate 30 f0 }
+
+abbrev pub genionAnswerBy : Bool → IonoState → ℕ → IonogramAnswer
+genionAnswerBy true s k = record { outcome = Outcome.Answered; ion = genionOf s k }
+genionAnswerBy false s k = record { outcome = Outcome.Refused Refusal.SlotNumber; ion = noRows }
+
+unfoldable pub genionAnswer : IonoState → ℕ → IonogramAnswer
+genionAnswer s k = genionAnswerBy (leb k 2) s k

@@ -1,0 +1,58 @@
+// `genion`: the sounding-frequency grid of a slot, and the true and virtual heights at its thirty
+// frequencies.
+mod grid;
+mod rows;
+
+ghost use mathlib.Core.Path.{_≡_};
+ghost use Prim.Native.Nat.{_<_};
+ghost use Rattle.sounding.specs.Genion.{noRows, fvertAt, genionOf, genionAnswer};
+use ionogram::Ionogram;
+use ionogram::IonogramAnswer;
+use layers::IonoState;
+use refusal::Outcome;
+use refusal::Refusal;
+
+fn no_rows() -> Ionogram
+    ensures { λ r. ⌜ r ≡ noRows ⌝ }
+{
+    Ionogram {
+        fvert: [0.0; 30],
+        hprim: [0.0; 30],
+        htrue: [0.0; 30],
+        afac: [0.0; 30],
+    }
+}
+
+fn fvert_at(s: IonoState, k: usize) -> [f32; 30]
+    requires { ⌜ k < 3 ⌝ }
+    ensures { λ r. ⌜ r ≡ fvertAt s k ⌝ }
+{
+    let e = 3 * k;
+    let f1 = 3 * k + 1;
+    let f2 = 3 * k + 2;
+    grid::fvert(s.fi[e], s.fi[f1], s.fi[f2])
+}
+
+// The ionogram of slot k, whose number is at most 2.
+pub fn genion_slot(s: IonoState, k: usize) -> Ionogram
+    requires { ⌜ k < 3 ⌝ }
+    ensures { λ r. ⌜ r ≡ genionOf s k ⌝ }
+{
+    let fv = fvert_at(s, k);
+    rows::rows(s, k, fv)
+}
+
+pub fn genion(s: IonoState, k: usize) -> IonogramAnswer
+    ensures { λ r. ⌜ r ≡ genionAnswer s k ⌝ }
+{
+    if k <= 2 {
+        return IonogramAnswer {
+            outcome: Outcome::Answered,
+            ion: genion_slot(s, k),
+        };
+    }
+    IonogramAnswer {
+        outcome: Outcome::Refused(Refusal::SlotNumber),
+        ion: no_rows(),
+    }
+}

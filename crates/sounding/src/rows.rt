@@ -1,0 +1,138 @@
+// The heights of the thirty rows. Below zero `iedp` has them all off the density profile; at zero
+// or above the E rows come from a table, and the others from a lookup in the profile and from
+// parabolic bending and retardation.
+ghost use mathlib.Core.Path.{_≡_};
+ghost use Prim.Native.Nat.{_<_};
+ghost use mathlib.Core.Bool.{true, false};
+ghost use lib.ListN.{replicate};
+ghost use Rattle.scalar.specs.Literals.{f0};
+ghost use Rattle.heights.specs.Gethp.{gethpOf};
+ghost use Rattle.profile.specs.Rising.{risesOf};
+ghost use Rattle.sounding.specs.Genion.{HTE as Genion·HTE, HPE as Genion·HPE, rowsOf, trueByProfile, virtualByParabola, made, rowsBy, rowsAt};
+use ionogram::Ionogram;
+use layers::IonoState;
+
+const HTE: [f32; 30] = [
+    70.00, 84.51, 88.52, 93.00, 94.26, 95.71, 97.68, 100.27, 104.22, 107.19, 0.0, 0.0, 0.0, 0.0, 0.0,
+    0.0, 0.0, 0.0, 0.0, 0.0, 0.0, 0.0, 0.0, 0.0, 0.0, 0.0, 0.0, 0.0, 0.0, 0.0,
+];
+const HPE: [f32; 30] = [
+    70.00, 87.40, 94.00, 98.68, 100.20, 102.65, 107.15, 113.74, 125.25, 140.03, 0.0, 0.0, 0.0, 0.0,
+    0.0, 0.0, 0.0, 0.0, 0.0, 0.0, 0.0, 0.0, 0.0, 0.0, 0.0, 0.0, 0.0, 0.0, 0.0, 0.0,
+];
+
+// The two columns of heights.
+pub struct Columns {
+    pub hprim: [f32; 30],
+    pub htrue: [f32; 30],
+}
+
+// All thirty rows off the profile.
+fn by_profile(s: IonoState, rises: bool, fv: [f32; 30]) -> Columns
+    requires { ⌜ rises ≡ risesOf (s .htr) ⌝ }
+    ensures { λ r. ⌜ r .hprim ≡ rowsOf (λ f. gethpOf s f .hp) fv 0 (replicate 30 f0) 30 ⌝ }
+    ensures { λ r. ⌜ r .htrue ≡ rowsOf (λ f. gethpOf s f .ht) fv 0 (replicate 30 f0) 30 ⌝ }
+{
+    let mut hprim = [0.0; 30];
+    let mut htrue = [0.0; 30];
+    for i in 0..30 {
+        let h = heights::gethp_rising(s, rises, fv[i]);
+        hprim[i] = h.hp;
+        htrue[i] = h.ht;
+    }
+    Columns { hprim, htrue }
+}
+
+fn true_by_profile(s: IonoState, f: f32) -> f32
+    ensures { λ r. ⌜ r ≡ trueByProfile s f ⌝ }
+{
+    let fnsq = s.fnsq;
+    let htr = s.htr;
+    heights::xlin(f * f, &fnsq, &htr)
+}
+
+fn true_rows(s: IonoState, fv: [f32; 30]) -> [f32; 30]
+    ensures { λ r. ⌜ r ≡ rowsOf (λ f. trueByProfile s f) fv 10 Genion·HTE 20 ⌝ }
+{
+    let mut htrue = HTE;
+    for i in 0..20 {
+        let h = true_by_profile(s, fv[10 + i]);
+        htrue[10 + i] = h;
+    }
+    htrue
+}
+
+// An F1 layer has too many shapes for the closed form, so its rows are taken off the profile.
+fn virtual_rows_by_profile(s: IonoState, rises: bool, fv: [f32; 30]) -> [f32; 30]
+    requires { ⌜ rises ≡ risesOf (s .htr) ⌝ }
+    ensures { λ r. ⌜ r ≡ rowsOf (λ f. gethpOf s f .hp) fv 10 Genion·HPE 20 ⌝ }
+{
+    let mut hprim = HPE;
+    for i in 0..20 {
+        let h = heights::gethp_rising(s, rises, fv[10 + i]);
+        hprim[10 + i] = h.hp;
+    }
+    hprim
+}
+
+fn virtual_by_parabola(s: IonoState, k: usize, f: f32) -> f32
+    requires { ⌜ k < 3 ⌝ }
+    ensures { λ r. ⌜ r ≡ virtualByParabola s k f ⌝ }
+{
+    let e = 3 * k;
+    let f2 = 3 * k + 2;
+    let bend = heights::bendy_at(s, 2, k, f);
+    let lag = heights::pen_at(s, 0, k, f);
+    s.hi[f2] - s.yi[f2] + bend + (lag - 2.0 * s.yi[e])
+}
+
+fn virtual_rows_by_parabola(s: IonoState, k: usize, fv: [f32; 30]) -> [f32; 30]
+    requires { ⌜ k < 3 ⌝ }
+    ensures { λ r. ⌜ r ≡ rowsOf (λ f. virtualByParabola s k f) fv 10 Genion·HPE 20 ⌝ }
+{
+    let mut hprim = HPE;
+    for i in 0..20 {
+        let h = virtual_by_parabola(s, k, fv[10 + i]);
+        hprim[10 + i] = h;
+    }
+    hprim
+}
+
+fn make(fv: [f32; 30], hprim: [f32; 30], htrue: [f32; 30]) -> Ionogram
+    ensures { λ r. ⌜ r ≡ made fv hprim htrue ⌝ }
+{
+    Ionogram {
+        fvert: fv,
+        hprim,
+        htrue,
+        afac: [0.0; 30],
+    }
+}
+
+// `iedp` at zero or above.
+fn by_table(s: IonoState, k: usize, rises: bool, fv: [f32; 30]) -> Ionogram
+    requires { ⌜ (k < 3) × (rises ≡ risesOf (s .htr)) ⌝ }
+    ensures { λ r. ⌜ r ≡ rowsBy false gethpOf s k fv ⌝ }
+{
+    let f1 = 3 * k + 1;
+    let htrue = true_rows(s, fv);
+    if s.fi[f1] > 0.0 {
+        return make(fv, virtual_rows_by_profile(s, rises, fv), htrue);
+    }
+    make(fv, virtual_rows_by_parabola(s, k, fv), htrue)
+}
+
+pub fn rows(s: IonoState, k: usize, fv: [f32; 30]) -> Ionogram
+    requires { ⌜ k < 3 ⌝ }
+    ensures { λ r. ⌜ r ≡ rowsAt gethpOf s k fv ⌝ }
+{
+    let htr = s.htr;
+    let rises = profile::rises_throughout(&htr);
+    if s.iedp < 0 {
+        let c = by_profile(s, rises, fv);
+        let hprim = c.hprim;
+        let htrue = c.htrue;
+        return make(fv, hprim, htrue);
+    }
+    by_table(s, k, rises, fv)
+}
