@@ -1,0 +1,35 @@
+use Rattle.layer_mufs.specs.Lines.{f2BentOf}
+use borrow.Author.Needs.{needs}
+use Rattle.layer_mufs.proofs.f2_bent.Statement.{statement}
+use Rattle.layer_mufs.proofs.f2_bent.Tie as tie
+
+both-deviations-requires : tie.Need-both-deviations-requires
+both-deviations-requires c κs = search needs
+
+enum-known-sig : tie.Need-enum-known-sig
+enum-known-sig c = search needs
+
+enum-known-sig-2 : tie.Need-enum-known-sig-2
+enum-known-sig-2 c = search needs
+
+line-requires : tie.Need-line-requires
+line-requires c κs = search needs
+
+returns : tie.Need-returns
+unfolding f2BentOf
+returns c = rw (← c .before .before .before .both-deviations .ensures, c .before .sig .given .1)
+
+returns-2 : tie.Need-returns-2
+unfolding f2BentOf
+returns-2 c = rw (← c .before .before .before .before .both-deviations .ensures, c .before .before .sig2 .given .1, ← c .line .ensures)
+
+pub f2-bent-spec : {M : Type 1} → statement M
+f2-bent-spec =
+    tie.close
+    (tie.spec
+    both-deviations-requires
+    enum-known-sig
+    enum-known-sig-2
+    line-requires
+    returns
+    returns-2)

@@ -1,0 +1,3 @@
+pub mod Controlling
+pub mod Tangents
+pub mod Lines

@@ -1,0 +1,11 @@
+use Rattle.muf.specs.Hour.{zeroLine}
+use mathlib.Core.Path.{refl}
+use Rattle.muf.proofs.zero_line.Statement.{statement}
+use Rattle.muf.proofs.zero_line.Tie as tie
+
+returns : tie.Need-returns
+unfolding zeroLine
+returns c = refl
+
+pub zero-line-spec : {M : Type 1} → statement M
+zero-line-spec = tie.close (tie.spec returns)

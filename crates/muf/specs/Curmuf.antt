@@ -1,0 +1,124 @@
+-- `curmuf` whole: what is refused and in which order, the hour, the state and the Es rows after. The Es rows enter by their number and what each holds, so that one definition serves flat rows and rows of records.
+use mathlib.Core.Bool.{Bool, true, false, _&&_}
+use mathlib.Core.List.{List}
+use Prim.Native.Nat.{ℕ, _*_, _/_}
+use lib.Dec.{ltb, eqb}
+use lib.ListN.{length, set}
+use lib.Ieee.{Float}
+use Rattle.scalar.specs.F32.{_≤f_, _>f_}
+use Rattle.scalar.specs.Literals.{f0, f6·3, f90, f40100}
+use Rattle.refusal.specs.declared.Refusal.{Refusal}
+use Rattle.refusal.specs.declared.Outcome.{Outcome}
+use Rattle.layers.specs.State.{at}
+use Rattle.layers.specs.declared.IonoState.{IonoState}
+use Rattle.layers.specs.declared.LayerMuf.{LayerMuf}
+use Rattle.profile.specs.Lecden.{slotAt, lecdenOf}
+use Rattle.profile.specs.declared.Slot.{Slot}
+use Rattle.layer_mufs.specs.Controlling.{controllingOf}
+use Rattle.layer_mufs.specs.Tangents.{tangentsOf}
+use Rattle.layer_mufs.specs.Lines.{eLineOf, f2LineOf, f1LineOf}
+use Rattle.layer_mufs.specs.declared.Circuit.{Circuit}
+use Rattle.layer_mufs.specs.declared.Tangents.{Tangents}
+use Rattle.layer_mufs.specs.declared.LineAnswer.{LineAnswer}
+use Rattle.muf.specs.Sporadic.{startOf, rowAt, esFrom, esLineOf}
+use Rattle.muf.specs.Hour.{hourOf, refusedOf}
+use Rattle.muf.specs.declared.EsRow.{EsRow}
+use Rattle.muf.specs.declared.EsStep.{EsStep}
+use Rattle.muf.specs.declared.Three.{Three}
+use Rattle.muf.specs.declared.ThreeAnswer.{ThreeAnswer}
+use Rattle.muf.specs.declared.MufAnswer.{MufAnswer}
+use Rattle.muf.specs.declared.Done.{Done}
+
+-- 9
+
+abbrev pub withinOf : Float → Float → Bool
+withinOf x top = f0 ≤f x && x ≤f top
+
+-- a NaN amind counts as 0, one below 0 passes
+abbrev pub aminBy : Bool → Bool
+aminBy true = false
+aminBy false = true
+
+unfoldable pub inDomain : Circuit → Bool
+inDomain c = withinOf (c .gcdkm) f40100 && withinOf (c .gcd) f6·3 && aminBy (c .amind >f f90)
+
+-- 10: the deciles are 576, and clat and clck reach to the controlling slot; the lists by their lengths
+unfoldable pub listsReach : ℕ → ℕ → ℕ → ℕ → Bool
+listsReach ks deciles lats clocks = eqb deciles 576 && ltb ks lats && ltb ks clocks
+
+-- E, then F2, then F1
+
+abbrev pub f1Then : LineAnswer → LayerMuf → LayerMuf → ThreeAnswer
+f1Then (LineAnswer.Found f1) e f2 = ThreeAnswer.Found (record { e = e; f1 = f1; f2 = f2 })
+f1Then (LineAnswer.Refused r) e f2 = ThreeAnswer.Refused r
+
+abbrev pub f2Then : LineAnswer → IonoState → Slot → Tangents → Circuit → LayerMuf → ThreeAnswer
+f2Then (LineAnswer.Found f2) t l x c e = f1Then (f1LineOf t l (x .fx1) e (c .gcdkm) (c .amind)) e f2
+f2Then (LineAnswer.Refused r) t l x c e = ThreeAnswer.Refused r
+
+abbrev pub eThen : LineAnswer → IonoState → Slot → ℕ → Tangents → List Float → Float → Float → Circuit → ThreeAnswer
+eThen (LineAnswer.Found e) t l ks x f2d clat clck c = f2Then (f2LineOf t l ks x f2d clat clck c) t l x c e
+eThen (LineAnswer.Refused r) t l ks x f2d clat clck c = ThreeAnswer.Refused r
+
+unfoldable pub threeOf : IonoState → Slot → ℕ → List Float → Float → Float → Circuit → ThreeAnswer
+threeOf t l ks f2d clat clck c =
+    let x = tangentsOf l (c .gcdkm) in
+    eThen (eLineOf t (x .fxe) (c .gcdkm) (c .amind)) t l ks x f2d clat clck c
+
+-- then Es
+
+unfoldable pub refusedDone : IonoState → Refusal → Done
+refusedDone s r = record { answer = refusedOf s r; rewrites = false; ksx = 0; lower = f0 }
+
+abbrev pub esBy : EsStep → IonoState → IonoState → Float → Three → ℕ → Done
+esBy (EsStep.Next a) s t fe m ks =
+    let x = esLineOf a fe in
+    record {
+      answer = record { outcome = Outcome.Answered; hour = hourOf m (x .line) ks; state = t };
+      rewrites = x .rewrites;
+      ksx = a .ksx;
+      lower = x .lower;
+    }
+esBy (EsStep.Refused r) s t fe m ks = refusedDone s r
+
+abbrev pub threeBy : ThreeAnswer → IonoState → IonoState → Slot → ℕ → ℕ → (ℕ → EsRow) → Circuit → Done
+threeBy (ThreeAnswer.Found m) s t l ks n row c = esBy (esFrom row c n 0 startOf) s t (l .fi0) m ks
+threeBy (ThreeAnswer.Refused r) s t l ks n row c = refusedDone s r
+
+unfoldable pub workedOf : IonoState → ℕ → ℕ → (ℕ → EsRow) → List Float → Float → Float → Circuit → Done
+workedOf s ks n row f2d clat clck c =
+    let t = lecdenOf s ks in
+    let l = slotAt t ks in
+    threeBy (threeOf t l ks f2d clat clck c) s t l ks n row c
+
+-- is the input in its domain, do the lists reach
+abbrev pub doneBy : Bool → Bool → IonoState → ℕ → (ℕ → EsRow) → List Float → List Float → List Float → Circuit → Done
+doneBy true true s n row f2d clat clck c = let ks = controllingOf s in workedOf s ks n row f2d (at clat ks) (at clck ks) c
+doneBy true false s n row f2d clat clck c = refusedDone s Refusal.MufLists
+doneBy false reach s n row f2d clat clck c = refusedDone s Refusal.MufInput
+
+-- n rows of Es, each as `row` gives it
+unfoldable pub doneOf : IonoState → ℕ → (ℕ → EsRow) → List Float → List Float → List Float → Circuit → Done
+doneOf s n row f2d clat clck c = doneBy (inDomain c) (listsReach (controllingOf s) (length f2d) (length clat) (length clck)) s n row f2d clat clck c
+
+-- flat rows: those that there are, at most km
+abbrev pub rowsBy : Bool → ℕ → ℕ → ℕ
+rowsBy true there km = there
+rowsBy false there km = km
+
+unfoldable pub rowsOf : ℕ → ℕ → ℕ
+rowsOf numbers km = let there = numbers / 4 in rowsBy (ltb there km) there km
+
+unfoldable pub flatOf : IonoState → List Float → List Float → List Float → List Float → Circuit → Done
+flatOf s es f2d clat clck c = doneOf s (rowsOf (length es) (s .km)) (rowAt es) f2d clat clck c
+
+abbrev pub curmufOf : IonoState → List Float → List Float → List Float → List Float → Circuit → MufAnswer
+curmufOf s es f2d clat clck c = flatOf s es f2d clat clck c .answer
+
+-- only the controlling row's lower decile is rewritten
+abbrev pub rewrittenBy : Bool → List Float → ℕ → Float → List Float
+rewrittenBy true es ksx lower = set es (4 * ksx) lower
+rewrittenBy false es ksx lower = es
+
+abbrev pub esAfterOf : IonoState → List Float → List Float → List Float → List Float → Circuit → List Float
+esAfterOf s es f2d clat clck c = let d = flatOf s es f2d clat clck c in rewrittenBy (d .rewrites) es (d .ksx) (d .lower)

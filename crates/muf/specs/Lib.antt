@@ -1,0 +1,3 @@
+pub mod Sporadic
+pub mod Hour
+pub mod Curmuf

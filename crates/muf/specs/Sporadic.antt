@@ -1,0 +1,101 @@
+-- The sporadic E section of `curmuf`: the weakest reflecting row controls. A row is `fs[0]`, `fs[1]`, `fs[2]` and `hs` of the Rust's `EsParams`.
+use mathlib.Core.Bool.{Bool, true, false}
+use mathlib.Core.List.{List}
+use Prim.Native.Nat.{ℕ, zero, suc, _+_, _*_}
+use lib.Ieee.{Float}
+use Rattle.scalar.specs.F32.{_+f_, _-f_, _*f_, _/f_, _≤f_, _<f_, _>f_, _≥f_}
+use Rattle.scalar.specs.Literals.{f0, f0·1, f0·5, f1, f1·28, f2, f3·1, f1000}
+use Rattle.scalar.specs.Scalar.{minOf}
+use Rattle.scalar.specs.Root.{sqrtOf}
+use Rattle.circular.specs.SinCos.{sinOf, cosOf}
+use Rattle.circular.specs.Atan.{atanOf}
+use Rattle.hops.specs.Geometry.{RZ, hopsOf}
+use Rattle.hops.specs.declared.Hops.{Hops}
+use Rattle.layers.specs.State.{at}
+use Rattle.layer_mufs.specs.Lines.{lineOf}
+use Rattle.layer_mufs.specs.declared.Circuit.{Circuit}
+use Rattle.muf.specs.Hour.{zeroLine}
+use Rattle.muf.specs.declared.EsRow.{EsRow}
+use Rattle.muf.specs.declared.EsRay.{EsRay}
+use Rattle.muf.specs.declared.EsSearch.{EsSearch}
+use Rattle.muf.specs.declared.EsStep.{EsStep}
+use Rattle.muf.specs.declared.EsLine.{EsLine}
+
+unfoldable pub rayOf : Float → Float → Float → EsRay
+rayOf hs hop gcd =
+    let psi = f0·5 *f gcd /f hop in
+    let tdel = (cosOf psi -f RZ /f (RZ +f hs)) /f sinOf psi in
+    let cdel = f1 /f sqrtOf (f1 +f tdel *f tdel) in
+    let sphe = RZ *f cdel /f (RZ +f hs) in
+    let secp = f1 /f sqrtOf (f1 -f sphe *f sphe) in
+    record { tdel = tdel; secp = secp }
+
+-- esmuf - esd > 0: row k is the weakest so far. The hop count is kept either way.
+abbrev pub takenBy : Bool → EsSearch → ℕ → EsRow → EsRay → Float → Float → EsSearch
+takenBy true a k row ray hop esd =
+    record { esmuf = esd; ksx = k; tdelx = ray .tdel; secpx = ray .secp; hop = hop; fs0 = row .fs0; fs1 = row .fs1; fs2 = row .fs2; hs = row .hs }
+takenBy false a k row ray hop esd =
+    record { esmuf = a .esmuf; ksx = a .ksx; tdelx = a .tdelx; secpx = a .secpx; hop = hop; fs0 = a .fs0; fs1 = a .fs1; fs2 = a .fs2; hs = a .hs }
+
+unfoldable pub takenOf : EsSearch → ℕ → EsRow → EsRay → Float → EsSearch
+takenOf a k row ray hop = let esd = row .fs1 *f ray .secp in takenBy (a .esmuf -f esd >f f0) a k row ray hop esd
+
+abbrev pub hopBy : Hops → EsSearch → ℕ → EsRow → Circuit → EsStep
+hopBy (Hops.Count hop) a k row c = EsStep.Next (takenOf a k row (rayOf (row .hs) hop (c .gcd)) hop)
+hopBy (Hops.Refused r) a k row c = EsStep.Refused r
+
+-- fs[1] <= 0: the row is passed over
+abbrev pub rowBy : Bool → EsSearch → ℕ → EsRow → Circuit → EsStep
+rowBy true a k row c = EsStep.Next a
+rowBy false a k row c = hopBy (hopsOf (c .gcdkm) (c .amind) (row .hs)) a k row c
+
+unfoldable pub esRowOf : EsSearch → ℕ → EsRow → Circuit → EsStep
+esRowOf a k row c = rowBy (row .fs1 ≤f f0) a k row c
+
+unfoldable pub startOf : EsSearch
+startOf = record { esmuf = f1000; ksx = 0; tdelx = f0; secpx = f0; hop = f0; fs0 = f0; fs1 = f0; fs2 = f0; hs = f0 }
+
+-- row k of a flat list
+abbrev pub rowAt : List Float → ℕ → EsRow
+rowAt es k = record { fs0 = at es (4 * k); fs1 = at es (4 * k + 1); fs2 = at es (4 * k + 2); hs = at es (4 * k + 3) }
+
+abbrev pub nextBy : EsStep → (EsSearch → EsStep) → EsStep
+nextBy (EsStep.Next b) rest = rest b
+nextBy (EsStep.Refused r) rest = EsStep.Refused r
+
+-- n rows from row k on, in order
+unfoldable pub esFrom : (ℕ → EsRow) → Circuit → ℕ → ℕ → EsSearch → EsStep
+esFrom row c zero k a = EsStep.Next a
+esFrom row c (suc n) k a = nextBy (esRowOf a k (row k) c) (λ b. esFrom row c n (k + 1) b)
+
+-- xes + zdif < 0, xes - zdif < 0
+abbrev pub sigl4By : Bool → Bool → Float → Float → Float → Float
+sigl4By true below xes sigb sigu4 = sigb
+sigl4By false true xes sigb sigu4 = let zdif = f0·1 in sigb +f (xes +f zdif) /f (f2 *f zdif) *f (sigu4 -f sigb)
+sigl4By false false xes sigb sigu4 = sigu4
+
+unfoldable pub sigl4Of : Float → Float → Float → Float
+sigl4Of xes sigb sigu4 = let zdif = f0·1 in sigl4By (xes +f zdif <f f0) (xes -f zdif <f f0) xes sigb sigu4
+
+-- fe is the Rust's s.fi[ks][0]; `lower` is what it writes to es[ksx].fs[0]
+unfoldable pub esFoundOf : EsSearch → Float → EsLine
+esFoundOf a fe =
+    let sigu4 = (a .fs2 -f a .fs1) /f f1·28 in
+    let sigb = (a .fs1 -f a .fs0) /f f1·28 in
+    let fzero = f0·1 in
+    let sigz = (a .fs1 -f fzero) /f f3·1 in
+    let xes = fe -f a .fs0 in
+    let sigl4 = minOf (sigl4Of xes sigb sigu4) sigz in
+    record {
+      line = lineOf (sigl4 *f a .secpx) (sigu4 *f a .secpx) (atanOf (a .tdelx)) (a .hs) (a .hs) (a .fs1) (a .hop) (a .esmuf);
+      rewrites = true;
+      lower = a .fs1 -f f1·28 *f sigl4;
+    }
+
+-- esmuf - 1000 >= 0: no row reflects
+abbrev pub esLineBy : Bool → EsSearch → Float → EsLine
+esLineBy true a fe = record { line = zeroLine; rewrites = false; lower = f0 }
+esLineBy false a fe = esFoundOf a fe
+
+unfoldable pub esLineOf : EsSearch → Float → EsLine
+esLineOf a fe = esLineBy (a .esmuf -f f1000 ≥f f0) a fe

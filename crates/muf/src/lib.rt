@@ -1,0 +1,567 @@
+// The circuit MUF of an hour: what is refused, the three regular layers, sporadic E over flat rows
+// of four numbers, and the hour put together.
+ghost use mathlib.Core.Path.{_≡_};
+ghost use Prim.Native.Nat.{_+_, _*_, _<_, _≤_};
+ghost use lib.ListN.{length};
+ghost use Rattle.muf.specs.Sporadic.{rayOf, takenOf, esRowOf, startOf, rowAt, esFrom, sigl4Of, esFoundOf, esLineOf};
+ghost use Rattle.muf.specs.Hour.{modeOf, hourOf, zeroLine, zeroHour, refusedOf};
+ghost use Rattle.muf.specs.Curmuf.{withinOf, inDomain, listsReach, threeOf, rowsOf, refusedDone, esBy, workedOf, flatOf, esAfterOf, curmufOf};
+use hops::Hops;
+use layer_mufs::Circuit;
+use layer_mufs::LineAnswer;
+use layers::IonoState;
+use layers::LayerMuf;
+use profile::Slot;
+use refusal::Outcome;
+use refusal::Refusal;
+
+// the Earth's radius, km
+const RZ: f32 = 6370.0;
+
+// One row of sporadic E: lower decile, median and upper decile of the critical frequency, height.
+pub struct EsRow {
+    pub fs0: f32,
+    pub fs1: f32,
+    pub fs2: f32,
+    pub hs: f32,
+}
+
+// A row's ray: the tangent of its takeoff angle, and the secant at the layer.
+pub struct EsRay {
+    pub tdel: f32,
+    pub secp: f32,
+}
+
+// The weakest reflecting row so far, its MUF, number, ray and numbers; and the hops of the last row
+// worked out.
+pub struct EsSearch {
+    pub esmuf: f32,
+    pub ksx: usize,
+    pub tdelx: f32,
+    pub secpx: f32,
+    pub hop: f32,
+    pub fs0: f32,
+    pub fs1: f32,
+    pub fs2: f32,
+    pub hs: f32,
+}
+
+pub enum EsStep {
+    Next(EsSearch),
+    Refused(Refusal),
+}
+
+// The Es line, and the lower decile that is written into its row if one controls.
+pub struct EsLine {
+    pub line: LayerMuf,
+    pub rewrites: bool,
+    pub lower: f32,
+}
+
+// The lines of the regular layers.
+pub struct Three {
+    pub e: LayerMuf,
+    pub f1: LayerMuf,
+    pub f2: LayerMuf,
+}
+
+pub enum ThreeAnswer {
+    Found(Three),
+    Refused(Refusal),
+}
+
+// Which layer sets the circuit MUF, 1 E, 2 F1, 3 F2, and its takeoff angle in degrees.
+pub struct Mode {
+    pub angmuf: f32,
+    pub modmuf: i32,
+}
+
+pub struct MufHour {
+    pub emuf: f32,
+    pub f1muf: f32,
+    pub f2muf: f32,
+    pub esmuf: f32,
+    // circuit MUF, Es not included
+    pub allmuf: f32,
+    pub fot: f32,
+    pub hpf: f32,
+    // takeoff angle at the circuit MUF, degrees
+    pub angmuf: f32,
+    pub modmuf: i32,
+    // E, F1, F2, Es
+    pub layers: [LayerMuf; 4],
+    // the controlling sample area
+    pub ks: usize,
+}
+
+// The hour, and the state as `lecden` of the controlling slot left it; beside a refusal an hour of
+// zeros, and the state as it came.
+pub struct MufAnswer {
+    pub outcome: Outcome,
+    pub hour: MufHour,
+    pub state: IonoState,
+}
+
+fn es_ray(hs: f32, hop: f32, gcd: f32) -> EsRay
+    ensures { λ r. ⌜ r ≡ rayOf hs hop gcd ⌝ }
+{
+    let psi = 0.5 * gcd / hop;
+    let tdel = (circular::cos(psi) - RZ / (RZ + hs)) / circular::sin(psi);
+    let cdel = 1.0 / scalar::sqrt(1.0 + tdel * tdel);
+    let sphe = RZ * cdel / (RZ + hs);
+    let secp = 1.0 / scalar::sqrt(1.0 - sphe * sphe);
+    EsRay { tdel, secp }
+}
+
+// Row k controls where its MUF is the lowest so far.
+fn es_taken(a: EsSearch, k: usize, row: EsRow, ray: EsRay, hop: f32) -> EsSearch
+    ensures { λ r. ⌜ r ≡ takenOf a k row ray hop ⌝ }
+{
+    let esd = row.fs1 * ray.secp;
+    if a.esmuf - esd > 0.0 {
+        return EsSearch {
+            esmuf: esd,
+            ksx: k,
+            tdelx: ray.tdel,
+            secpx: ray.secp,
+            hop,
+            fs0: row.fs0,
+            fs1: row.fs1,
+            fs2: row.fs2,
+            hs: row.hs,
+        };
+    }
+    EsSearch {
+        esmuf: a.esmuf,
+        ksx: a.ksx,
+        tdelx: a.tdelx,
+        secpx: a.secpx,
+        hop,
+        fs0: a.fs0,
+        fs1: a.fs1,
+        fs2: a.fs2,
+        hs: a.hs,
+    }
+}
+
+// One row's turn: passed over where its median is at most 0.
+pub fn es_row(a: EsSearch, k: usize, row: EsRow, c: Circuit) -> EsStep
+    ensures { λ r. ⌜ r ≡ esRowOf a k row c ⌝ }
+{
+    if row.fs1 <= 0.0 {
+        return EsStep::Next(a);
+    }
+    let count = hops::hop_count(c.gcdkm, c.amind, row.hs);
+    match count {
+        Hops::Refused(r) => EsStep::Refused(r),
+        Hops::Count(hop) => {
+            let ray = es_ray(row.hs, hop, c.gcd);
+            let b = es_taken(a, k, row, ray, hop);
+            EsStep::Next(b)
+        }
+    }
+}
+
+// No row controls yet.
+pub fn es_start() -> EsSearch
+    ensures { λ r. ⌜ r ≡ startOf ⌝ }
+{
+    EsSearch {
+        esmuf: 1000.0,
+        ksx: 0,
+        tdelx: 0.0,
+        secpx: 0.0,
+        hop: 0.0,
+        fs0: 0.0,
+        fs1: 0.0,
+        fs2: 0.0,
+        hs: 0.0,
+    }
+}
+
+fn flat_row(es: &[f32], k: usize) -> EsRow
+    requires { ⌜ 4 * k + 3 < length (now es) ⌝ }
+    ensures { λ r. ⌜ r ≡ rowAt (now (es .entry)) k ⌝ }
+{
+    let lower = 4 * k;
+    let median = 4 * k + 1;
+    let upper = 4 * k + 2;
+    let height = 4 * k + 3;
+    EsRow {
+        fs0: es[lower],
+        fs1: es[median],
+        fs2: es[upper],
+        hs: es[height],
+    }
+}
+
+// The first n rows, in order.
+fn es_rows(es: &[f32], n: usize, c: Circuit) -> EsStep
+    requires { ⌜ 4 * n ≤ length (now es) ⌝ }
+    ensures { λ r. ⌜ r ≡ esFrom (rowAt (now (es .entry))) c n 0 startOf ⌝ }
+{
+    let mut a = es_start();
+    for k in 0..n {
+        let row = flat_row(es, k);
+        let step = es_row(a, k, row, c);
+        match step {
+            EsStep::Refused(r) => {
+                return EsStep::Refused(r);
+            }
+            EsStep::Next(b) => {
+                a = b;
+            }
+        }
+    }
+    EsStep::Next(a)
+}
+
+// The lower standard deviation: the map's where the lower decile is above the regular E, the upper
+// one's where it is below, and between them in a band of 0.1 MHz about it.
+fn lower_spread(xes: f32, sigb: f32, sigu4: f32) -> f32
+    ensures { λ r. ⌜ r ≡ sigl4Of xes sigb sigu4 ⌝ }
+{
+    let zdif = 0.1;
+    if xes + zdif < 0.0 {
+        return sigb;
+    }
+    if xes - zdif < 0.0 {
+        return sigb + ((xes + zdif) / (2.0 * zdif)) * (sigu4 - sigb);
+    }
+    sigu4
+}
+
+fn zero_line() -> LayerMuf
+    ensures { λ r. ⌜ r ≡ zeroLine ⌝ }
+{
+    LayerMuf {
+        sigl: 0.0,
+        sigu: 0.0,
+        delmuf: 0.0,
+        hpmuf: 0.0,
+        htmuf: 0.0,
+        fvmuf: 0.0,
+        afmuf: 0.0,
+        nhopmf: 0,
+        yfot: 0.0,
+        ymuf: 0.0,
+        yhpf: 0.0,
+    }
+}
+
+// The line of the controlling row; `fe` is the regular E critical frequency.
+fn es_found(a: EsSearch, fe: f32) -> EsLine
+    ensures { λ r. ⌜ r ≡ esFoundOf a fe ⌝ }
+{
+    let sigu4 = (a.fs2 - a.fs1) / 1.28;
+    let sigb = (a.fs1 - a.fs0) / 1.28;
+    let sigz = (a.fs1 - 0.1) / 3.1;
+    let xes = fe - a.fs0;
+    let sigl4 = scalar::min(lower_spread(xes, sigb, sigu4), sigz);
+    let lower = a.fs1 - 1.28 * sigl4;
+    let del = circular::atan(a.tdelx);
+    let line = layer_mufs::line(
+        sigl4 * a.secpx,
+        sigu4 * a.secpx,
+        del,
+        a.hs,
+        a.hs,
+        a.fs1,
+        a.hop,
+        a.esmuf,
+    );
+    EsLine {
+        line,
+        rewrites: true,
+        lower,
+    }
+}
+
+pub fn es_line(a: EsSearch, fe: f32) -> EsLine
+    ensures { λ r. ⌜ r ≡ esLineOf a fe ⌝ }
+{
+    if a.esmuf - 1000.0 >= 0.0 {
+        let line = zero_line();
+        return EsLine {
+            line,
+            rewrites: false,
+            lower: 0.0,
+        };
+    }
+    es_found(a, fe)
+}
+
+fn by_layer(m: Three, allmuf: f32) -> Mode
+    ensures { λ r. ⌜ r ≡ modeOf m allmuf ⌝ }
+{
+    let e = m.e;
+    if e.ymuf - allmuf >= 0.0 {
+        return Mode {
+            angmuf: e.delmuf,
+            modmuf: 1,
+        };
+    }
+    let f1 = m.f1;
+    if f1.ymuf - allmuf >= 0.0 {
+        return Mode {
+            angmuf: f1.delmuf,
+            modmuf: 2,
+        };
+    }
+    let f2 = m.f2;
+    Mode {
+        angmuf: f2.delmuf,
+        modmuf: 3,
+    }
+}
+
+pub fn hour(m: Three, es: LayerMuf, ks: usize) -> MufHour
+    ensures { λ r. ⌜ r ≡ hourOf m es ks ⌝ }
+{
+    let e = m.e;
+    let f1 = m.f1;
+    let f2 = m.f2;
+    let fot = scalar::max(scalar::max(e.yfot, f1.yfot), f2.yfot);
+    let allmuf = scalar::max(scalar::max(e.ymuf, f1.ymuf), f2.ymuf);
+    let hpf = scalar::max(scalar::max(e.yhpf, f1.yhpf), f2.yhpf);
+    let by = by_layer(m, allmuf);
+    let layers = [e, f1, f2, es];
+    MufHour {
+        emuf: e.ymuf,
+        f1muf: f1.ymuf,
+        f2muf: f2.ymuf,
+        esmuf: es.ymuf,
+        allmuf,
+        fot,
+        hpf,
+        angmuf: by.angmuf,
+        modmuf: by.modmuf,
+        layers,
+        ks,
+    }
+}
+
+fn zero_hour() -> MufHour
+    ensures { λ r. ⌜ r ≡ zeroHour ⌝ }
+{
+    let z = zero_line();
+    let layers = [z, z, z, z];
+    MufHour {
+        emuf: 0.0,
+        f1muf: 0.0,
+        f2muf: 0.0,
+        esmuf: 0.0,
+        allmuf: 0.0,
+        fot: 0.0,
+        hpf: 0.0,
+        angmuf: 0.0,
+        modmuf: 0,
+        layers,
+        ks: 0,
+    }
+}
+
+pub fn refused(s: IonoState, r: Refusal) -> MufAnswer
+    ensures { λ x. ⌜ x ≡ refusedOf s r ⌝ }
+{
+    let hour = zero_hour();
+    MufAnswer {
+        outcome: Outcome::Refused(r),
+        hour,
+        state: s,
+    }
+}
+
+fn within(x: f32, top: f32) -> bool
+    ensures { λ r. ⌜ r ≡ withinOf x top ⌝ }
+{
+    if 0.0 <= x {
+        return x <= top;
+    }
+    false
+}
+
+fn in_domain(c: Circuit) -> bool
+    ensures { λ r. ⌜ r ≡ inDomain c ⌝ }
+{
+    if within(c.gcdkm, 40100.0) {
+        if within(c.gcd, 6.3) {
+            if c.amind > 90.0 {
+                return false;
+            }
+            return true;
+        }
+        return false;
+    }
+    false
+}
+
+// Whether the deciles are 576, and clat and clck reach to slot ks; the lists by their lengths.
+fn lists_reach(ks: usize, deciles: usize, lats: usize, clocks: usize) -> bool
+    ensures { λ r. ⌜ r ≡ listsReach ks deciles lats clocks ⌝ }
+{
+    if deciles != 576 {
+        return false;
+    }
+    if lats <= ks {
+        return false;
+    }
+    ks < clocks
+}
+
+// E, then F2, then F1.
+pub fn three_lines(
+    t: IonoState,
+    l: Slot,
+    ks: usize,
+    f2d: &[f32],
+    clat: f32,
+    clck: f32,
+    c: Circuit,
+) -> ThreeAnswer
+    requires { ⌜ ks < 3 ⌝ }
+    ensures { λ r. ⌜ r ≡ threeOf t l ks (now (f2d .entry)) clat clck c ⌝ }
+{
+    let x = layer_mufs::tangent_frequencies(l, c.gcdkm);
+    let e_answer = layer_mufs::e_line(t, x.fxe, c.gcdkm, c.amind);
+    match e_answer {
+        LineAnswer::Refused(r) => ThreeAnswer::Refused(r),
+        LineAnswer::Found(e) => {
+            let f2_answer = layer_mufs::f2_line(t, l, ks, x, f2d, clat, clck, c);
+            match f2_answer {
+                LineAnswer::Refused(r) => ThreeAnswer::Refused(r),
+                LineAnswer::Found(f2) => {
+                    let f1_answer = layer_mufs::f1_line(t, l, x.fx1, e, c.gcdkm, c.amind);
+                    match f1_answer {
+                        LineAnswer::Refused(r) => ThreeAnswer::Refused(r),
+                        LineAnswer::Found(f1) => {
+                            let m = Three { e, f1, f2 };
+                            ThreeAnswer::Found(m)
+                        }
+                    }
+                }
+            }
+        }
+    }
+}
+
+// The rows that there are, at most km.
+fn row_count(numbers: usize, km: usize) -> usize
+    ensures { λ r. ⌜ r ≡ rowsOf numbers km ⌝ }
+{
+    let there = numbers / 4;
+    if there < km {
+        return there;
+    }
+    km
+}
+
+// What is written into which row, once the hour is known.
+pub struct Done {
+    pub answer: MufAnswer,
+    pub rewrites: bool,
+    pub ksx: usize,
+    pub lower: f32,
+}
+
+pub fn refused_done(s: IonoState, r: Refusal) -> Done
+    ensures { λ x. ⌜ x ≡ refusedDone s r ⌝ }
+{
+    let answer = refused(s, r);
+    Done {
+        answer,
+        rewrites: false,
+        ksx: 0,
+        lower: 0.0,
+    }
+}
+
+// The hour, after the search of the Es rows.
+pub fn finish(s: IonoState, t: IonoState, fe: f32, m: Three, ks: usize, step: EsStep) -> Done
+    ensures { λ r. ⌜ r ≡ esBy step s t fe m ks ⌝ }
+{
+    match step {
+        EsStep::Refused(r) => refused_done(s, r),
+        EsStep::Next(a) => {
+            let x = es_line(a, fe);
+            let line = x.line;
+            let hour = hour(m, line, ks);
+            let answer = MufAnswer {
+                outcome: Outcome::Answered,
+                hour,
+                state: t,
+            };
+            Done {
+                answer,
+                rewrites: x.rewrites,
+                ksx: a.ksx,
+                lower: x.lower,
+            }
+        }
+    }
+}
+
+// All that an accepted call works out; the lists reach to slot ks.
+fn worked(
+    s: IonoState,
+    ks: usize,
+    es: &[f32],
+    f2d: &[f32],
+    clat: f32,
+    clck: f32,
+    c: Circuit,
+) -> Done
+    requires { ⌜ ks < 3 ⌝ }
+    ensures { λ r. ⌜ r ≡ workedOf s ks (rowsOf (length (now (es .entry))) (s .km)) (rowAt (now (es .entry))) (now (f2d .entry)) clat clck c ⌝ }
+{
+    let t = profile::lecden_slot(s, ks);
+    let l = layer_mufs::slot(t, ks);
+    let found = three_lines(t, l, ks, f2d, clat, clck, c);
+    match found {
+        ThreeAnswer::Refused(r) => refused_done(s, r),
+        ThreeAnswer::Found(m) => {
+            let n = row_count(es.len(), s.km);
+            let step = es_rows(es, n, c);
+            finish(s, t, l.fi0, m, ks, step)
+        }
+    }
+}
+
+// The whole call but for the row that it rewrites.
+fn flat(s: IonoState, es: &[f32], f2d: &[f32], clat: &[f32], clck: &[f32], c: Circuit) -> Done
+    ensures { λ r. ⌜ r ≡ flatOf s (now (es .entry)) (now (f2d .entry)) (now (clat .entry)) (now (clck .entry)) c ⌝ }
+{
+    if in_domain(c) {
+        let ks = layer_mufs::controlling(s);
+        if lists_reach(ks, f2d.len(), clat.len(), clck.len()) {
+            let lat = clat[ks];
+            let clock = clck[ks];
+            return worked(s, ks, es, f2d, lat, clock, c);
+        }
+        return refused_done(s, Refusal::MufLists);
+    }
+    refused_done(s, Refusal::MufInput)
+}
+
+// The MUF hour; `es` holds four numbers a row: three of `fs`, then `hs`. Only the controlling row's
+// lower decile is rewritten.
+pub fn curmuf(
+    s: IonoState,
+    es: &mut [f32],
+    f2d: &[f32],
+    clat: &[f32],
+    clck: &[f32],
+    c: Circuit,
+) -> MufAnswer
+    ensures { λ r. ⌜ r ≡ curmufOf s (now (es .entry)) (now (f2d .entry)) (now (clat .entry)) (now (clck .entry)) c ⌝ }
+    ensures { λ r. ⌜ now (es .exit) ≡ esAfterOf s (now (es .entry)) (now (f2d .entry)) (now (clat .entry)) (now (clck .entry)) c ⌝ }
+{
+    let d = flat(s, es, f2d, clat, clck, c);
+    let answer = d.answer;
+    if d.rewrites {
+        let at = 4 * d.ksx;
+        es[at] = d.lower;
+        return answer;
+    }
+    answer
+}
