@@ -1,13 +1,13 @@
 -- The parts of e ^ x fit 64 bits: each term of the series is at most a thirty-second of the one before, and the table's entries are below 2 ^ 63.
-use mathlib.Core.Path.{_≡_, refl, sym, ap, ap₂, _∙_, subst}
+use mathlib.Core.Path.{_≡_, refl}
 use mathlib.Core.Bool.{Bool, _&&_}
-use Prim.Native.Nat.{ℕ, zero, suc, _+_, _-_, _*_, _/_, _%_, _^_, _≤_, _<_}
+use Prim.Native.Nat.{ℕ, _+_, _-_, _*_, _/_, _^_, _≤_, _<_}
 use native.Mathlib.Nat.{le-trans, le-of-lt, mul-le-mul, mul-le-mul-right, div-le-of-le-mul}
 use native.Mathlib.Omega.{arith}
 use lib.Dec.{T, leb, leb→le, lit≤}
 use lib.Pow.{pow-mono}
 use lib.Ieee.Fits.{and-l, and-r}
-use lib.ListN.{getD, length}
+use lib.ListN.{getD}
 use Rattle.series.proofs.Entries.{entry}
 use Rattle.exponential.specs.Tables.{ln2, sixteenths}
 use Rattle.exponential.specs.Exp.{term, sumTo, riseOf, factor, left, powerOf}

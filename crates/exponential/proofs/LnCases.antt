@@ -1,17 +1,15 @@
 -- The cases of `lnBits`: zeros, NaN and what is below 0, infinity, 1, and finite patterns above 1, below 1 and below the normal range.
-use mathlib.Core.Path.{_≡_, refl, sym, ap, ap₂, _∙_, subst}
-use mathlib.Core.Bool.{Bool, true, false}
-use Prim.Native.Nat.{ℕ, zero, suc, _+_, _-_, _*_, _/_, _%_, _^_, _≤_, _<_}
-use native.Mathlib.Nat.{le-trans, le-of-eq, le-refl, lt-of-lt-of-le, lt-of-le-of-lt, lt-of-not-le, not-le-of-lt, mul-one, mul-le-mul, mul-le-mul-left, mul-le-mul-right, mul-lt-mul-of-pos-right}
+use mathlib.Core.Path.{_≡_, sym, ap, _∙_}
+use mathlib.Core.Bool.{Bool}
+use Prim.Native.Nat.{ℕ, suc, _+_, _-_, _*_, _/_, _%_, _^_, _≤_, _<_}
+use native.Mathlib.Nat.{le-trans, le-of-eq, lt-of-lt-of-le, lt-of-le-of-lt, lt-of-not-le, not-le-of-lt, mul-le-mul-right, mul-lt-mul-of-pos-right}
 use native.Mathlib.Omega.{arith}
-use lib.Dec.{leb, ltb, eqb, lit≤, lit<, not-T, eqb→eq}
+use lib.Dec.{leb, ltb, eqb, lit≤}
 use lib.Pow.{pow-pos, pow-mono, pow-add}
 use lib.Count.{leadingZeros, leading-top}
-use lib.Ieee.Bits.{is-false}
 use borrow.Author.Tests.{le-ltb, lt-ltb, le-leb, lt-leb, eq-eqb, ne-eqb}
 use Rattle.fixed.specs.Fixed.{pick}
 use Rattle.exponential.specs.Ln.{above, below, finite, lnBits}
-use Rattle.series.proofs.Cases.{split}
 
 module _ (b : ℕ) where
   pub ln-zero : b % 2 ^ 31 ≡ 0 → lnBits b ≡ 0xff80_0000

@@ -1,13 +1,13 @@
 -- The parts of the logarithm fit 64 bits: with l leading zeros n * 2 ^ l has 64 digits, so the quotient by d has 39 or 40, and s at most 29.
-use mathlib.Core.Path.{_≡_, refl, sym, ap, ap₂, _∙_, subst}
-use mathlib.Core.Bool.{Bool, true, false}
-use Prim.Native.Nat.{ℕ, zero, suc, _+_, _-_, _*_, _/_, _%_, _^_, _≤_, _<_}
-use native.Mathlib.Nat.{le-trans, le-of-eq, le-of-lt, le-refl, lt-of-lt-of-le, lt-of-le-of-lt, lt-of-not-le, not-le-of-lt, mul-assoc, mul-comm, mul-left-comm, mul-right-comm, mul-le-mul, mul-le-mul-left, mul-le-mul-right, mul-lt-mul-of-pos-right, le-of-mul-le-mul-right, div-mul-le-self, lt-div-mul-add, zero-div, zero-mul}
+use mathlib.Core.Path.{_≡_, refl, sym, ap, _∙_, subst}
+use mathlib.Core.Bool.{Bool}
+use Prim.Native.Nat.{ℕ, suc, _+_, _-_, _*_, _/_, _^_, _≤_, _<_}
+use native.Mathlib.Nat.{le-trans, le-of-eq, le-of-lt, lt-of-lt-of-le, lt-of-le-of-lt, lt-of-not-le, not-le-of-lt, mul-assoc, mul-right-comm, mul-le-mul, mul-le-mul-left, mul-le-mul-right, mul-lt-mul-of-pos-right, le-of-mul-le-mul-right, div-mul-le-self, lt-div-mul-add, zero-div, zero-mul}
 use native.Mathlib.Omega.{arith}
-use lib.Dec.{T, leb, ltb, leb→le, lit≤, lit<}
+use lib.Dec.{leb, leb→le, lit≤, lit<}
 use lib.Pow.{pow-pos, pow-mono, pow-add}
 use lib.Count.{leadingZeros, leading-top}
-use lib.ListN.{getD, length}
+use lib.ListN.{getD}
 use borrow.Author.Tests.{le-leb, lt-leb}
 use Rattle.series.proofs.Cases.{split}
 use Rattle.series.proofs.Entries.{entry}

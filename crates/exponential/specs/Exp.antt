@@ -1,6 +1,5 @@
 -- e ^ x of an f32 by whole numbers: x is a whole multiple of ln 2 and a rest, and e to the rest comes from a table and five terms of the series. Definitions only.
 use Prim.Native.Nat.{ℕ, zero, suc, _+_, _-_, _*_, _/_, _%_, _^_}
-use mathlib.Core.Bool.{Bool, true, false}
 use lib.Dec.{leb, ltb}
 use lib.ListN.{getD}
 use lib.Ieee.{Float, binary32, ofBits, toBits}

@@ -1,6 +1,5 @@
 -- The natural logarithm of an f32 by whole numbers. x is 2 ^ e * m, with m from 1 to 2; m is c * (1 + s) / (1 - s), c the nearest eighth; and ln ((1 + s) / (1 - s)) is 2 (s + s³ / 3 + s⁵ / 5 + ..). Definitions only.
-use Prim.Native.Nat.{ℕ, zero, suc, _+_, _-_, _*_, _/_, _%_, _^_}
-use mathlib.Core.Bool.{Bool, true, false}
+use Prim.Native.Nat.{ℕ, _+_, _-_, _*_, _/_, _%_, _^_}
 use lib.Dec.{leb, ltb, eqb}
 use lib.Count.{leadingZeros}
 use lib.ListN.{getD}

@@ -5,7 +5,7 @@ ghost use Prim.Native.Nat.{_+_, _-_, _*_, _/_, _%_, _^_, _<_, _≤_};
 ghost use lib.Dec.{leb};
 ghost use lib.ListN.{getD};
 ghost use Rattle.fixed.specs.Fixed.{pick};
-ghost use Rattle.exponential.specs.Tables.{ln2, eighths};
+ghost use Rattle.exponential.specs.Tables.{eighths};
 ghost use Rattle.exponential.specs.Ln.{excessOf, twiceOf, restOf, above, below, lnBits};
 use fixed::pack;
 

@@ -1,7 +1,7 @@
 -- The claims on `gethp` whole, for every state and frequency.
 use mathlib.Core.Path.{_≡_, refl, sym, ap, _∙_, subst}
 use mathlib.Core.Bool.{Bool, true, false}
-use Prim.Native.Nat.{ℕ}
+use Prim.Native.Nat.{ℕ, _≤_, zero-le}
 use native.Mathlib.Omega.{arith}
 use lib.Dec.{T}
 use lib.Ieee.{Float, binary32}
@@ -14,6 +14,7 @@ use Rattle.profile.specs.Rising.{risesOf}
 use Rattle.readings.specs.Scan.{at, profileInterpolateOf}
 use Rattle.readings.specs.Cursor.{countOf}
 use Rattle.walk.specs.Walk.{Held}
+use Rattle.walk.proofs.Cursor.{count-bound}
 use Rattle.heights.specs.Nodes.{heightAt}
 use Rattle.heights.specs.Gethp.{ysqOf, gethpBy, cursorBy, gethpOf, gethpScanOf}
 use Rattle.heights.specs.Reads.{differenceOf, FortyReads}
@@ -60,3 +61,21 @@ forty-reads s fxx held rises =
       moved = moves htr fnsq ht held rises fine;
       rising = reads-rise-finite (at htr 0) ht (held 0) fine;
     }
+
+-- the cursor is a place of the profile
+pub cursor-bound : (s : IonoState) (fxx : Float) → gethpOf s fxx .cursor ≤ 49
+unfolding gethpOf cursorBy
+cursor-bound s fxx = go (fxx *f fxx -f at (s .fnsq) 0 ≤f f0) (risesOf (s .htr))
+  where
+    go : (b r : Bool) → gethpBy b (s .htr) (s .fnsq) (fxx *f fxx) (λ ht. ysqOf (s .htr) (s .fnsq) ht (fxx *f fxx)) (λ ht. cursorBy r (s .htr) ht) .cursor ≤ 49
+    go true r = zero-le
+    go false true = count-bound (s .htr) (heightAt (at (s .htr) 0) (differenceOf s fxx) 39) 49 0
+    go false false = zero-le
+
+pub scan-cursor : (s : IonoState) (fxx : Float) → gethpScanOf s fxx .cursor ≡ 0
+unfolding gethpScanOf
+scan-cursor s fxx = go (fxx *f fxx -f at (s .fnsq) 0 ≤f f0)
+  where
+    go : (b : Bool) → gethpBy b (s .htr) (s .fnsq) (fxx *f fxx) (λ ht. ysqOf (s .htr) (s .fnsq) ht (fxx *f fxx)) (λ ht. 0) .cursor ≡ 0
+    go true = refl
+    go false = refl

@@ -6,6 +6,8 @@ ghost use Rattle.port_state.specs.Words.{floatsOf, floatsInto, signedOf,
 ghost use Rattle.port_state.specs.State.{stateOf, tablesInto, profileInto, countsInto, marksInto, stateInto};
 use layers::IonoState;
 
+pub mod ports;
+
 // The floats of the words from `from` on.
 pub fn floats_of(w: &[u32], from: usize, x: &mut [f32])
     requires { ⌜ from + length (now x) ≤ length (now w) ⌝ }

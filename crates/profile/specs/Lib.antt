@@ -4,3 +4,4 @@ pub mod Grid
 pub mod Density
 pub mod Lecden
 pub mod Kept
+pub mod Prepared

@@ -51,7 +51,7 @@ virtualBy false find s k f = virtualByParabola s k f
 abbrev pub made : List Float → List Float → List Float → Ionogram
 made fv hprim htrue = record { fvert = fv; hprim = hprim; htrue = htrue; afac = replicate 30 f0 }
 
--- `iedp < 0`: every height off the profile; else the E rows from the table, the others by the profile's true heights
+-- every height off the profile; or the E rows from the table, the others by the profile's true heights
 abbrev pub rowsBy : Bool → Finder → IonoState → ℕ → List Float → Ionogram
 rowsBy true find s k fv = made fv (rowsOf (λ f. find s f .hp) fv 0 (replicate 30 f0) 30) (rowsOf (λ f. find s f .ht) fv 0 (replicate 30 f0) 30)
 rowsBy false find s k fv =
@@ -62,8 +62,12 @@ rowsBy false find s k fv =
 unfoldable pub fvertAt : IonoState → ℕ → List Float
 fvertAt s k = fvertOf (at (s .fi) (3 * k)) (at (s .fi) (3 * k + 1)) (at (s .fi) (3 * k + 2))
 
+-- `iedp < 0`
+unfoldable pub allByProfile : IonoState → Bool
+allByProfile s = ltZ (s .iedp) (pos 0)
+
 unfoldable pub rowsAt : Finder → IonoState → ℕ → List Float → Ionogram
-rowsAt find s k fv = rowsBy (ltZ (s .iedp) (pos 0)) find s k fv
+rowsAt find s k fv = rowsBy (allByProfile s) find s k fv
 
 unfoldable pub genionBy : Finder → IonoState → ℕ → Ionogram
 genionBy find s k = rowsAt find s k (fvertAt s k)

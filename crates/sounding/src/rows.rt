@@ -8,17 +8,74 @@ ghost use lib.ListN.{replicate};
 ghost use Rattle.scalar.specs.Literals.{f0};
 ghost use Rattle.heights.specs.Gethp.{gethpOf};
 ghost use Rattle.profile.specs.Rising.{risesOf};
-ghost use Rattle.sounding.specs.Genion.{HTE as Genion·HTE, HPE as Genion·HPE, rowsOf, trueByProfile, virtualByParabola, made, rowsBy, rowsAt};
+ghost use Rattle.sounding.specs.Genion.{HTE as Genion·HTE, HPE as Genion·HPE, rowsOf, allByProfile, trueByProfile, virtualByParabola, made, rowsBy, rowsAt};
 use ionogram::Ionogram;
 use layers::IonoState;
 
 const HTE: [f32; 30] = [
-    70.00, 84.51, 88.52, 93.00, 94.26, 95.71, 97.68, 100.27, 104.22, 107.19, 0.0, 0.0, 0.0, 0.0, 0.0,
-    0.0, 0.0, 0.0, 0.0, 0.0, 0.0, 0.0, 0.0, 0.0, 0.0, 0.0, 0.0, 0.0, 0.0, 0.0,
+    70.00,
+    84.51,
+    88.52,
+    93.00,
+    94.26,
+    95.71,
+    97.68,
+    100.27,
+    104.22,
+    107.19,
+    0.0,
+    0.0,
+    0.0,
+    0.0,
+    0.0,
+    0.0,
+    0.0,
+    0.0,
+    0.0,
+    0.0,
+    0.0,
+    0.0,
+    0.0,
+    0.0,
+    0.0,
+    0.0,
+    0.0,
+    0.0,
+    0.0,
+    0.0,
 ];
+
 const HPE: [f32; 30] = [
-    70.00, 87.40, 94.00, 98.68, 100.20, 102.65, 107.15, 113.74, 125.25, 140.03, 0.0, 0.0, 0.0, 0.0,
-    0.0, 0.0, 0.0, 0.0, 0.0, 0.0, 0.0, 0.0, 0.0, 0.0, 0.0, 0.0, 0.0, 0.0, 0.0, 0.0,
+    70.00,
+    87.40,
+    94.00,
+    98.68,
+    100.20,
+    102.65,
+    107.15,
+    113.74,
+    125.25,
+    140.03,
+    0.0,
+    0.0,
+    0.0,
+    0.0,
+    0.0,
+    0.0,
+    0.0,
+    0.0,
+    0.0,
+    0.0,
+    0.0,
+    0.0,
+    0.0,
+    0.0,
+    0.0,
+    0.0,
+    0.0,
+    0.0,
+    0.0,
+    0.0,
 ];
 
 // The two columns of heights.
@@ -122,13 +179,21 @@ fn by_table(s: IonoState, k: usize, rises: bool, fv: [f32; 30]) -> Ionogram
     make(fv, virtual_rows_by_parabola(s, k, fv), htrue)
 }
 
+// Whether every height comes from the density profile.
+fn all_by_profile(s: IonoState) -> bool
+    ensures { λ r. ⌜ r ≡ allByProfile s ⌝ }
+{
+    let iedp = s.iedp;
+    iedp < 0
+}
+
 pub fn rows(s: IonoState, k: usize, fv: [f32; 30]) -> Ionogram
     requires { ⌜ k < 3 ⌝ }
     ensures { λ r. ⌜ r ≡ rowsAt gethpOf s k fv ⌝ }
 {
     let htr = s.htr;
     let rises = profile::rises_throughout(&htr);
-    if s.iedp < 0 {
+    if all_by_profile(s) {
         let c = by_profile(s, rises, fv);
         let hprim = c.hprim;
         let htrue = c.htrue;

@@ -1,6 +1,5 @@
 -- From the pattern of x to that of its logarithm.
-use mathlib.Core.Path.{_≡_, refl, sym, ap, ap₂, _∙_, subst, subst₂}
-use Prim.Native.Nat.{ℕ, zero, suc, _+_, _-_, _*_, _/_, _%_, _^_, _<_, _≤_}
+use mathlib.Core.Path.{ap, _∙_}
 use lib.Ieee.{binary32, ofBits}
 use Rattle.exponential.specs.Ln.{lnBits, lnOf}
 use borrow.Author.Needs.{needs}

@@ -1,11 +1,10 @@
 -- Each return is one case of the definition.
-use mathlib.Core.Path.{_≡_, refl, sym, ap, ap₂, _∙_, subst, subst₂}
-use Prim.Native.Nat.{ℕ, zero, suc, _+_, _-_, _*_, _/_, _%_, _^_, _<_, _≤_}
+use mathlib.Core.Path.{sym, ap, _∙_, subst}
+use Prim.Native.Nat.{ℕ, _+_, _-_, _*_, _/_, _%_, _^_, _<_, _≤_}
 use native.Mathlib.Omega.{arith}
-use native.Mathlib.Nat.{le-trans, le-of-eq, lt-of-lt-of-le}
-use Rattle.fixed.specs.Fixed.{scaledOf, pick}
+use Rattle.fixed.specs.Fixed.{pick}
 use lib.Dec.{ltb}
-use Rattle.exponential.specs.Exp.{grown, shrunk, expBits}
+use Rattle.exponential.specs.Exp.{grown, shrunk}
 use Rattle.exponential.proofs.ExpCases.{at-nan, at-tiny, at-past, at-signed, limit-le, in-range}
 use borrow.Author.Needs.{needs}
 use Rattle.exponential.proofs.exponent.exp_bits.Statement.{statement}

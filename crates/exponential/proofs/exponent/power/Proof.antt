@@ -1,11 +1,8 @@
 -- The product of the entry's upper half by what the series adds fits, since the entry is below 2 ^ 63.
-use mathlib.Core.Path.{_≡_, refl, sym, ap, ap₂, _∙_, subst, subst₂}
-use Prim.Native.Nat.{ℕ, zero, suc, _+_, _-_, _*_, _/_, _%_, _^_, _<_, _≤_}
+use mathlib.Core.Path.{_≡_, sym, ap₂, subst, subst₂}
+use Prim.Native.Nat.{ℕ, _+_, _-_, _*_, _/_, _^_, _≤_}
 use native.Mathlib.Omega.{arith}
-use mir.Syntax.{w32, w64}
-use mir.Val.{Fits}
-use lib.ListN.{getD}
-use Rattle.exponential.specs.Tables.{ln2, sixteenths}
+use Rattle.exponential.specs.Tables.{ln2}
 use Rattle.exponential.specs.Exp.{riseOf, factor, left, powerOf}
 use Rattle.exponential.proofs.ExpRange.{entry-le, rise-le, product-le}
 use borrow.Author.Needs.{needs}

@@ -1,8 +1,7 @@
 -- The five terms are those of the definition, and every sum fits since each term is far below the one before.
-use mathlib.Core.Path.{_≡_, refl, sym, ap, ap₂, _∙_, subst, subst₂}
-use Prim.Native.Nat.{ℕ, zero, suc, _+_, _-_, _*_, _/_, _%_, _^_, _<_, _≤_}
+use mathlib.Core.Path.{refl}
 use native.Mathlib.Omega.{arith}
-use native.Mathlib.Nat.{le-trans, lt-of-le-of-lt}
+use native.Mathlib.Nat.{lt-of-le-of-lt}
 use lib.Dec.{lit<}
 use Rattle.fixed.proofs.Product.{half-fits}
 use Rattle.exponential.specs.Exp.{term, sumTo}

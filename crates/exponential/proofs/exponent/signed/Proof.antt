@@ -1,11 +1,9 @@
 -- The two ways of the definition differ in what `folded` and `packed` choose by the sign.
-use mathlib.Core.Path.{_≡_, refl, sym, ap, ap₂, _∙_, subst, subst₂}
-use Prim.Native.Nat.{ℕ, zero, suc, _+_, _-_, _*_, _/_, _%_, _^_, _<_, _≤_}
+use mathlib.Core.Path.{_≡_, refl, sym, ap, ap₂, _∙_, subst}
+use Prim.Native.Nat.{ℕ, _+_, _-_, _*_, _/_, _%_, _^_, _≤_}
 use native.Mathlib.Omega.{arith}
 use mathlib.Core.Bool.{Bool, true, false}
 use lib.Dec.{ltb}
-use borrow.Author.Tests.{lt-ltb, le-ltb}
-use Rattle.series.proofs.Cases.{split}
 use Rattle.fixed.specs.Fixed.{pick}
 use Rattle.exponential.specs.Tables.{ln2}
 use Rattle.exponential.specs.Exp.{powerOf, rounded, lowered, grown, shrunk}

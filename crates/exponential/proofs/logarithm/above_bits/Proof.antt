@@ -1,11 +1,11 @@
 -- The sum is at least 2 ^ 30 units and fits.
-use mathlib.Core.Path.{_≡_, refl, sym, ap, ap₂, _∙_, subst, subst₂}
-use Prim.Native.Nat.{ℕ, zero, suc, _+_, _-_, _*_, _/_, _%_, _^_, _<_, _≤_}
+use mathlib.Core.Path.{sym, ap, _∙_, subst}
+use Prim.Native.Nat.{ℕ, _+_, _*_, _^_, _≤_}
 use native.Mathlib.Omega.{arith}
 use Rattle.series.proofs.Cases.{split}
 use Rattle.fixed.specs.Fixed.{pattern}
 use Rattle.exponential.specs.Tables.{ln2}
-use Rattle.exponential.specs.Ln.{restOf, above}
+use Rattle.exponential.specs.Ln.{above}
 use Rattle.exponential.proofs.LnRange.{rest-ge, rest-le}
 use borrow.Author.Needs.{needs}
 use Rattle.exponential.proofs.logarithm.above_bits.Statement.{statement}

@@ -1,14 +1,13 @@
 -- The difference is at least 2 ^ 30 units.
-use mathlib.Core.Path.{_≡_, refl, sym, ap, ap₂, _∙_, subst, subst₂}
-use Prim.Native.Nat.{ℕ, zero, suc, _+_, _-_, _*_, _/_, _%_, _^_, _<_, _≤_}
+use mathlib.Core.Path.{_≡_, sym, ap, _∙_, subst}
+use Prim.Native.Nat.{ℕ, _+_, _-_, _*_, _^_, _<_, _≤_}
 use native.Mathlib.Omega.{arith}
-use mir.Syntax.{w32, w64}
+use mir.Syntax.{w32}
 use mir.Val.{Fits}
-use lib.Dec.{lit≤}
 use Rattle.fixed.specs.Fixed.{pattern}
 use Rattle.fixed.proofs.Round.{pattern-lt}
 use Rattle.exponential.specs.Tables.{ln2}
-use Rattle.exponential.specs.Ln.{restOf, below}
+use Rattle.exponential.specs.Ln.{below}
 use Rattle.exponential.proofs.LnRange.{rest-le}
 use borrow.Author.Needs.{needs}
 use Rattle.exponential.proofs.logarithm.below_bits.Statement.{statement}

@@ -1,9 +1,7 @@
 -- The square of s has at most 58 digits.
-use mathlib.Core.Path.{_≡_, refl, sym, ap, ap₂, _∙_, subst, subst₂}
-use Prim.Native.Nat.{ℕ, zero, suc, _+_, _-_, _*_, _/_, _%_, _^_, _<_, _≤_}
+use Prim.Native.Nat.{ℕ, _*_, _/_, _^_, _≤_}
 use native.Mathlib.Omega.{arith}
-use native.Mathlib.Nat.{mul-le-mul, le-of-lt}
-use Rattle.exponential.specs.Ln.{excessOf}
+use native.Mathlib.Nat.{mul-le-mul}
 use Rattle.exponential.proofs.LnRange.{excess-le}
 use borrow.Author.Needs.{needs}
 use Rattle.exponential.proofs.logarithm.excess.Statement.{statement}

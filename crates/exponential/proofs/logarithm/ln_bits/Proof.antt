@@ -1,12 +1,12 @@
 -- Each return is one case of the definition; a subnormal is first shifted up to 24 digits.
-use mathlib.Core.Path.{_≡_, refl, sym, ap, ap₂, _∙_, subst, subst₂}
-use Prim.Native.Nat.{ℕ, zero, suc, _+_, _-_, _*_, _/_, _%_, _^_, _<_, _≤_}
+use mathlib.Core.Path.{_≡_, sym, ap, _∙_, subst}
+use Prim.Native.Nat.{ℕ, _+_, _-_, _*_, _%_, _^_, _<_, _≤_}
 use native.Mathlib.Omega.{arith}
 use native.Mathlib.Nat.{le-trans, le-of-eq, lt-of-lt-of-le, mod-eq-of-lt}
 use lib.Dec.{lit≤}
 use lib.Count.{leadingZeros}
 use Rattle.series.proofs.Cases.{split}
-use Rattle.exponential.specs.Ln.{above, below, lnBits}
+use Rattle.exponential.specs.Ln.{below}
 use Rattle.exponential.proofs.LnCases.{ln-zero, ln-none, ln-inf, ln-1, ln-up, ln-down, ln-deep, Shifted, shifted}
 use borrow.Author.Needs.{needs}
 use Rattle.exponential.proofs.logarithm.ln_bits.Statement.{statement}

@@ -1,8 +1,8 @@
 -- The table's entry and the correction, which is smaller than the first entry above 0.
 use mathlib.Core.Path.{_≡_, refl, sym, ap, ap₂, _∙_, subst, subst₂}
-use Prim.Native.Nat.{ℕ, zero, suc, _+_, _-_, _*_, _/_, _%_, _^_, _<_, _≤_}
+use Prim.Native.Nat.{ℕ, _+_, _-_, _^_, _<_, _≤_}
 use native.Mathlib.Omega.{arith}
-use mir.Syntax.{w32, w64}
+use mir.Syntax.{w64}
 use mir.Val.{Fits}
 use mathlib.Core.Bool.{Bool, true, false}
 use lib.Dec.{leb}

@@ -1,12 +1,12 @@
 -- With the leading zeros shifted out the quotient has at most 40 digits and the excess 23, so their product fits.
-use mathlib.Core.Path.{_≡_, refl, sym, ap, ap₂, _∙_, subst, subst₂}
-use Prim.Native.Nat.{ℕ, zero, suc, _+_, _-_, _*_, _/_, _%_, _^_, _<_, _≤_}
+use mathlib.Core.Path.{_≡_, sym, ap, ap₂, _∙_, subst₂}
+use Prim.Native.Nat.{ℕ, _-_, _*_, _/_, _%_, _^_, _<_, _≤_}
 use native.Mathlib.Omega.{arith}
-use native.Mathlib.Nat.{le-trans, le-of-eq, lt-of-lt-of-le, mod-eq-of-lt, mul-le-mul-right}
-use lib.Dec.{lit≤, lit<}
+use native.Mathlib.Nat.{le-trans, le-of-eq, lt-of-lt-of-le, mod-eq-of-lt}
+use lib.Dec.{lit<}
 use lib.Count.{leadingZeros}
 use Rattle.exponential.specs.Ln.{excessOf, quotient, lengthened, twiceOf}
-use Rattle.exponential.proofs.LnRange.{Zeros, zeros, q-le, s-le, g-le, product-le, w-fits, twice-zero}
+use Rattle.exponential.proofs.LnRange.{Zeros, zeros, q-le, s-le, product-le, w-fits, twice-zero}
 use borrow.Author.Needs.{needs}
 use Rattle.exponential.proofs.logarithm.twice.Statement.{statement}
 use Rattle.exponential.proofs.logarithm.twice.Tie as tie

@@ -1,0 +1,210 @@
+-- The terms of the power series fall below every fraction, since from twice the argument on each is at most half the one before; so from some number of terms on a partial sum and the same with its last term once more are both less than one unit in the last place from `expOf x`.
+use mathlib.Core.Path.{_≡_, ap, ap₂, _∙_, subst, subst₂}
+use mathlib.Core.Bool.{true, false}
+use Prim.Native.Nat.{ℕ, zero, suc, _+_, _-_, _*_, _^_, _≤_, _<_}
+use native.Mathlib.Nat.{le-trans, le-of-eq, le-refl, le-dest, add-zero, add-suc, mul-comm, mul-le-mul, mul-le-mul-left, mul-le-mul-right, mul-pos, le-of-mul-le-mul-right, pow-suc}
+use native.Mathlib.Omega.{arith}
+use lib.Dec.{T}
+use lib.Pow.{pow-pos}
+use lib.Ieee.{Float, nan, inf, fin, binary32, up, down, size, fits}
+use lib.Ieee.Fits.{down-pos}
+use Rattle.series.specs.Series.{full, num, one, Close}
+use Rattle.series.proofs.Addition.{full-pos, exp-over}
+use Rattle.series.proofs.Weighted.{grows, above}
+use Rattle.exponential.specs.Exp.{expOf}
+use Rattle.exact.specs.Unit.{steps, ulp}
+use Rattle.exact.specs.Near.{NearExp}
+use Rattle.exact_exponential.specs.Enclosure.{Within, upperSum, Inside, Enclosed, EnclosedBelow, EnclosedExp, OneNumber, Rising}
+use Rattle.exact_exponential.proofs.Terms.{full-1, num-1}
+use Rattle.exact_exponential.proofs.ExpTheorem.{exp-near}
+
+below-power : (k : ℕ) → k ≤ 2 ^ k
+below-power zero = omega arith
+below-power (suc k) = omega (arith, below-power k, pow-suc 2 k, pow-pos k)
+
+-- ---- the terms get small
+module _ (n d M : ℕ) (D : 0 < d) where
+  abbrev A : ℕ
+  A = 2 * n
+
+  abbrev C : ℕ
+  C = M * n ^ A
+
+  halved : (k : ℕ) → A ≤ k → 2 * n ≤ d * suc k
+  halved k h = le-trans (le-trans h (omega arith)) (mul-le-mul-right (suc k) D)
+
+  halving : (o : ℕ) → M * n ^ (A + o) * 2 ^ o ≤ C * full d (A + o)
+  unfolding full
+  halving zero = rw add-zero (start (M * n ^ A) (full d A) (full-pos d A D))
+    where
+      start : (x f : ℕ) → 0 < f → x * 2 ^ 0 ≤ x * f
+      start x f p = mul-le-mul-left x p
+  halving (suc o) =
+      rw add-suc (go (n ^ (A + o)) (n ^ suc (A + o)) (2 ^ o) (2 ^ suc o) (full d (A + o)) (d * suc (A + o)) (pow-suc n (A + o)) (pow-suc 2 o) (halved (A + o) (omega arith)) (halving o))
+    where
+      go : (p p' t t' f c : ℕ) → p' ≡ p * n → t' ≡ t * 2 → 2 * n ≤ c → M * p * t ≤ C * f → M * p' * t' ≤ C * (f * c)
+      go p p' t t' f c e g h k =
+          le-trans (le-of-eq (ap₂ (λ (x y : ℕ). M * x * y) e g ∙ turn M p n t)) (le-trans (mul-le-mul k h) (le-of-eq (turn' C f c)))
+        where
+          turn : (M p n t : ℕ) → M * (p * n) * (t * 2) ≡ M * p * t * (2 * n)
+          turn M p n t = omega arith
+
+          turn' : (C f c : ℕ) → C * f * c ≡ C * (f * c)
+          turn' C f c = omega arith
+
+  small-at : (o : ℕ) → C ≤ o → M * n ^ (A + o) ≤ full d (A + o)
+  small-at o h = le-of-mul-le-mul-right {k = 2 ^ o} (le-trans (halving o) (le-trans (mul-le-mul-right (full d (A + o)) (le-trans h (below-power o))) (le-of-eq (mul-comm (2 ^ o) (full d (A + o)))))) (pow-pos o)
+
+  small : (k : ℕ) → A + C ≤ k → (2 * n ≤ d * suc k) × (M * n ^ k ≤ full d k)
+  small k h =
+      let a : A ≤ k = omega arith in
+      let o = le-dest a in
+      (halved k a, subst (λ (j : ℕ). M * n ^ j ≤ full d j) (o .1) (small-at (o .0) (omega (arith, o .1))))
+
+-- ---- nested
+1≤1 : (j : ℕ) → one j ≤ 1
+1≤1 j = le-refl 1
+
+inside : (n d N : ℕ) → 0 < d → 2 * n ≤ d * suc N → Inside n d N
+inside n d N D h k l =
+    let o = le-dest l in (
+      subst (λ (j : ℕ). num one n d N * full d j ≤ num one n d j * full d N) (o .1) (grows one 1≤1 n d N (o .0)),
+      le-trans (le-of-eq (mul-comm (num one n d k) (full d N))) (above one 1≤1 n d (upperSum n d N) (full d N) N D h (le-of-eq (mul-comm (full d N) (upperSum n d N))) k),
+    )
+
+rising : (n d k : ℕ) → num one n d k * full d (suc k) ≤ num one n d (suc k) * full d k
+unfolding num full
+rising n d k = go (num one n d k) (full d k) (d * suc k) (n ^ suc k)
+  where
+    go : (x f c p : ℕ) → x * (f * c) ≤ (x * c + 1 * p) * f
+    go x f c p = omega arith
+
+falling : (n d k : ℕ) → 2 * n ≤ d * suc k → upperSum n d (suc k) * full d k ≤ upperSum n d k * full d (suc k)
+unfolding num full
+falling n d k h = go (num one n d k) (full d k) (d * suc k) (n ^ k) (n ^ suc k) (pow-suc n k) (mul-le-mul-left (n ^ k) h)
+  where
+    go : (x f c p p' : ℕ) → p' ≡ p * n → p * (2 * n) ≤ p * c → (x * c + 1 * p' + p') * f ≤ (x + p) * (f * c)
+    go x f c p p' e g = omega (arith, mul-le-mul-right f g, ap (λ (y : ℕ). y * f) e)
+
+-- the enclosures name one number
+pub exp-one-number : (n d : ℕ) → 0 < d → OneNumber n d
+exp-one-number n d D = record { rising = rising n d; falling = falling n d; narrow = λ M. (2 * n + M * n ^ (2 * n), small n d M D) }
+
+-- and rise with the argument
+pub exp-rises : (a h d : ℕ) → 0 < d → Rising a h d
+exp-rises a h d D k = subst₂ (λ (x y : ℕ). num one a d k * x * full d (k + 1) ≤ num one (a + h) d (k + 1) * (full d k * y)) (num-1 h d) (full-1 d) (exp-over a h d D k 1)
+
+-- ---- from 15/16 of a unit to less than one
+module _ (v u a b : ℕ) (U : 0 < u) (B : 0 < b) (c : Close (16 * 2 ^ 149) (16 * v) 0 (15 * u) a 0 b) where
+  unit-pos : 0 < u * b
+  unit-pos = mul-pos U B
+
+  within : Within v u a b
+  within = record { low = low (2 ^ 149 * a) (v * b) (u * b) unit-pos (first (2 ^ 149) (c .low)); high = high (2 ^ 149 * a) (v * b) (u * b) unit-pos (second (2 ^ 149) (c .high)) (line v u b) }
+    where
+      first : (P : ℕ) → 16 * v * b + 16 * P * 0 ≤ 16 * P * a + (0 + 15 * u) * b → 16 * (v * b) ≤ 16 * (P * a) + 15 * (u * b)
+      first P h = omega (arith, h)
+
+      second : (P : ℕ) → 16 * P * a + 0 * b ≤ 16 * P * 0 + (16 * v + 15 * u) * b → 16 * (P * a) ≤ 16 * (v * b) + 15 * (u * b)
+      second P h = omega (arith, h)
+
+      low : (x y z : ℕ) → 0 < z → 16 * y ≤ 16 * x + 15 * z → y < x + z
+      low x y z p h = omega arith
+
+      line : (v u b : ℕ) → (v + u) * b ≡ v * b + u * b
+      line v u b = omega arith
+
+      high : (x y z : ℕ) {t : ℕ} → 0 < z → 16 * x ≤ 16 * y + 15 * z → t ≡ y + z → x < t
+      high x y z p h e = omega arith
+
+  -- with t more above, where 32 * 2 ^ 149 * t is at most b
+  within-more : (t : ℕ) → 32 * 2 ^ 149 * t ≤ b → Within v u (a + t) b
+  within-more t h =
+      record {
+        low = more (within .low) (2 ^ 149);
+        high = high (2 ^ 149) (c .high) h;
+      }
+    where
+      more : v * b < 2 ^ 149 * a + u * b → (P : ℕ) → v * b < 2 ^ 149 * (a + t) + u * b
+      more k P = le-trans k (add (2 ^ 149))
+        where
+          add : (P : ℕ) → P * a + u * b ≤ P * (a + t) + u * b
+          add P = omega arith
+
+      high : (P : ℕ) → 16 * P * a + 0 * b ≤ 16 * P * 0 + (16 * v + 15 * u) * b → 32 * P * t ≤ b → P * (a + t) < (v + u) * b
+      high P k l = omega (arith, k, l, mul-le-mul-right b U, B)
+
+  -- with t more below, where 32 * v * t is at most b
+  within-less : (t : ℕ) → 32 * v * t ≤ b → Within v u a (b + t)
+  within-less t h =
+      record {
+        low = low (2 ^ 149) (c .low) h;
+        high = le-trans (within .high) (mul-le-mul-left (v + u) (omega arith));
+      }
+    where
+      low : (P : ℕ) → 16 * v * b + 16 * P * 0 ≤ 16 * P * a + (0 + 15 * u) * b → 32 * v * t ≤ b → v * (b + t) < P * a + u * (b + t)
+      low P k l = omega (arith, k, l, mul-le-mul-right b U, B)
+
+num-pos : (n d k : ℕ) → full d k ≤ num one n d k
+unfolding num full
+num-pos n d zero = le-refl 1
+num-pos n d (suc k) = le-trans (mul-le-mul-right (d * suc k) (num-pos n d k)) (go (num one n d k * (d * suc k)) (n ^ suc k))
+  where
+    go : (x y : ℕ) → x ≤ x + 1 * y
+    go x y = omega arith
+
+module _ (n d v u : ℕ) (D : 0 < d) (U : 0 < u) where
+  enclose : (N : ℕ) × ((k : ℕ) → N ≤ k → Close (16 * 2 ^ 149) (16 * v) 0 (15 * u) (num one n d k) 0 (full d k)) → Enclosed n d v u
+  enclose S =
+      let M = 32 * 2 ^ 149 in
+      let k = S .0 + (2 * n + M * n ^ (2 * n)) in
+      let small = small n d M D k (later (S .0) (2 * n + M * n ^ (2 * n))) in
+      let c = S .1 k (first (S .0) (2 * n + M * n ^ (2 * n))) in
+      record {
+        terms = k;
+        inside = inside n d k D (small .0);
+        lower = within v u (num one n d k) (full d k) U (full-pos d k D) c;
+        upper = within-more v u (num one n d k) (full d k) U (full-pos d k D) c (n ^ k) (small .1);
+      }
+    where
+      later : (x y : ℕ) → y ≤ x + y
+      later x y = omega arith
+
+      first : (x y : ℕ) → x ≤ x + y
+      first x y = omega arith
+
+  enclose-below : (N : ℕ) × ((k : ℕ) → N ≤ k → Close (16 * 2 ^ 149) (16 * v) 0 (15 * u) (full d k) 0 (num one n d k)) → EnclosedBelow n d v u
+  enclose-below S =
+      let M = 32 * v in
+      let k = S .0 + (2 * n + M * n ^ (2 * n)) in
+      let small = small n d M D k (later (S .0) (2 * n + M * n ^ (2 * n))) in
+      let c = S .1 k (first (S .0) (2 * n + M * n ^ (2 * n))) in
+      let P = le-trans (full-pos d k D) (num-pos n d k) in
+      record {
+        terms = k;
+        inside = inside n d k D (small .0);
+        upper = within v u (full d k) (num one n d k) U P c;
+        lower = within-less v u (full d k) (num one n d k) U P c (n ^ k) (le-trans (small .1) (num-pos n d k));
+      }
+    where
+      later : (x y : ℕ) → y ≤ x + y
+      later x y = omega arith
+
+      first : (x y : ℕ) → x ≤ x + y
+      first x y = omega arith
+
+-- ---- every case
+by-case : (x r : Float) → NearExp x r → EnclosedExp x r
+by-case (fin false m e) (fin false n f) h = enclose (m * up e) (down e) (steps (fin false n f)) (ulp (fin false n f)) (down-pos e) (pow-pos (size (steps (fin false n f)) - 24)) h
+by-case (fin true m e) (fin false n f) h = enclose-below (m * up e) (down e) (steps (fin false n f)) (ulp (fin false n f)) (down-pos e) (pow-pos (size (steps (fin false n f)) - 24)) h
+by-case (fin false m e) (fin true n f) h = h
+by-case (fin true m e) (fin true n f) h = h
+by-case (fin false m e) nan h = h
+by-case (fin true m e) nan h = h
+by-case (fin false m e) (inf t) h = h
+by-case (fin true m e) (inf t) h = h
+by-case nan r h = h
+by-case (inf s) r h = h
+
+pub exp-enclosed : (x : Float) → T (fits binary32 x) → EnclosedExp x (expOf x)
+exp-enclosed x F = by-case x (expOf x) (exp-near x F)

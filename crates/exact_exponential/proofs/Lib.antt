@@ -1,0 +1,14 @@
+pub mod Terms
+pub mod PowerOfTwo
+pub mod ExpPower
+pub mod ExpNear
+pub mod Special
+pub mod ExpEnds
+pub mod ExpTheorem
+pub mod Exponents
+pub mod Atanh
+pub mod Twice
+pub mod LnRest
+pub mod LnSum
+pub mod LnTheorem
+pub mod Enclosed

@@ -1,0 +1,57 @@
+-- What each export answers, and the words that it leaves. A slice that is shorter than its layout is refused with 1, before all else, and then nothing is written.
+use mathlib.Core.Bool.{Bool, true, false}
+use mathlib.Core.List.{List, [], _∷_}
+use Prim.Native.Nat.{ℕ}
+use lib.Dec.{ltb}
+use lib.ListN.{length, set}
+use lib.Ieee.{Float, binary32, ofBits}
+use Rattle.port_state.specs.Words.{floatsOf, floatsInto}
+use Rattle.port_state.specs.State.{stateOf}
+use Rattle.heights.specs.Gethp.{gethpOf, gethpScanOf}
+use Rattle.heights.specs.Bendy.{bendyAnswer, penAnswer, layerNumberOf, layerValuesOf}
+use Rattle.heights.specs.Xlin.{xlinOf}
+use Rattle.heights.specs.declared.Heights.{Heights}
+use Rattle.heights.specs.declared.LayerNumber.{LayerNumber}
+
+-- an export's answer: its number, and the lent words afterwards
+pub record Left : Type 0 where
+  pub number : ℕ
+  pub words : List ℕ
+
+-- is one slice too short, is the other
+abbrev pub leftBy : Bool → Bool → List ℕ → Left → Left
+leftBy true b out a = record { number = 1; words = out }
+leftBy false true out a = record { number = 1; words = out }
+leftBy false false out a = a
+
+-- a state's words, and n words to write
+abbrev pub onState : List ℕ → ℕ → List ℕ → Left → Left
+onState state n out a = leftBy (ltb (length state) 153) (ltb (length out) n) out a
+
+-- hp, ht, cursor
+unfoldable pub heightsInto : Heights → List ℕ → List ℕ
+heightsInto h out = set (floatsInto out 0 (h .hp ∷ h .ht ∷ [])) 2 (h .cursor)
+
+unfoldable pub gethpLeft : List ℕ → ℕ → List ℕ → Left
+gethpLeft state fxx out = onState state 3 out (record { number = 0; words = heightsInto (gethpOf (stateOf state) (ofBits binary32 fxx)) out })
+
+unfoldable pub gethpScanLeft : List ℕ → ℕ → List ℕ → Left
+gethpScanLeft state fxx out = onState state 3 out (record { number = 0; words = heightsInto (gethpScanOf (stateOf state) (ofBits binary32 fxx)) out })
+
+-- the refusal's number, or 0 and the value's word
+abbrev pub layerLeft : LayerNumber → List ℕ → Left
+layerLeft a out = record { number = layerNumberOf a; words = floatsInto out 0 (layerValuesOf a) }
+
+unfoldable pub bendyLeft : List ℕ → ℕ → ℕ → ℕ → List ℕ → Left
+bendyLeft state i k f out = onState state 1 out (layerLeft (bendyAnswer (stateOf state) i k (ofBits binary32 f)) out)
+
+unfoldable pub penLeft : List ℕ → ℕ → ℕ → ℕ → List ℕ → Left
+penLeft state i k f out = onState state 1 out (layerLeft (penAnswer (stateOf state) i k (ofBits binary32 f)) out)
+
+abbrev pub gridsBy : Bool → Bool → List ℕ → Left → Left
+gridsBy true b out a = record { number = 1; words = out }
+gridsBy false b out a = leftBy b (ltb (length out) 1) out a
+
+unfoldable pub xlinLeft : ℕ → List ℕ → List ℕ → List ℕ → Left
+xlinLeft x xn yn out =
+    gridsBy (ltb (length xn) 50) (ltb (length yn) 50) out (record { number = 0; words = floatsInto out 0 (xlinOf (ofBits binary32 x) (floatsOf xn 0 50) (floatsOf yn 0 50) ∷ []) })

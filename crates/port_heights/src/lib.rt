@@ -1,0 +1,140 @@
+// Heights for callers in any language: words in, words out. Each function answers 0, or the number of its refusal, and then leaves every lent word as it was.
+ghost use mathlib.Core.Path.{_≡_};
+ghost use Prim.Native.Nat.{_≤_};
+ghost use lib.ListN.{length};
+ghost use denote.Ref.{now};
+ghost use Rattle.port_state.specs.Words.{floatsOf, floatsInto};
+ghost use Rattle.heights.specs.Bendy.{layerNumberOf, layerValuesOf};
+ghost use Rattle.port_heights.specs.Exports.{heightsInto, gethpLeft, gethpScanLeft, bendyLeft, penLeft, xlinLeft};
+use heights::Heights;
+use heights::LayerNumber;
+
+fn wide(w: u32) -> usize
+    ensures { λ r. ⌜ r ≡ w ⌝ }
+{
+    w as usize
+}
+
+fn floats_50(w: &[u32]) -> [f32; 50]
+    requires { ⌜ 50 ≤ length (now w) ⌝ }
+    ensures { λ r. ⌜ r ≡ floatsOf (now (w .entry)) 0 50 ⌝ }
+{
+    let mut x = [0.0; 50];
+    port_state::floats_of(w, 0, &mut x);
+    x
+}
+
+fn heights_into(h: Heights, out: &mut [u32])
+    requires { ⌜ (3 ≤ length (now out)) × (h .cursor ≤ 49) ⌝ }
+    ensures { λ r. ⌜ now (out .exit) ≡ heightsInto h (now (out .entry)) ⌝ }
+{
+    let x = [h.hp, h.ht];
+    port_state::floats_into(&x, out, 0);
+    let c = h.cursor;
+    out[2] = c as u32;
+}
+
+fn layer_into(a: LayerNumber, out: &mut [u32]) -> u32
+    requires { ⌜ 1 ≤ length (now out) ⌝ }
+    ensures { λ r. ⌜ (r ≡ layerNumberOf a) × (now (out .exit) ≡ floatsInto (now (out .entry)) 0 (layerValuesOf a)) ⌝ }
+{
+    match a {
+        LayerNumber::Value(v) => {
+            let x = [v];
+            port_state::floats_into(&x, out, 0);
+            0
+        }
+        LayerNumber::Refused(r) => refusal::number(r),
+    }
+}
+
+// state 153 words; out: hp, ht, cursor
+#[no_mangle]
+pub extern "C" fn port_gethp(state: &[u32], fxx: u32, out: &mut [u32]) -> u32
+    ensures { λ r. ⌜ (r ≡ gethpLeft (now (state .entry)) fxx (now (out .entry)) .number) × (now (out .exit) ≡ gethpLeft (now (state .entry)) fxx (now (out .entry)) .words) ⌝ }
+{
+    if state.len() < 153 {
+        return 1;
+    }
+    if out.len() < 3 {
+        return 1;
+    }
+    let s = port_state::state_of(state);
+    let f = scalar::number(fxx);
+    let h = heights::gethp(s, f);
+    heights_into(h, out);
+    0
+}
+
+// the same by forty scans on every profile
+#[no_mangle]
+pub extern "C" fn port_gethp_scan(state: &[u32], fxx: u32, out: &mut [u32]) -> u32
+    ensures { λ r. ⌜ (r ≡ gethpScanLeft (now (state .entry)) fxx (now (out .entry)) .number) × (now (out .exit) ≡ gethpScanLeft (now (state .entry)) fxx (now (out .entry)) .words) ⌝ }
+{
+    if state.len() < 153 {
+        return 1;
+    }
+    if out.len() < 3 {
+        return 1;
+    }
+    let s = port_state::state_of(state);
+    let f = scalar::number(fxx);
+    let h = heights::gethp_scan(s, f);
+    heights_into(h, out);
+    0
+}
+
+// layer i of slot k; out: the value
+#[no_mangle]
+pub extern "C" fn port_bendy(state: &[u32], i: u32, k: u32, f: u32, out: &mut [u32]) -> u32
+    ensures { λ r. ⌜ (r ≡ bendyLeft (now (state .entry)) i k f (now (out .entry)) .number) × (now (out .exit) ≡ bendyLeft (now (state .entry)) i k f (now (out .entry)) .words) ⌝ }
+{
+    if state.len() < 153 {
+        return 1;
+    }
+    if out.len() < 1 {
+        return 1;
+    }
+    let s = port_state::state_of(state);
+    let x = scalar::number(f);
+    let a = heights::bendy(s, wide(i), wide(k), x);
+    layer_into(a, out)
+}
+
+#[no_mangle]
+pub extern "C" fn port_pen(state: &[u32], i: u32, k: u32, f: u32, out: &mut [u32]) -> u32
+    ensures { λ r. ⌜ (r ≡ penLeft (now (state .entry)) i k f (now (out .entry)) .number) × (now (out .exit) ≡ penLeft (now (state .entry)) i k f (now (out .entry)) .words) ⌝ }
+{
+    if state.len() < 153 {
+        return 1;
+    }
+    if out.len() < 1 {
+        return 1;
+    }
+    let s = port_state::state_of(state);
+    let x = scalar::number(f);
+    let a = heights::pen(s, wide(i), wide(k), x);
+    layer_into(a, out)
+}
+
+// xn and yn 50 words each; out: the value
+#[no_mangle]
+pub extern "C" fn port_xlin(x: u32, xn: &[u32], yn: &[u32], out: &mut [u32]) -> u32
+    ensures { λ r. ⌜ (r ≡ xlinLeft x (now (xn .entry)) (now (yn .entry)) (now (out .entry)) .number) × (now (out .exit) ≡ xlinLeft x (now (xn .entry)) (now (yn .entry)) (now (out .entry)) .words) ⌝ }
+{
+    if xn.len() < 50 {
+        return 1;
+    }
+    if yn.len() < 50 {
+        return 1;
+    }
+    if out.len() < 1 {
+        return 1;
+    }
+    let at = scalar::number(x);
+    let xs = floats_50(xn);
+    let ys = floats_50(yn);
+    let v = [heights::xlin(at, &xs, &ys)];
+    port_state::floats_into(&v, out, 0);
+    0
+}

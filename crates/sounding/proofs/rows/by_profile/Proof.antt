@@ -1,0 +1,90 @@
+-- After i turns the first i rows of both columns are done.
+use mathlib.Core.Path.{_≡_, refl, ap, _∙_}
+use mathlib.Core.List.{List}
+use Prim.Native.Nat.{ℕ, _≤_, _<_, _+_, _-_}
+use native.Mathlib.Nat.{le-antisymm, zero-add}
+use native.Mathlib.Numerals.{add-one}
+use native.Mathlib.Omega.{arith}
+use borrow.Author.Needs.{needs}
+use lib.ListN.{replicate, set}
+use lib.Ieee.{Float}
+use Rattle.scalar.specs.Literals.{f0}
+use Rattle.layers.specs.State.{at}
+use Rattle.heights.specs.declared.Heights.{Heights}
+use Rattle.heights.specs.Gethp.{gethpOf}
+use Rattle.profile.specs.Rising.{risesOf}
+use Rattle.sounding.specs.Genion.{rowsOf}
+use Rattle.sounding.proofs.rows.by_profile.Statement.{statement}
+use Rattle.sounding.proofs.rows.by_profile.Tie as tie
+
+one-turn : (row : Float → Float) (fv : List Float) (n : ℕ) (l : List Float) (h : Float) → l ≡ rowsOf row fv 0 (replicate 30 f0) n → h ≡ row (at fv n) → set l n h ≡ rowsOf row fv 0 (replicate 30 f0) (n + 1)
+unfolding rowsOf
+one-turn row fv n l h el eh = rw (add-one n, zero-add n, el, eh)
+
+abbrev Inv-loop : tie.InvT-loop
+Inv-loop s rises fv hprim₀ htrue₀ i₀ hprim htrue i = (i ≤ 30) × (hprim ≡ rowsOf (λ f. gethpOf s f .hp) fv 0 (replicate 30 f0) i) × (htrue ≡ rowsOf (λ f. gethpOf s f .ht) fv 0 (replicate 30 f0) i)
+
+abbrev μ-loop : tie.MeasureT-loop
+μ-loop s rises fv hprim₀ htrue₀ i₀ hprim htrue i = 30 - i
+
+loop-holds : tie.Need-loop-holds Inv-loop μ-loop
+unfolding rowsOf
+loop-holds c = (omega arith, refl, refl)
+
+mul-gethp-rising : tie.Need-mul-gethp-rising Inv-loop μ-loop
+mul-gethp-rising c = omega arith
+
+array-read-gethp-rising : tie.Need-array-read-gethp-rising Inv-loop μ-loop
+array-read-gethp-rising c = omega arith
+
+gethp-rising-requires : tie.Need-gethp-rising-requires Inv-loop μ-loop
+gethp-rising-requires c κs = c .before .before .pre
+
+mul-hprim : tie.Need-mul-hprim Inv-loop μ-loop
+mul-hprim c = omega arith
+
+array-write-hprim : tie.Need-array-write-hprim Inv-loop μ-loop
+array-write-hprim c = omega arith
+
+mul-htrue : tie.Need-mul-htrue Inv-loop μ-loop
+mul-htrue c = omega arith
+
+array-write-htrue : tie.Need-array-write-htrue Inv-loop μ-loop
+array-write-htrue c = omega arith
+
+add-i : tie.Need-add-i Inv-loop μ-loop
+add-i c = omega arith
+
+loop-less : tie.Need-loop-less Inv-loop μ-loop
+loop-less c = omega arith
+
+loop-again : tie.Need-loop-again Inv-loop μ-loop
+loop-again c =
+    let l = c .before .before .loop in
+    let e = c .gethp-rising .ensures in
+    (omega arith, one-turn _ _ (l .i) _ _ (l .inv .1) (ap (λ h. h .hp) e), one-turn _ _ (l .i) _ _ (l .inv .2) (ap (λ h. h .ht) e))
+
+returns : tie.Need-returns Inv-loop μ-loop
+returns c =
+    let l = c .before .loop in
+    let e = le-antisymm (l .inv .0) (c .loop-test .left) in
+    (l .inv .1 ∙ ap (rowsOf _ _ _ _) e, l .inv .2 ∙ ap (rowsOf _ _ _ _) e)
+
+pub by-profile-spec : {M : Type 1} → statement M
+by-profile-spec =
+    tie.close
+    (tie.spec
+    Inv-loop
+    μ-loop
+    loop-holds
+    mul-gethp-rising
+    array-read-gethp-rising
+    gethp-rising-requires
+    mul-hprim
+    array-write-hprim
+    mul-htrue
+    array-write-htrue
+    add-i
+    loop-less
+    loop-again
+    returns)
