@@ -61,7 +61,7 @@ module _ (a b c d : ℕ) (ws tail : List ℕ) where
   body-drop n h = drop-append-add (a ∷ b ∷ c ∷ d ∷ []) (bytesOf ws ++ tail) (4 * n) ∙ bytes-drop n ws tail h
 
   word-is : (n : ℕ) → n < length ws → getD ws n 0 < 2 ^ 32
-    → wordAt (a ∷ b ∷ c ∷ d ∷ (bytesOf ws ++ tail)) (4 + 4 * n) ≡ getD ws n 0
+      → wordAt (a ∷ b ∷ c ∷ d ∷ (bytesOf ws ++ tail)) (4 + 4 * n) ≡ getD ws n 0
   unfolding wordAt bytesOf
   word-is n h k =
       word-at (a ∷ b ∷ c ∷ d ∷ (bytesOf ws ++ tail)) (4 + 4 * n)

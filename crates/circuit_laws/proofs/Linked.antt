@@ -56,7 +56,7 @@ module _ (o : Form) (f : List ℕ) (total : ℕ) where
       record { next = rw (a, b) (l .next); sound = rw b (l .sound) }
 
   goes : (left : ℕ) (order : List ℕ) (at n : ℕ) → Along (suc left) order at → stepOf o f order at ≡ Step.To n
-    → soundBy o (leb 48 left) (recordAt o f n) ≡ true → Along left (order ++ (n ∷ [])) n
+      → soundBy o (leb 48 left) (recordAt o f n) ≡ true → Along left (order ++ (n ∷ [])) n
   goes left order at n p e t =
       let len : length (order ++ (n ∷ [])) ≡ length order + 1 = length-append order (n ∷ []) in
       let new : getD (order ++ (n ∷ [])) (length order) 0 ≡ n = getD-at order n [] 0 (length order) refl in
@@ -65,28 +65,28 @@ module _ (o : Form) (f : List ℕ) (total : ℕ) where
         some = omega arith;
         last = ap (λ (k : ℕ). getD (order ++ (n ∷ [])) k 0) (omega arith) ∙ new;
         links =
-          λ i h. ⊎-elim
-          (λ q.
-          let r : i ≡ length order - 1 = omega (arith, p .some) in
-          let a : getD (order ++ (n ∷ [])) i 0 ≡ at
+            λ i h. ⊎-elim
+            (λ q.
+            let r : i ≡ length order - 1 = omega (arith, p .some) in
+            let a : getD (order ++ (n ∷ [])) i 0 ≡ at
             = List·getD-append order (n ∷ []) 0 i (omega (arith, p .some)) ∙ ap (λ (k : ℕ). getD order k 0) r ∙ p .last in
-          let b : getD (order ++ (n ∷ [])) (i + 1) 0 ≡ n = ap (λ (k : ℕ). getD (order ++ (n ∷ [])) k 0) q ∙ new in
-          let d : total - 1 - (i + 1) ≡ left = omega (arith, p .long) in
-          record { next = rw (a, b) (step-next o f order at n e); sound = rw (d, b) t })
-          (λ q. moved order (n ∷ []) i q (p .links i q)) (eq-or-lt-of-le {n = i + 1} {m = length order} (omega arith))
+            let b : getD (order ++ (n ∷ [])) (i + 1) 0 ≡ n = ap (λ (k : ℕ). getD (order ++ (n ∷ [])) k 0) q ∙ new in
+            let d : total - 1 - (i + 1) ≡ left = omega (arith, p .long) in
+            record { next = rw (a, b) (step-next o f order at n e); sound = rw (d, b) t })
+            (λ q. moved order (n ∷ []) i q (p .links i q)) (eq-or-lt-of-le {n = i + 1} {m = length order} (omega arith));
       }
 
   never : (r : Refusal) → Outcome.Refused r ≡ Outcome.Answered → ⊥
   never r e = let z : _≡_ {A = ℕ} 0 1 = cc in omega arith
 
   ends : (left : ℕ) (order : List ℕ) (at : ℕ) → Along left order at → stepOf o f order at ≡ Step.End
-    → (eqb left 48 || eqb left 0) ≡ true → Ends (answered order)
+      → (eqb left 48 || eqb left 0) ≡ true → Ends (answered order)
   ends left order at p e t =
       let z : List ℕ = replicate (64 - length order) 0 in
       record {
         links = λ a i h. moved order z i h (p .links i h);
         last =
-          λ a. rw (List·getD-append order z 0 (length order - 1) (omega (arith, p .some)), p .last) (step-end o f order at e)
+            λ a. rw (List·getD-append order z 0 (length order - 1) (omega (arith, p .some)), p .last) (step-end o f order at e);
       }
 
   pub linked : (left at : ℕ) → 1 + left ≡ total → Ends (walk o f left (at ∷ []) at)

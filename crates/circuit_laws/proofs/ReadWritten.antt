@@ -143,7 +143,7 @@ module _ (c : Circuit) (w : Whole c) (some : 1 ≤ c .km) (most : c .km ≤ 5) (
       ∙ rw (ne-eqb (i + 1) 0 (λ e. omega arith), le-leb (i + 1) (c .km) (omega arith), q) refl
 
   twelve-at : (i : ℕ) → 1 + c .km + i < N
-    → recordAt old file (1 + c .km + i) ≡ recordOf old 3 (nextIn N (1 + c .km + i)) (twelveAt c i)
+      → recordAt old file (1 + c .km + i) ≡ recordOf old 3 (nextIn N (1 + c .km + i)) (twelveAt c i)
   unfolding entryOf
   twelve-at i h =
       let q : 1 + c .km + i - (c .km + 1) ≡ i = omega arith in
@@ -160,17 +160,19 @@ module _ (c : Circuit) (w : Whole c) (some : 1 ≤ c .km) (most : c .km ≤ 5) (
   unfolding stepOf
   step-file i h =
       let e : nextOf (recordAt old file i) ≡ i + 1
-        = ap nextOf (at-file i (omega arith)) ∙ next-is c N i (omega (arith, N-most)) ∙ rw (ne-eqb (i + 1) N (λ z. omega arith)) refl in
-      rw (e,
-      ne-eqb (i + 1) 0 (λ z. omega arith),
-      lt-ltb (i + 1) (length file / 64) (omega (arith, length-file)),
-      fresh (i + 1) (i + 1) (omega arith))
+      = ap nextOf (at-file i (omega arith)) ∙ next-is c N i (omega (arith, N-most)) ∙ rw (ne-eqb (i + 1) N (λ z. omega arith)) refl in
+      rw (
+        e,
+        ne-eqb (i + 1) 0 (λ z. omega arith),
+        lt-ltb (i + 1) (length file / 64) (omega (arith, length-file)),
+        fresh (i + 1) (i + 1) (omega arith),
+      )
 
   end-file : (i : ℕ) → i + 1 ≡ N → stepOf old file (upTo (i + 1)) i ≡ Step.End
   unfolding stepOf
   end-file i h =
       let e : nextOf (recordAt old file i) ≡ 0
-        = ap nextOf (at-file i (omega arith)) ∙ next-is c N i (omega (arith, N-most)) ∙ rw (eq-eqb (i + 1) N h) refl in
+      = ap nextOf (at-file i (omega arith)) ∙ next-is c N i (omega (arith, N-most)) ∙ rw (eq-eqb (i + 1) N h) refl in
       rw e
 
   sound-point : (i : ℕ) → i < c .km → soundBy old (leb 48 (c .km + 48 - (i + 1))) (recordAt old file (i + 1)) ≡ true
@@ -179,13 +181,13 @@ module _ (c : Circuit) (w : Whole c) (some : 1 ≤ c .km) (most : c .km ≤ 5) (
       (rw (point-long i h) at (record-fits 2 (nextIn N (i + 1)) (pointAt c i) (omega arith)))
 
   sound-twelve : (i : ℕ) → 1 + c .km + i < N
-    → soundBy old (leb 48 (c .km + 48 - (1 + c .km + i))) (recordAt old file (1 + c .km + i)) ≡ true
+      → soundBy old (leb 48 (c .km + 48 - (1 + c .km + i))) (recordAt old file (1 + c .km + i)) ≡ true
   sound-twelve i h =
       rw (lt-leb 48 (c .km + 48 - (1 + c .km + i)) (omega arith), twelve-at i h)
       (rw (twelve-long i (omega (arith, N-most))) at (record-fits 3 (nextIn N (1 + c .km + i)) (twelveAt c i) (omega arith)))
 
   sound-by : (j : ℕ) → 1 ≤ j → j < N → (b : Bool) → leb j (c .km) ≡ b
-    → soundBy old (leb 48 (c .km + 48 - j)) (recordAt old file j) ≡ true
+      → soundBy old (leb 48 (c .km + 48 - j)) (recordAt old file j) ≡ true
   sound-by j a h true e =
       let k = leb-true j (c .km) e in
       let q : j ≡ j - 1 + 1 = omega arith in
@@ -202,7 +204,7 @@ module _ (c : Circuit) (w : Whole c) (some : 1 ≤ c .km) (most : c .km ≤ 5) (
 
   -- k more records follow record i
   walk-file : (k i : ℕ) → i + 1 + k ≡ N
-    → walk old file (c .km + 48 - i) (upTo (i + 1)) i ≡ answered (upTo N)
+      → walk old file (c .km + 48 - i) (upTo (i + 1)) i ≡ answered (upTo N)
   walk-file zero i h =
       let e : i + 1 ≡ N = omega arith in
       walk-end old file (upTo (i + 1)) i (c .km + 48 - i) (end-file i e)
@@ -212,6 +214,7 @@ module _ (c : Circuit) (w : Whole c) (some : 1 ≤ c .km) (most : c .km ≤ 5) (
       walk-on old file (upTo (i + 1)) i (i + 1) (c .km + 48 - i) (step-file i (omega arith)) (λ z. omega (arith, N-most))
       (rw q (sound-by (i + 1) (omega arith) (omega arith) (leb (i + 1) (c .km)) refl))
       ∙ rw (q, one-more i) (walk-file k (i + 1) (omega arith))
+
   head-good : headGood old (headOf old c (nextIn N 0)) ≡ true
   unfolding headGood headOf halfAt bytesOf allZero
   head-good = rw (le-leb 1 (c .km) some, le-leb (c .km) 5 most, le-leb (c .shape) 1 form)
@@ -224,12 +227,14 @@ module _ (c : Circuit) (w : Whole c) (some : 1 ≤ c .km) (most : c .km ≤ 5) (
   unfolding chainOf upTo
   chain-file =
       let q : c .km + 48 ≡ c .km + 48 - 0 = omega arith in
-      rw (eq-eqb (length file % 64) 0 (omega (arith, length-file)),
-      le-leb 128 (length file) (omega (arith, length-file, N-least)),
-      le-leb (length file) 4096 (omega (arith, length-file, N-most)),
-      ap (headGood old) head-at ∙ head-good,
-      head-km,
-      q)
+      rw (
+        eq-eqb (length file % 64) 0 (omega (arith, length-file)),
+        le-leb 128 (length file) (omega (arith, length-file, N-least)),
+        le-leb (length file) 4096 (omega (arith, length-file, N-most)),
+        ap (headGood old) head-at ∙ head-good,
+        head-km,
+        q,
+      )
       (walk-file (N - 1) 0 (omega (arith, N-least)))
 
   abbrev order : List ℕ
@@ -241,12 +246,12 @@ module _ (c : Circuit) (w : Whole c) (some : 1 ≤ c .km) (most : c .km ≤ 5) (
   point-words : (i : ℕ) → i < c .km → wordsOf (recordAt old file (i + 1)) 15 ≡ pointAt c i
   point-words i h =
       rw (point-at i h)
-      (rw (point-long i h) at (record-words 2 (nextIn N (i + 1)) (pointAt c i) (each-take (2 ^ 32) 15 _ (each-drop (2 ^ 32) (15 * i) (c .points) (w .points)))))
+      (rw (point-long i h) at (record-words 2 (nextIn N (i + 1)) (pointAt c i) (each-take (2 ^ 32) 15 (drop (15 * i) (c .points)) (each-drop (2 ^ 32) (15 * i) (c .points) (w .points)))))
 
   twelve-words : (i : ℕ) → 1 + c .km + i < N → wordsOf (recordAt old file (1 + c .km + i)) 12 ≡ twelveAt c i
   twelve-words i h =
       rw (twelve-at i h)
-      (rw (twelve-long i (omega (arith, N-most))) at (record-words 3 (nextIn N (1 + c .km + i)) (twelveAt c i) (each-take (2 ^ 32) 12 _ (each-drop (2 ^ 32) (12 * i) (c .deciles) (w .deciles)))))
+      (rw (twelve-long i (omega (arith, N-most))) at (record-words 3 (nextIn N (1 + c .km + i)) (twelveAt c i) (each-take (2 ^ 32) 12 (drop (12 * i) (c .deciles)) (each-drop (2 ^ 32) (12 * i) (c .deciles) (w .deciles)))))
 
   points-back : (n : ℕ) → n ≤ c .km → numbersOf old file order 1 15 n ≡ take (15 * n) (c .points)
   unfolding numbersOf
@@ -270,7 +275,7 @@ module _ (c : Circuit) (w : Whole c) (some : 1 ≤ c .km) (most : c .km ≤ 5) (
       rw (points-back (c .km) (omega arith), l, ← w .unused) (take-append-drop (15 * c .km) (c .points))
 
   deciles-file : (b : Bool) → allZero (c .deciles) ≡ b
-    → padded 576 (numbersOf old file order (1 + c .km) 12 (N - (1 + c .km))) ≡ c .deciles
+      → padded 576 (numbersOf old file order (1 + c .km) 12 (N - (1 + c .km))) ≡ c .deciles
   deciles-file true e =
       let q : N - (1 + c .km) ≡ 0 = rw e (omega arith) in
       rw (q, deciles-back 0 (omega (arith, N-least))) (sym (zeros (c .deciles) e ∙ ap (λ (n : ℕ). replicate n 0) (w .all)))
@@ -281,7 +286,7 @@ module _ (c : Circuit) (w : Whole c) (some : 1 ≤ c .km) (most : c .km ≤ 5) (
       rw (q, deciles-back 48 m, t, w .all) (append-nil (c .deciles))
 
   head-words : (wordAt (recordAt old file 0) 8 ≡ c .gcd) × (wordAt (recordAt old file 0) 12 ≡ c .gcdkm)
-    × (wordAt (recordAt old file 0) 16 ≡ c .amind) × (wordAt (recordAt old file 0) 20 ≡ c .ssn)
+      × (wordAt (recordAt old file 0) 16 ≡ c .amind) × (wordAt (recordAt old file 0) 20 ≡ c .ssn)
   unfolding headOf wordAt bytesOf
   head-words =
       rw head-at
@@ -291,18 +296,24 @@ module _ (c : Circuit) (w : Whole c) (some : 1 ≤ c .km) (most : c .km ≤ 5) (
   unfolding headOf
   head-shape = ap shapeOf head-at
 
+  deciles-counted : padded 576 (numbersOf old file order (1 + c .km) 12 (length (upTo N) - (1 + c .km))) ≡ c .deciles
+  deciles-counted =
+      ap (λ (n : ℕ). padded 576 (numbersOf old file order (1 + c .km) 12 (n - (1 + c .km)))) (length-up N)
+      ∙ deciles-file (allZero (c .deciles)) refl
+
   circuit-file : circuitOf old file (answered (upTo N)) ≡ c
   unfolding circuitOf
   circuit-file =
-      rw (head-km,
-      head-shape,
-      head-words .0,
-      head-words .1,
-      head-words .2,
-      head-words .3,
-      length-up N,
-      points-file,
-      deciles-file (allZero (c .deciles)) refl)
+      rw (
+        head-km,
+        head-shape,
+        head-words .0,
+        head-words .1,
+        head-words .2,
+        head-words .3,
+        points-file,
+        deciles-counted,
+      )
 
   pub read-file : readOf old file ≡ record { outcome = Outcome.Answered; circuit = c }
   read-file =
