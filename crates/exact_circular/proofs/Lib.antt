@@ -7,3 +7,4 @@ pub mod Fine
 pub mod AsinEnds
 pub mod SineRoom
 pub mod Asin
+pub mod Literal
