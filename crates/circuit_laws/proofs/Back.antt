@@ -52,7 +52,7 @@ bytes-drop (suc n) (w ∷ ws) tail h =
     rw q (bytes-drop n ws tail (omega arith))
 
 -- a word, read where a list starts
-word-at : (r : List ℕ) (at : ℕ) → wordAt r at ≡ wordAt (drop at r) 0
+pub word-at : (r : List ℕ) (at : ℕ) → wordAt r at ≡ wordAt (drop at r) 0
 unfolding wordAt
 word-at r at = rw (getD-drop, getD-drop, getD-drop, getD-drop, add-zero)
 

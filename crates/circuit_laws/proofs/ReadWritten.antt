@@ -30,23 +30,23 @@ use Rattle.circuit_write.proofs.Cells.{length-entry, length-entries, records-mo
 use Rattle.circuit_laws.specs.Forms.{Each, Whole, upTo}
 use Rattle.circuit_laws.proofs.Back.{half-back, word-back, next-back, record-words, record-fits, all-zeros}
 
-each-take : (n k : ℕ) (l : List ℕ) → Each n l → Each n (take k l)
+pub each-take : (n k : ℕ) (l : List ℕ) → Each n l → Each n (take k l)
 each-take n zero l p = tt
 each-take n (suc k) [] p = tt
 each-take n (suc k) (x ∷ l) p = (p .0, each-take n k l (p .1))
 
-each-drop : (n k : ℕ) (l : List ℕ) → Each n l → Each n (drop k l)
+pub each-drop : (n k : ℕ) (l : List ℕ) → Each n l → Each n (drop k l)
 each-drop n zero l p = p
 each-drop n (suc k) [] p = tt
 each-drop n (suc k) (x ∷ l) p = each-drop n k l (p .1)
 
-length-up : (n : ℕ) → length (upTo n) ≡ n
+pub length-up : (n : ℕ) → length (upTo n) ≡ n
 unfolding upTo
 length-up zero = refl
 length-up (suc n) = simp (length-append, length-up n, add-one)
 
 -- what stands at place j of 0, 1, 2, ..
-up-at : (n j : ℕ) (tail : List ℕ) → j < n → getD (upTo n ++ tail) j 0 ≡ j
+pub up-at : (n j : ℕ) (tail : List ℕ) → j < n → getD (upTo n ++ tail) j 0 ≡ j
 unfolding upTo
 up-at zero j tail h = absurd (omega arith)
 up-at (suc n) j tail h =

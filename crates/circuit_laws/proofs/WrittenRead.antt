@@ -1,0 +1,262 @@
+-- A file in the writer's form that is read and written again has its own bytes: its chain is 0, 1, 2, .., so record i holds
+-- what the writer puts there, and is put together again from the numbers read.
+use Prim.Native.Nat.{ℕ, zero, suc, _+_, _*_, _-_, _/_, _≤_, _<_}
+use mathlib.Core.Path.{_≡_, refl, ap, _∙_, sym, subst}
+use mathlib.Core.List.{List, [], _++_, append-assoc, append-nil}
+use mathlib.Core.Bool.{Bool, true, false}
+use mathlib.Core.Logic.{⊎-elim}
+use native.Mathlib.Omega.{arith}
+use native.Mathlib.Nat.{eq-or-lt-of-le}
+use lib.ListN.{length, getD, take, drop, length-drop}
+use lib.Seq.{take-at, drop-at, take-all, take-add, length-take-le, getD-take}
+use lib.Dec.{eqb, leb}
+use borrow.Author.Tests.{eq-eqb, ne-eqb, eqb-true, eqb-false, le-leb, lt-leb, leb-true, leb-false}
+use Rattle.refusal.specs.declared.Outcome.{Outcome}
+use Rattle.circuit.specs.declared.Chain.{Chain}
+use Rattle.circuit.specs.declared.Circuit.{Circuit}
+use Rattle.circuit.specs.declared.ReadAnswer.{ReadAnswer}
+use Rattle.circuit.specs.Record.{old, recordAt, kindOf, nextOf, wordsOf, allZero, fits}
+use Rattle.circuit.specs.Chain.{kmOf, soundBy, padded, chainOf}
+use Rattle.circuit.specs.Read.{numbersOf, circuitOf, readBy, readOf}
+use Rattle.circuit.proofs.Lists.{both, length-words, length-numbers}
+use Rattle.circuit.proofs.Followed.{Followed, followed, count-range, read-answered}
+use Rattle.circuit_write.specs.declared.WriteAnswer.{WriteAnswer}
+use Rattle.circuit_write.specs.Written.{recordOf, headOf, pointAt, twelveAt, recordsOf, nextIn, entryOf, entriesOf, fileOf, goodOf, answerOf, leftOf}
+use Rattle.circuit_write.proofs.Cells.{write-good, good-is}
+use Rattle.circuit_laws.specs.Forms.{Each, InForm, upTo}
+use Rattle.circuit_laws.proofs.Back.{all-zeros}
+use Rattle.circuit_laws.proofs.ReadWritten.{each-take, each-drop, length-up, up-at}
+use Rattle.circuit_laws.proofs.Linked.{Ends, linked}
+use Rattle.circuit_laws.proofs.Again.{record-again, head-again}
+
+outcome-by : (o : Outcome) (c : Circuit) → readBy o c .outcome ≡ o
+outcome-by Outcome.Answered c = refl
+outcome-by (Outcome.Refused r) c = refl
+
+-- the words of record i of those read
+numbers-at : (f order tail : List ℕ) (from words n i : ℕ) → i < n
+    → take words (drop (words * i) (numbersOf old f order from words n ++ tail))
+    ≡ wordsOf (recordAt old f (getD order (from + i) 0)) words
+unfolding numbersOf
+numbers-at f order tail from words zero i h = absurd (omega arith)
+numbers-at f order tail from words (suc n) i h =
+    let A = numbersOf old f order from words n in
+    let B = wordsOf (recordAt old f (getD order (from + n) 0)) words in
+    ap (λ (l : List ℕ). take words (drop (words * i) l)) (append-assoc A B tail)
+    ∙ ⊎-elim
+    (λ (e : i ≡ n).
+    ap (λ (j : ℕ). take words (drop (words * j) (A ++ (B ++ tail)))) e
+    ∙ ap (take words) (drop-at A (B ++ tail) (words * n) (length-numbers old f order from words n))
+    ∙ take-at B tail words (length-words _ words)
+    ∙ ap (λ (j : ℕ). wordsOf (recordAt old f (getD order (from + j) 0)) words) (sym e))
+    (λ (k : i < n). numbers-at f order (B ++ tail) from words n i k) (eq-or-lt-of-le {n = i} {m = n} (omega arith))
+
+fits-both : (kind words : ℕ) (r : List ℕ) → fits kind words r ≡ true
+    → (kindOf r ≡ kind) × (allZero (drop (4 + 4 * words) r) ≡ true)
+unfolding fits
+fits-both kind words r e =
+    let t = both (eqb (kindOf r) kind) (allZero (drop (4 + 4 * words) r)) e in (eqb-true (kindOf r) kind (t .0), t .1)
+
+module _ (f : List ℕ) (w : InForm f) where
+  abbrev k : Chain
+  k = chainOf old f
+
+  abbrev c : Circuit
+  c = circuitOf old f k
+
+  abbrev N : ℕ
+  N = length f / 64
+
+  abbrev km : ℕ
+  km = kmOf (recordAt old f 0)
+
+  answered : k .outcome ≡ Outcome.Answered
+  unfolding readOf
+  answered = sym (outcome-by (k .outcome) c) ∙ w .read
+
+  read-is : readOf old f .circuit ≡ c
+  read-is = ap (λ (a : ReadAnswer). a .circuit) (read-answered f k refl answered)
+
+  t : Followed f k
+  t = followed f answered
+
+  length-is : length f ≡ 64 * N
+  length-is = omega (arith, t .whole)
+
+  km-most : km ≤ 5
+  km-most = t .head .most
+
+  count-is : k .count ≡ N
+  count-is =
+      let r = count-range f k t answered in
+      sym (length-take-le (k .count) (k .order) (omega (arith, r .1, t .long .room, km-most)))
+      ∙ ap length (w .order) ∙ length-up N
+
+  order-at : (j : ℕ) → j < N → getD (k .order) j 0 ≡ j
+  order-at j h =
+      sym (getD-take (k .count) (k .order) j 0 (omega (arith, count-is)))
+      ∙ ap (λ (l : List ℕ). getD l j 0) (w .order ∙ sym (append-nil (upTo N)))
+      ∙ up-at N j [] h
+
+  ends : Ends old f (km + 49) k
+  ends = subst (Ends old f (km + 49)) (sym (t .is)) (linked old f (km + 49) (km + 48) 0 (omega arith))
+
+  N-least : 1 + km ≤ N
+  N-least = omega (arith, count-range f k t answered .0, count-is)
+
+  N-most : N ≤ km + 49
+  N-most = omega (arith, count-range f k t answered .1, count-is)
+
+  km-is : c .km ≡ km
+  unfolding circuitOf
+  km-is = refl
+
+  points-are : c .points ≡ padded 75 (numbersOf old f (k .order) 1 15 km)
+  unfolding circuitOf
+  points-are = refl
+
+  deciles-are : c .deciles ≡ padded 576 (numbersOf old f (k .order) (1 + km) 12 (k .count - (1 + km)))
+  unfolding circuitOf
+  deciles-are = refl
+
+  deciles-met : c .km + 1 < N → allZero (c .deciles) ≡ false
+  deciles-met =
+      subst (λ (x : Circuit). x .km + 1 < length f / 64 → allZero (x .deciles) ≡ false) read-is (w .deciles)
+
+  no-deciles : k .count - (1 + km) ≡ 0 → allZero (c .deciles) ≡ true
+  unfolding numbersOf
+  no-deciles e =
+      ap allZero
+      (deciles-are ∙ ap (λ (n : ℕ). padded 576 (numbersOf old f (k .order) (1 + km) 12 n)) e)
+      ∙ all-zeros 576
+
+  -- as many records are written as the file has
+  records-are : recordsOf c ≡ N
+  records-are =
+      ⊎-elim
+      (λ (e : k .count ≡ km + 49).
+      rw (deciles-met (omega (arith, e, count-is, km-is)), km-is) (omega (arith, e, count-is)))
+      (λ (e : k .count + 48 ≡ km + 49).
+      rw (no-deciles (omega (arith, e)), km-is) (omega (arith, e, count-is))) (t .long .count answered)
+
+  point-is : (i : ℕ) → i < km → pointAt c i ≡ wordsOf (recordAt old f (1 + i)) 15
+  point-is i h =
+      ap (λ (l : List ℕ). take 15 (drop (15 * i) l)) points-are
+      ∙ numbers-at f (k .order) _ 1 15 km i h
+      ∙ ap (λ (j : ℕ). wordsOf (recordAt old f j) 15) (order-at (1 + i) (omega (arith, N-least)))
+
+  twelve-is : (i : ℕ) → 1 + km + i < N → twelveAt c i ≡ wordsOf (recordAt old f (1 + km + i)) 12
+  twelve-is i h =
+      ap (λ (l : List ℕ). take 12 (drop (12 * i) l)) deciles-are
+      ∙ numbers-at f (k .order) _ (1 + km) 12 (k .count - (1 + km)) i (omega (arith, count-is))
+      ∙ ap (λ (j : ℕ). wordsOf (recordAt old f j) 12) (order-at (1 + km + i) h)
+
+  next-is : (i : ℕ) → i < N → nextOf (recordAt old f i) ≡ nextIn N i
+  next-is i h =
+      ⊎-elim
+      (λ (e : i + 1 ≡ N).
+      let q : k .count - 1 ≡ i = omega (arith, count-is) in
+      rw (eq-eqb (i + 1) N e)
+      (ap (λ (j : ℕ). nextOf (recordAt old f j)) (sym (ap (λ (j : ℕ). getD (k .order) j 0) q ∙ order-at i h))
+      ∙ ends .last answered))
+      (λ (j : i + 1 < N).
+      rw (ne-eqb (i + 1) N (λ z. omega arith))
+      (ap (λ (m : ℕ). nextOf (recordAt old f m)) (sym (order-at i h))
+      ∙ ends .links answered i (omega (arith, count-is)) .next
+      ∙ order-at (i + 1) j))
+      (eq-or-lt-of-le {n = i + 1} {m = N} (omega arith))
+
+  sound-is : (j : ℕ) → 1 ≤ j → j < N → soundBy old (leb 48 (km + 48 - j)) (recordAt old f j) ≡ true
+  sound-is j a h =
+      let q : j - 1 + 1 ≡ j = omega arith in
+      let d : km + 49 - 1 - (j - 1 + 1) ≡ km + 48 - j = omega arith in
+      let g : getD (k .order) (j - 1 + 1) 0 ≡ j = ap (λ (m : ℕ). getD (k .order) m 0) q ∙ order-at j h in
+      ap (λ (m : ℕ). soundBy old (leb 48 m) (recordAt old f j)) (sym d)
+      ∙ ap (λ (m : ℕ). soundBy old (leb 48 (km + 49 - 1 - (j - 1 + 1))) (recordAt old f m)) (sym g)
+      ∙ ends .links answered (j - 1) (omega (arith, count-is)) .sound
+
+  record-long : (i : ℕ) → i < N → length (recordAt old f i) ≡ 64
+  record-long i h = length-take-le 64 (drop (64 * i) f) (simp length-drop (omega (arith, length-is)))
+
+  record-bytes : (i : ℕ) → Each 256 (recordAt old f i)
+  record-bytes i = each-take 256 64 (drop (64 * i) f) (each-drop 256 (64 * i) f (w .bytes))
+
+  -- a record of so many words, put together again
+  again : (i kind words : ℕ) → i < N → words ≤ 15 → fits kind words (recordAt old f i) ≡ true
+      → recordOf old kind (nextIn N i) (wordsOf (recordAt old f i) words) ≡ recordAt old f i
+  again i kind words h m e =
+      let p = fits-both kind words (recordAt old f i) e in
+      ap (λ (x : ℕ). recordOf old x (nextIn N i) (wordsOf (recordAt old f i) words)) (sym (p .0))
+      ∙ ap (λ (x : ℕ). recordOf old (kindOf (recordAt old f i)) x (wordsOf (recordAt old f i) words)) (sym (next-is i h))
+      ∙ record-again (recordAt old f i) (record-long i h) (record-bytes i) words m (p .1)
+
+  head-is : headOf old c (nextIn N 0) ≡ recordAt old f 0
+  unfolding circuitOf
+  head-is =
+      let h : 0 < N = omega (arith, N-least) in
+      ap (headOf old c) (sym (next-is 0 h))
+      ∙ head-again (recordAt old f 0) (record-long 0 h) (record-bytes 0) (t .head) c refl refl refl
+
+  point-again : (i : ℕ) → 1 ≤ i → i ≤ km → recordOf old 2 (nextIn N i) (pointAt c (i - 1)) ≡ recordAt old f i
+  point-again i a h =
+      let q : 1 + (i - 1) ≡ i = omega arith in
+      let m : i < N = omega (arith, N-least) in
+      ap (recordOf old 2 (nextIn N i)) (point-is (i - 1) (omega arith) ∙ ap (λ (j : ℕ). wordsOf (recordAt old f j) 15) q)
+      ∙ again i 2 15 m (omega arith) (rw (le-leb 48 (km + 48 - i) (omega arith)) at (sound-is i a m))
+
+  twelve-again : (i : ℕ) → km < i → i < N → recordOf old 3 (nextIn N i) (twelveAt c (i - (km + 1))) ≡ recordAt old f i
+  twelve-again i a h =
+      let q : 1 + km + (i - (km + 1)) ≡ i = omega arith in
+      ap (recordOf old 3 (nextIn N i))
+      (twelve-is (i - (km + 1)) (omega arith) ∙ ap (λ (j : ℕ). wordsOf (recordAt old f j) 12) q)
+      ∙ again i 3 12 h (omega arith) (rw (lt-leb 48 (km + 48 - i) (omega arith)) at (sound-is i (omega arith) h))
+
+  entry-by : (i : ℕ) → i < N → (a b : Bool) → eqb i 0 ≡ a → leb i (c .km) ≡ b → entryOf old c N i ≡ recordAt old f i
+  unfolding entryOf
+  entry-by i h true b p q =
+      let e = eqb-true i 0 p in
+      rw p (ap (λ (j : ℕ). headOf old c (nextIn N j)) e ∙ head-is ∙ ap (recordAt old f) (sym e))
+  entry-by i h false true p q =
+      let some = eqb-false i 0 p in
+      rw (p, q) (point-again i (omega arith) (rw km-is at (leb-true i (c .km) q)))
+  entry-by i h false false p q = rw (p, q, km-is) (twelve-again i (rw km-is at (leb-false i (c .km) q)) h)
+
+  entries-are : (n : ℕ) → n ≤ N → entriesOf old c N n ≡ take (64 * n) f
+  unfolding entriesOf
+  entries-are zero h = refl
+  entries-are (suc n) h =
+      let q : 64 * suc n ≡ 64 * n + 64 = omega arith in
+      rw (entries-are n (omega arith), entry-by n (omega arith) (eqb n 0) (leb n (c .km)) refl refl, q)
+      (sym (take-add (64 * n) 64 f))
+
+  file-is : fileOf old c ≡ f
+  unfolding fileOf
+  file-is = rw records-are (entries-are N (omega arith) ∙ take-all (64 * N) f (omega (arith, length-is)))
+
+  -- read and written again, a file in the writer's form has its own bytes
+  pub written-read : fileOf old (readOf old f .circuit) ≡ f
+  written-read = ap (fileOf old) read-is ∙ file-is
+
+  good : goodOf c ≡ true
+  unfolding circuitOf
+  good = good-is c (t .head .some) km-most (t .head .form)
+
+  -- and the writer says so of any cells that have the room
+  module _ (out : List ℕ) (room : length f ≤ length out) where
+    size-is : 64 * recordsOf c ≡ length f
+    size-is = ap (λ (n : ℕ). 64 * n) records-are ∙ sym length-is
+
+    wrote : (WriteAnswer.Written (64 * recordsOf c) ≡ answerOf old c out)
+        × (fileOf old c ++ drop (64 * recordsOf c) out ≡ leftOf old c out)
+    wrote = write-good c out good (rw size-is room)
+
+    pub written-answer : answerOf old (readOf old f .circuit) out ≡ WriteAnswer.Written (length f)
+    written-answer =
+        ap (λ (x : Circuit). answerOf old x out) read-is ∙ sym (wrote .0) ∙ ap WriteAnswer.Written size-is
+
+    pub written-bytes : take (length f) (leftOf old (readOf old f .circuit) out) ≡ f
+    written-bytes =
+        ap (λ (x : Circuit). take (length f) (leftOf old x out)) read-is
+        ∙ ap (take (length f)) (sym (wrote .1))
+        ∙ take-at (fileOf old c) (drop (64 * recordsOf c) out) (length f) (ap length file-is)
+        ∙ file-is
