@@ -31,6 +31,13 @@ step-to o f order at n e =
     let t = to-by (eqb m 0) (not (member m order)) (ltb m (countOf o f)) m n e in
     rw (t .1) at (ltb-true m (countOf o f) (t .0))
 
+-- and it is the next index
+pub step-next : (o : Form) (f order : List ℕ) (at n : ℕ) → stepOf o f order at ≡ Step.To n → nextOf (recordAt o f at) ≡ n
+unfolding stepOf
+step-next o f order at n e =
+    let m = nextOf (recordAt o f at) in
+    to-by (eqb m 0) (not (member m order)) (ltb m (countOf o f)) m n e .1
+
 module _ (o : Form) (f order : List ℕ) (at : ℕ) where
   pub walk-end : (left : ℕ) → stepOf o f order at ≡ Step.End → walk o f left order at ≡ ended left (answered order)
   unfolding walk

@@ -11,6 +11,7 @@ ghost use lib.Ieee.{ofBits, binary32};
 ghost use Rattle.circuit.specs.Record.{old, allZero};
 ghost use Rattle.circuit.specs.Chain.{chainOf};
 ghost use Rattle.circuit.specs.Read.{readOf};
+pub use record::half;
 use refusal::Outcome;
 use refusal::Refusal;
 

@@ -33,7 +33,7 @@ pub record Reduced (n c A q : ℕ) : Type 0 where
   pub way : (A ≡ 0) ⊎ (2 ^ 38 ≤ q)
 
 -- ---- the cube
-cube-low : (q : ℕ) → 3 * (2 ^ 56 * 2 ^ 56) * cubeOf q ≤ q * q * q
+pub cube-low : (q : ℕ) → 3 * (2 ^ 56 * 2 ^ 56) * cubeOf q ≤ q * q * q
 cube-low q =
     let p = q * q / 2 ^ 48 in
     let r = q * p / 2 ^ 64 in
@@ -63,10 +63,10 @@ cube-small q h = le-of-mul-le-mul-right {k = 2 ^ 100} (go (2 ^ 100) (cubeOf q) (
     go : (t j s : ℕ) → 3 * (2 ^ 12 * t) * j ≤ s * q → s ≤ t → 4 * j * t ≤ q * t
     go t j s a b = omega (arith, mul-le-mul-right q b)
 
-wide-le : (w v : ℕ) → w ≤ 2 ^ 31 * v → 33 * (w / 2 ^ 33 + 2) ≤ 9 * v + 66
+pub wide-le : (w v : ℕ) → w ≤ 2 ^ 31 * v → 33 * (w / 2 ^ 33 + 2) ≤ 9 * v + 66
 wide-le w v h = omega arith
 
-part-le : (q v : ℕ) → q ≤ 2 ^ 31 * v → q / 2 ^ 29 ≤ 4 * v
+pub part-le : (q v : ℕ) → q ≤ 2 ^ 31 * v → q / 2 ^ 29 ≤ 4 * v
 part-le q v h = omega arith
 
 -- ---- the rounding of s = A + (q - j): p is the significand times o, o a 64th of its unit, and v that of the result's unit
@@ -83,40 +83,40 @@ module _ (A q j p o v : ℕ) (Z : Sizes A q j p o v) (J : 4 * j ≤ q) (most : q
   o-small (inl e) = omega (arith, Z .s-over, Z .p-least)
   o-small (inr l) = omega (arith, Z .s-over, Z .p-least)
 
-  v-large : 2 ^ 12 ≤ 2 * v + 2
+  pub v-large : 2 ^ 12 ≤ 2 * v + 2
   v-large = omega (arith, Z .s-under, Z .p-most, Z .o-v)
 
   module _ (small : 736 * o ≤ q) where
-    w₁ : ℕ
+    pub w₁ : ℕ
     w₁ = 64 * p - 60 * v - A
 
-    w₂ : ℕ
+    pub w₂ : ℕ
     w₂ = 64 * p + 60 * v - A
 
-    abbrev wide : ℕ → ℕ
+    abbrev pub wide : ℕ → ℕ
     wide w = w / 2 ^ 33 + 2
 
-    at₁ : A + w₁ ≡ 64 * p - 60 * v
+    pub at₁ : A + w₁ ≡ 64 * p - 60 * v
     unfolding w₁
     at₁ = omega (arith, Z .s-under, Z .v-o)
 
-    at₂ : A + w₂ ≡ 64 * p + 60 * v
+    pub at₂ : A + w₂ ≡ 64 * p + 60 * v
     unfolding w₂
     at₂ = omega (arith, Z .s-under)
 
-    core₁ : w₁ + j + 28 * v ≤ q
+    pub core₁ : w₁ + j + 28 * v ≤ q
     core₁ = omega (arith, at₁, Z .s-over, Z .s-under, Z .o-v, Z .v-o)
 
-    core₂ : q + 28 * v ≤ w₂ + j
+    pub core₂ : q + 28 * v ≤ w₂ + j
     core₂ = omega (arith, at₂, Z .s-under, Z .o-v)
 
-    less₁ : w₁ ≤ 2 ^ 31 * v
+    pub less₁ : w₁ ≤ 2 ^ 31 * v
     less₁ = omega (arith, at₁, Z .p-most, Z .o-v)
 
-    less₂ : w₂ ≤ 2 ^ 31 * v
+    pub less₂ : w₂ ≤ 2 ^ 31 * v
     less₂ = omega (arith, at₂, Z .p-most, Z .o-v)
 
-    q-less : q ≤ 2 ^ 31 * v
+    pub q-less : q ≤ 2 ^ 31 * v
     q-less = omega (arith, Z .s-under, Z .p-most, Z .o-v)
 
     room₁ : w₁ + (j + 3 + (1291 + 33 * wide w₁)) ≤ q
@@ -131,27 +131,27 @@ module _ (A q j p o v : ℕ) (Z : Sizes A q j p o v) (J : 4 * j ≤ q) (most : q
         go : (w d x : ℕ) → q + 28 * v ≤ w + j → 33 * d ≤ 9 * v + 66 → x ≤ 4 * v → q + (2 + (x + 1) + (1291 + 33 * d)) ≤ w + j
         go w d x a e f = omega (arith, v-large)
 
-    fits₁ : 120 * w₁ ≤ 2 ^ 56
+    pub fits₁ : 120 * w₁ ≤ 2 ^ 56
     fits₁ = omega (arith, at₁, Z .s-over, Z .o-v, Z .v-o)
 
-    fits₂ : (120 * w₂ ≤ 2 ^ 56) × (w₂ ≤ 2 * q)
+    pub fits₂ : (120 * w₂ ≤ 2 ^ 56) × (w₂ ≤ 2 * q)
     fits₂ = (omega (arith, at₂, Z .s-over, Z .v-o), omega (arith, at₂, Z .s-over, Z .v-o))
 
-wide-ok : (w : ℕ) → w + 2 ^ 33 ≤ (w / 2 ^ 33 + 2) * 2 ^ 33
+pub wide-ok : (w : ℕ) → w + 2 ^ 33 ≤ (w / 2 ^ 33 + 2) * 2 ^ 33
 wide-ok w = omega arith
 
-x-ok : (q : ℕ) → q ≤ (q / 2 ^ 29 + 1) * 2 ^ 29
+pub x-ok : (q : ℕ) → q ≤ (q / 2 ^ 29 + 1) * 2 ^ 29
 x-ok q = omega arith
 
 -- ---- the two ends, 60 v below and above the rounded angle
 module _ (n c A q p o v : ℕ) (X : Reduced n c A q) (Z : Sizes A q (cubeOf q) p o v) where
-  q-fits : q ≤ 2 ^ 50
+  pub q-fits : q ≤ 2 ^ 50
   q-fits = omega (arith, X .most)
 
-  J : 4 * cubeOf q ≤ q
+  pub J : 4 * cubeOf q ≤ q
   J = cube-small q q-fits
 
-  small : 736 * o ≤ q
+  pub small : 736 * o ≤ q
   small = o-small A q (cubeOf q) p o v Z J (X .most) (X .large) (X .entry .most) (X .way)
 
   pub end-le : SinLe (64 * p - 60 * v) (2 ^ 56) n c
@@ -180,20 +180,20 @@ module _ (n c A q p o v : ℕ) (X : Reduced n c A q) (Z : Sizes A q (cubeOf q) p
 
 -- ---- the same in the units of the statement: s = A + (q - q³ / 3), rounded
 module _ (n c A q : ℕ) (X : Reduced n c A q) (big : 2 ^ 30 ≤ angleOf A q) (fits : angleOf A q < 2 ^ 64) where
-  abbrev s : ℕ
+  abbrev pub s : ℕ
   s = angleOf A q
 
-  abbrev o : ℕ
+  abbrev pub o : ℕ
   o = 2 ^ (34 - leadingZeros 64 s)
 
   -- the result's unit, in units of 2 ^ -50
-  abbrev v : ℕ
+  abbrev pub v : ℕ
   v = 2 ^ (size (mant s * place s) - 24 - 99)
 
   exps : (133 - leadingZeros 64 s ≤ size (mant s * place s) - 24) × (size (mant s * place s) - 24 ≤ 133 - leadingZeros 64 s + 1)
   exps = ulp-exp (mant s) (133 - leadingZeros 64 s) (rounded s big fits .least) (rounded s big fits .most)
 
-  sizes : Sizes A q (cubeOf q) (mant s * o) o v
+  pub sizes : Sizes A q (cubeOf q) (mant s * o) o v
   sizes =
       record {
         s-over = rounded s big fits .over;
@@ -216,13 +216,13 @@ module _ (n c A q : ℕ) (X : Reduced n c A q) (big : 2 ^ 30 ≤ angleOf A q) (f
       go : (l z : ℕ) → l ≤ 33 → 133 - l ≤ z - 24 → z - 24 ≡ 99 + (z - 24 - 99)
       go l z h k = omega arith
 
-  low-is : (64 * (mant s * o) - 60 * v) * 2 ^ 97 ≡ 16 * (mant s * place s) - 15 * 2 ^ (size (mant s * place s) - 24)
+  pub low-is : (64 * (mant s * o) - 60 * v) * 2 ^ 97 ≡ 16 * (mant s * place s) - 15 * 2 ^ (size (mant s * place s) - 24)
   low-is = go (mant s) o v (place s) (2 ^ (size (mant s * place s) - 24)) (place-is s (rounded s big fits .few)) unit-is
     where
       go : (m o v P U : ℕ) → P ≡ 2 ^ 99 * o → U ≡ 2 ^ 99 * v → (64 * (m * o) - 60 * v) * 2 ^ 97 ≡ 16 * (m * P) - 15 * U
       go m o v P U e f = omega (arith, ap (λ (x : ℕ). m * x) e)
 
-  high-is : (64 * (mant s * o) + 60 * v) * 2 ^ 97 ≡ 16 * (mant s * place s) + 15 * 2 ^ (size (mant s * place s) - 24)
+  pub high-is : (64 * (mant s * o) + 60 * v) * 2 ^ 97 ≡ 16 * (mant s * place s) + 15 * 2 ^ (size (mant s * place s) - 24)
   high-is = go (mant s) o v (place s) (2 ^ (size (mant s * place s) - 24)) (place-is s (rounded s big fits .few)) unit-is
     where
       go : (m o v P U : ℕ) → P ≡ 2 ^ 99 * o → U ≡ 2 ^ 99 * v → (64 * (m * o) + 60 * v) * 2 ^ 97 ≡ 16 * (m * P) + 15 * U

@@ -12,7 +12,7 @@ use Rattle.series.specs.Series.{full, num, class}
 use Rattle.circular.specs.Atan.{angles, steep}
 use Rattle.series.proofs.Entries as table
 use Rattle.series.proofs.Waves.{Enc4}
-use Rattle.series.proofs.Sharp.{part, sharp}
+use Rattle.series.proofs.Sharp.{portion, part, sharp}
 use lib.Ieee.Fits.{and-l, and-r}
 use Rattle.circular.proofs.Tangent.{Angle}
 
@@ -48,15 +48,15 @@ rules x y A p₀ p₁ p₂ p₃ =
     ∷ []
 
 unfoldable pub good : (x y A : ℕ) → Bool
-unfolding part
+unfolding portion
 good x y A = allLe (rules x y A (part 0 A) (part 1 A) (part 2 A) (part 3 A))
 
 pub angle : (i : ℕ) → i < 128 → T (good 128 i (getD angles i 0))
-unfolding good angles part num full class
+unfolding good angles portion num full class
 angle i h = table.entry (λ i A. good 128 i A) angles tt i h
 
 pub steep-angle : (i : ℕ) → i < 129 → T (good (i + 1) 128 (getD steep i 0))
-unfolding good steep part num full class
+unfolding good steep portion num full class
 steep-angle i h = table.entry (λ i A. good (i + 1) 128 A) steep tt i h
 
 -- the angle of a table's entry, with what the proof needs of it

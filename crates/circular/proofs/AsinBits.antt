@@ -15,7 +15,7 @@ use Rattle.circular.specs.Atan.{angles, steep, angleOf, gentleOf, steepO
 use Rattle.circular.specs.Asin.{cosineOf, angleAt, asinBits}
 use Rattle.circular.proofs.Cosine.{under, Cosine, cosine-is, cosine-of, cosine-large, sine-large}
 use Rattle.circular.proofs.Angle.{Reduced}
-use Rattle.circular.proofs.Reduce.{gentle-reduced, steep-reduced, dig-low, dig-high}
+use Rattle.circular.proofs.Reduce.{Roomy, gentle-reduced, steep-reduced, gentle-roomy, steep-roomy, dig-low, dig-high}
 use Rattle.circular.proofs.AtanBits.{angle-big}
 
 -- ---- the angle
@@ -46,6 +46,7 @@ pub record Brought (X : ℕ) : Type 0 where
   pub q : ℕ
   pub red : Reduced X (cosineOf X) A q
   pub is : angleAt X ≡ angleOf A q
+  pub roomy : Roomy X (cosineOf X) A q red
 
 pub brought : (X : ℕ) → 2 ^ 23 ≤ X → X < 2 ^ 35 → Brought X
 brought X l h = split (cosineOf X) X steep-case gentle-case
@@ -60,6 +61,7 @@ brought X l h = split (cosineOf X) X steep-case gentle-case
           q = (2 ^ 7 * X - i * c) * 2 ^ 56 / (2 ^ 7 * c + i * X);
           red = gentle-reduced X c (2 ^ 26) k (lit< tt) (f .0) (coarse c (f .1)) (least c (f .1));
           is = gentle-is X k;
+          roomy = gentle-roomy X c (2 ^ 26) k (lit< tt) (f .0) (coarse c (f .1)) (least c (f .1)) (f .0) (lit≤ tt);
         }
       where
         coarse : (c : ℕ) → c < 2 ^ 35 → c ≤ 2 ^ 26 * 2 ^ 10
@@ -78,6 +80,7 @@ brought X l h = split (cosineOf X) X steep-case gentle-case
           q = (X * (i + 1) - 2 ^ 7 * c) * 2 ^ 56 / (c * (i + 1) + 2 ^ 7 * X);
           red = steep-reduced X c (2 ^ 26) (f .0) (lit< tt) (f .1) (coarse c (f .0));
           is = steep-is X k;
+          roomy = steep-roomy X c (2 ^ 26) (f .0) (lit< tt) (f .1) (coarse c (f .0)) (f .1) (lit≤ tt);
         }
       where
         coarse : (c : ℕ) → c ≤ X → 129 * (c + X) ≤ 2 ^ 26 * (2 ^ 18 - 2 ^ 10)

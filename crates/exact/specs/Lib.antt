@@ -1,2 +1,3 @@
 pub mod Unit
 pub mod Near
+pub mod Enclosure

@@ -10,8 +10,8 @@ use Rattle.series.specs.Series.{full, num, class, Later, SinLe, SinGe}
 use Rattle.series.proofs.Cases.{split}
 use Rattle.series.proofs.Waves.{Enc4}
 use Rattle.series.proofs.SmallAngle.{Parts, parts-of, small-enc}
-use Rattle.series.proofs.Bounds.{sin-le, sin-ge, cos-plus, cos-minus, enc-scaled}
-use Rattle.series.proofs.Sharp.{part, sharp}
+use Rattle.series.proofs.Bounds.{sin-le, sin-ge, cos-plus, cos-minus, sine-le, enc-scaled, sine-ge}
+use Rattle.series.proofs.Sharp.{portion, part, sharp}
 
 -- ---- at 0
 none : (r d k : ℕ) → num (class (suc r)) 0 d k ≡ 0
@@ -109,6 +109,42 @@ module _ (B v u : ℕ) (b : 0 < B) (sv : v * 2 ^ 16 ≤ B) (su : u * 2 ^ 16 ≤ 
           let e : k ≤ u = omega arith in
           omega (arith, a, c, mul-le-mul-right B d, mul-le-mul-right B e, mul-le-mul-right B one)
 
+  -- the same for the sine: sin w is at most 16 v / B, with a cosine that is not negative; and at least
+  pub small-cos : Later (λ j. num (class 2) (16 * v - 15 * u) B j ≤ num (class 0) (16 * v - 15 * u) B j)
+  small-cos = at (16 * v - 15 * u) (omega arith)
+    where
+      go : (w f k : ℕ) → f * 2 ^ 13 ≤ w → w ≤ 16 * v → f + (1 + u) ≤ B + k
+      go w f k h l = omega arith
+
+      at : (w : ℕ) → w ≤ 16 * v → Later (λ j. num (class 2) w B j ≤ num (class 0) w B j)
+      at w l =
+          let m : w ≤ 16 * v + 15 * u = omega arith in
+          cos-plus w B B (B + k w m) w (f w m) (g w m) (B + k w m + (1 + u)) (w + (1 + u)) (f w m + (1 + u)) (g w m + (1 + u)) b b (enc w m) (go w (f w m) (k w m) (f-le w m (omega arith)) l)
+
+  pub small-sine-le : Later (λ j. num (class 1) (16 * v - 15 * u) B j * B ≤ num (class 3) (16 * v - 15 * u) B j * B + 16 * v * full B j)
+  small-sine-le = split (16 * v) (15 * u) (λ l. subst (λ (w : ℕ). Later (λ j. num (class 1) w B j * B ≤ num (class 3) w B j * B + 16 * v * full B j)) (sym (gone l)) (0, λ j h. rw (none 0 B j) (omega arith))) (λ l. at (16 * v - 15 * u) (omega arith) (omega arith))
+    where
+      gone : 16 * v < 15 * u → 16 * v - 15 * u ≡ 0
+      gone l = omega arith
+
+      go : (w g : ℕ) → w + 15 * u ≡ 16 * v → (w + (1 + u)) * B ≤ g * B + 16 * v * B
+      go w g e = omega (arith, ap (λ (x : ℕ). x * B) e, mul-le-mul-right B one)
+
+      at : (w : ℕ) → w + 15 * u ≡ 16 * v → w ≤ 16 * v + 15 * u → Later (λ j. num (class 1) w B j * B ≤ num (class 3) w B j * B + 16 * v * full B j)
+      at w e l =
+          sine-le w B B (B + k w l) w (f w l) (g w l) (B + k w l + (1 + u)) (w + (1 + u)) (f w l + (1 + u)) (g w l + (1 + u)) b b (enc w l) (16 * v) B (go w (g w l) e)
+
+  pub small-sine-ge : Later (λ j. num (class 3) (16 * v + 15 * u) B j * B + 16 * v * full B j ≤ num (class 1) (16 * v + 15 * u) B j * B)
+  small-sine-ge =
+      let w = 16 * v + 15 * u in
+      let l = le-refl w in
+      sine-ge w B B (B + k w l) w (f w l) (g w l) (B + k w l + (1 + u)) (w + (1 + u)) (f w l + (1 + u)) (g w l + (1 + u)) b b (enc w l) (16 * v) B (go (g w l) (g-le w l))
+    where
+      go : (g : ℕ) → g * (6 * 2 ^ 22) ≤ 16 * v + 15 * u → (g + (1 + u)) * B + 16 * v * B ≤ (16 * v + 15 * u) * B
+      go g h =
+          let d : g ≤ 12 * u = omega arith in
+          omega (arith, mul-le-mul-right B d, mul-le-mul-right B one)
+
 -- ---- half pi: the f32 nearest to it is 13176795 * 2 ^ -23; 15 / 16 of its unit below and above, in units of 2 ^ -56
 abbrev under : ℕ
 under = (16 * 13176795 - 15) * 2 ^ 29
@@ -118,19 +154,19 @@ above = (16 * 13176795 + 15) * 2 ^ 29
 
 -- the tangent of the lower one is at most 2 ^ 26, and its cosine positive; the upper one is past half pi
 under-1 : part 1 under + 2 + 2 ^ 26 * (part 2 under + 2) ≤ part 3 under + 2 ^ 26 * part 0 under
-unfolding part num full class
+unfolding portion num full class
 under-1 = lit≤ tt
 
 under-2 : part 2 under + 2 ≤ part 0 under
-unfolding part num full class
+unfolding portion num full class
 under-2 = lit≤ tt
 
 above-0 : part 0 above + 2 ≤ part 2 above
-unfolding part num full class
+unfolding portion num full class
 above-0 = lit≤ tt
 
 above-1 : part 3 above + 2 ≤ part 1 above
-unfolding part num full class
+unfolding portion num full class
 above-1 = lit≤ tt
 
 under-enc : Enc4 (under * 2 ^ 97) (2 ^ 56 * 2 ^ 97) (2 ^ 62) (part 0 under) (part 1 under) (part 2 under) (part 3 under) (part 0 under + 2) (part 1 under + 2) (part 2 under + 2) (part 3 under + 2)
@@ -157,3 +193,16 @@ half-plus = cos-plus (under * 2 ^ 97) (16 * 2 ^ 149) (2 ^ 62) (part 0 under) (pa
 
 pub half-minus : Later (λ k. num (class 0) (above * 2 ^ 97) (16 * 2 ^ 149) k ≤ num (class 2) (above * 2 ^ 97) (16 * 2 ^ 149) k)
 half-minus = cos-minus (above * 2 ^ 97) (16 * 2 ^ 149) (2 ^ 62) (part 0 above) (part 1 above) (part 2 above) (part 3 above) (part 0 above + 2) (part 1 above + 2) (part 2 above + 2) (part 3 above + 2) (pow-pos 153) (pow-pos 62) above-enc above-0
+
+-- the sine of the lower one is at most 1
+under-3 : part 1 under + 2 ≤ part 3 under + 2 ^ 62
+unfolding portion num full class
+under-3 = lit≤ tt
+
+pub half-sine : (c : ℕ) → Later (λ k. num (class 1) (under * 2 ^ 97) (16 * 2 ^ 149) k * c ≤ num (class 3) (under * 2 ^ 97) (16 * 2 ^ 149) k * c + c * full (16 * 2 ^ 149) k)
+half-sine c =
+    sine-le (under * 2 ^ 97) (16 * 2 ^ 149) (2 ^ 62) (part 0 under) (part 1 under) (part 2 under) (part 3 under) (part 0 under + 2) (part 1 under + 2) (part 2 under + 2) (part 3 under + 2) (pow-pos 153) (pow-pos 62) under-enc c c
+    (le-trans (mul-le-mul-right c under-3) (le-of-eq (go (part 3 under) (2 ^ 62))))
+  where
+    go : (p m : ℕ) → (p + m) * c ≡ p * c + c * m
+    go p m = omega arith

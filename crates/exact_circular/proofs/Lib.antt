@@ -3,3 +3,7 @@ pub mod Sums
 pub mod Waves
 pub mod Ends
 pub mod Atan
+pub mod Fine
+pub mod AsinEnds
+pub mod SineRoom
+pub mod Asin

@@ -8,6 +8,9 @@ ghost use Rattle.exponential.specs.Tables.{ln2, sixteenths};
 ghost use Rattle.exponential.specs.Exp.{riseOf, powerOf, rounded, lowered, grown, shrunk, expBits};
 use fixed::scaled;
 
+// ln 2 in units of 2^-56
+pub const LN2: u64 = 49946518145322873;
+
 const SIXTEENTHS: [u64; 12] = [
     4611686018427387904,
     4909114212884919797,
@@ -48,6 +51,7 @@ fn power(r: u64) -> u64
     requires { ⌜ r ≤ ln2 ⌝ }
     ensures { λ h. ⌜ h ≡ powerOf r ⌝ }
 {
+    // the sixteenths of r, and 32 bits of what is left
     let f = sixteenth(r / 4503599627370496);
     let p = rise(r % 4503599627370496 / 1048576);
     f + f / 4294967296 * p / 16
@@ -62,7 +66,7 @@ fn folded(s: u32, r: u64) -> u64
     if s < 1 {
         return r;
     }
-    49946518145322873 - r
+    LN2 - r
 }
 
 // the exponent's field, less one
@@ -111,11 +115,7 @@ fn signed(s: u32, x: u64) -> u32
     requires { ⌜ (s < 2) × (x + (1 - s) * (0x1e_8de9 * 2 ^ 39) ≤ 104 * 2 ^ 56) ⌝ }
     ensures { λ v. ⌜ v ≡ pick (ltb s 1) (grown x) (shrunk x) ⌝ }
 {
-    packed(
-        s,
-        x / 49946518145322873,
-        power(folded(s, x % 49946518145322873)),
-    )
+    packed(s, x / LN2, power(folded(s, x % LN2)))
 }
 
 // from the pattern of x to that of e^x

@@ -7,6 +7,7 @@ ghost use lib.ListN.{getD};
 ghost use Rattle.fixed.specs.Fixed.{pick};
 ghost use Rattle.exponential.specs.Tables.{eighths};
 ghost use Rattle.exponential.specs.Ln.{excessOf, twiceOf, restOf, above, below, lnBits};
+use super::exponent::LN2;
 use fixed::pack;
 
 const EIGHTHS: [u64; 9] = [
@@ -83,7 +84,7 @@ fn above_bits(m: u64, e: u64) -> u32
     ensures { λ v. ⌜ v ≡ above m e ⌝ }
 {
     let y = rest(m);
-    pack(e * 49946518145322873 + y)
+    pack(e * LN2 + y)
 }
 
 // the pattern of ln (m / 2^23 * 2^-e), which is below 0
@@ -92,7 +93,7 @@ fn below_bits(m: u64, e: u64) -> u32
     ensures { λ v. ⌜ v ≡ below m e ⌝ }
 {
     let y = rest(m);
-    2147483648 + pack(e * 49946518145322873 - y)
+    2147483648 + pack(e * LN2 - y)
 }
 
 // from the pattern of x to that of its logarithm

@@ -10,7 +10,9 @@ use borrow.Author.Tests.{lt-ltb, le-ltb, ltb-true, ltb-false}
 use lib.Dec.{ltb, lit<}
 use lib.ListN.{length, length-append}
 use Rattle.io.specs.Digits.{glyph, digits, Fewest}
-use Rattle.lines.specs.Text.{tensBy, decimalIn, decimalOf, hexOf}
+use Rattle.lines.specs.Text.{tensBy, decimalIn, decimalOf, hexOf, lineFeed, refusedWord, refusedText}
+use Rattle.refusal.specs.declared.Refusal.{Refusal}
+use Rattle.refusal.specs.Number.{numberOf}
 
 pub length-digits : (b k n : ℕ) → length (digits b k n) ≡ k
 length-digits b zero n = refl
@@ -43,3 +45,24 @@ fewest-decimal k n h f = fewest-in 20 k n (no-more 10 20 k n 1 (omega arith) (om
 
 pub fewest-hex : (k n : ℕ) → n < 2 ^ 32 → Fewest 16 8 n k → k ≡ 8
 fewest-hex k n h f = omega (arith, no-more 16 8 k n 8 (omega arith) (omega arith) (omega arith) f (ltb 8 k) refl)
+
+short : (b : Bool) (l : List ℕ) (n : ℕ) → length l ≤ n → length (tensBy b l) ≤ n
+short true l n h = omega arith
+short false l n h = h
+
+length-in : (places n : ℕ) → length (decimalIn places n) ≤ places
+unfolding decimalIn
+length-in zero n = omega arith
+length-in (suc places) n =
+    let t = tensBy (ltb n 10) (decimalIn places (n / 10)) in
+    omega (arith, length-append t (glyph (n % 10) ∷ []), short (ltb n 10) (decimalIn places (n / 10)) places (length-in places (n / 10)))
+
+pub length-decimal : (n : ℕ) → length (decimalOf n) ≤ 20
+unfolding decimalOf
+length-decimal n = length-in 20 n
+
+pub length-refused : (r : Refusal) → length (refusedText r) ≤ 29
+unfolding refusedText
+length-refused r =
+    omega
+    (arith, length-append refusedWord (decimalOf (numberOf r) ++ (lineFeed ∷ [])), length-append (decimalOf (numberOf r)) (lineFeed ∷ []), length-decimal (numberOf r))

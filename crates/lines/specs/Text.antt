@@ -7,6 +7,8 @@ use lib.Dec.{ltb}
 use lib.ListN.{length}
 use lib.Seq.{sets}
 use Rattle.io.specs.Digits.{glyph, digits}
+use Rattle.refusal.specs.declared.Refusal.{Refusal}
+use Rattle.refusal.specs.Number.{numberOf}
 
 -- ASCII's space and line feed
 abbrev pub space : ℕ
@@ -32,6 +34,18 @@ decimalOf n = decimalIn 20 n
 -- the eight lower-case hexadecimal digits of a number below 2 ^ 32
 unfoldable pub hexOf : ℕ → List ℕ
 hexOf n = digits 16 8 n
+
+-- a field after another: one space, then the number
+abbrev pub fieldOf : ℕ → List ℕ
+fieldOf n = space ∷ decimalOf n
+
+-- `refused ` in ASCII
+abbrev pub refusedWord : List ℕ
+refusedWord = 114 ∷ 101 ∷ 102 ∷ 117 ∷ 115 ∷ 101 ∷ 100 ∷ space ∷ []
+
+-- all that a program prints where it turns a file away
+unfoldable pub refusedText : Refusal → List ℕ
+refusedText r = refusedWord ++ (decimalOf (numberOf r) ++ (lineFeed ∷ []))
 
 -- The text was put into the bytes l from the place `at`: l′ is what they hold now, every other byte as it was, and r the place after the text.
 pub record Put (text l : List ℕ) (at : ℕ) (l′ : List ℕ) (r : ℕ) : Type 0 where

@@ -381,7 +381,7 @@ fn within(x: f32, top: f32) -> bool
     false
 }
 
-fn in_domain(c: Circuit) -> bool
+pub fn in_domain(c: Circuit) -> bool
     ensures { λ r. ⌜ r ≡ inDomain c ⌝ }
 {
     if within(c.gcdkm, 40100.0) {
@@ -397,7 +397,7 @@ fn in_domain(c: Circuit) -> bool
 }
 
 // Whether the deciles are 576, and clat and clck reach to slot ks; the lists by their lengths.
-fn lists_reach(ks: usize, deciles: usize, lats: usize, clocks: usize) -> bool
+pub fn lists_reach(ks: usize, deciles: usize, lats: usize, clocks: usize) -> bool
     ensures { λ r. ⌜ r ≡ listsReach ks deciles lats clocks ⌝ }
 {
     if deciles != 576 {
@@ -446,7 +446,7 @@ pub fn three_lines(
 }
 
 // The rows that there are, at most km.
-fn row_count(numbers: usize, km: usize) -> usize
+pub fn row_count(numbers: usize, km: usize) -> usize
     ensures { λ r. ⌜ r ≡ rowsOf numbers km ⌝ }
 {
     let there = numbers / 4;

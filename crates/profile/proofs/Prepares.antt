@@ -1,6 +1,6 @@
 -- Slot k's three places of the tables are read back as they were written, and every other slot's places are other places.
 use mathlib.Core.Bool.{Bool, false}
-use mathlib.Core.Path.{_≡_, refl, sym, subst}
+use mathlib.Core.Path.{_≡_, refl, sym, subst, _∙_}
 use mathlib.Core.Logic.{_≢_}
 use Prim.Native.Nat.{ℕ, _+_, _*_, _<_}
 use native.Mathlib.Omega.{arith}
@@ -10,6 +10,7 @@ use Rattle.layers.specs.declared.IonoState.{IonoState}
 use Rattle.profile.specs.F1.{reshapedOf}
 use Rattle.profile.specs.Lecden.{slotAt, slotWritten, suppliedOf, lecdenBy, lecdenOf}
 use Rattle.profile.specs.Prepared.{Shaped, Prepared}
+use Rattle.profile.proofs.Keeps.{lecden-keeps}
 use Rattle.profile.specs.declared.Slot.{Slot}
 use Rattle.profile.specs.declared.F1Shape.{F1Shape}
 
@@ -62,3 +63,9 @@ slot-profiled s k l h =
 pub lecden-prepares : (s : IonoState) (k : ℕ) → s .ielect ≡ false → Shaped s → k < 3 → Prepared s (lecdenOf s k) k
 unfolding lecdenOf suppliedOf
 lecden-prepares s k e l h = subst (λ (b : Bool). Prepared s (lecdenBy b s k) k) (sym e) (slot-profiled s k l h)
+
+-- the lengths last
+pub lecden-shaped : (s : IonoState) (k : ℕ) → Shaped s → Shaped (lecdenOf s k)
+lecden-shaped s k l =
+    let w = lecden-keeps s k in
+    record { yi-long = w .yi-kept .long ∙ l .yi-long; hi-long = w .hi-kept .long ∙ l .hi-long; fsecv-long = w .fsecv-kept .long ∙ l .fsecv-long }

@@ -3,6 +3,11 @@
 ghost use mathlib.Core.Path.{_≡_};
 ghost use Rattle.scalar.specs.Scalar.{minOf, maxOf, truncOf};
 ghost use Rattle.scalar.specs.Root.{sqrtOf};
+ghost use Rattle.exponential.specs.Exp.{expOf};
+ghost use Rattle.exponential.specs.Ln.{lnOf};
+ghost use Rattle.circular.specs.SinCos.{sinOf, cosOf};
+ghost use Rattle.circular.specs.Asin.{asinOf};
+ghost use Rattle.circular.specs.Atan.{atanOf};
 
 #[no_mangle]
 pub extern "C" fn scalar_sqrt(x: f32) -> f32
@@ -30,4 +35,47 @@ pub extern "C" fn scalar_trunc(x: f32) -> i32
     ensures { λ r. ⌜ r ≡ truncOf x ⌝ }
 {
     scalar::trunc(x)
+}
+
+#[no_mangle]
+pub extern "C" fn scalar_exp(x: f32) -> f32
+    ensures { λ r. ⌜ r ≡ expOf x ⌝ }
+{
+    exponential::exp(x)
+}
+
+#[no_mangle]
+pub extern "C" fn scalar_ln(x: f32) -> f32
+    ensures { λ r. ⌜ r ≡ lnOf x ⌝ }
+{
+    exponential::ln(x)
+}
+
+// NaN outside -4 to 4, and so for the cosine.
+#[no_mangle]
+pub extern "C" fn scalar_sin(x: f32) -> f32
+    ensures { λ r. ⌜ r ≡ sinOf x ⌝ }
+{
+    circular::sin(x)
+}
+
+#[no_mangle]
+pub extern "C" fn scalar_cos(x: f32) -> f32
+    ensures { λ r. ⌜ r ≡ cosOf x ⌝ }
+{
+    circular::cos(x)
+}
+
+#[no_mangle]
+pub extern "C" fn scalar_asin(x: f32) -> f32
+    ensures { λ r. ⌜ r ≡ asinOf x ⌝ }
+{
+    circular::asin(x)
+}
+
+#[no_mangle]
+pub extern "C" fn scalar_atan(x: f32) -> f32
+    ensures { λ r. ⌜ r ≡ atanOf x ⌝ }
+{
+    circular::atan(x)
 }

@@ -21,13 +21,13 @@ module _ (K : ℕ → ℕ) (n d m r t u : ℕ) where
       → m * ((P + A) * (g * h) + A * (n * n) * (n * n)) + t * (D * (g * h)) ≤ m * (Q * (g * h) + A * (n * n) * h) + (r + u) * (D * (g * h))
   go-high g h D A P Q x y = omega arith
 
-  stay-low : (j : ℕ) (s : Sums) → n * n ≤ d * d * K (2 * j) → Low s → Low (grow K n d j s)
+  pub stay-low : (j : ℕ) (s : Sums) → n * n ≤ d * d * K (2 * j) → Low s → Low (grow K n d j s)
   stay-low j s f l =
       let g = d * d * K (2 * j) in
       let h = d * d * K (2 * j + 1) in
       go-low g h (s .den) (s .next) (s .plus) (s .minus) (mul-le-mul-right (g * h) l) (mul-le-mul-right (m * s .next * h) f)
 
-  stay-high : (j : ℕ) (s : Sums) → n * n ≤ d * d * K (2 * j + 1) → High s → High (grow K n d j s)
+  pub stay-high : (j : ℕ) (s : Sums) → n * n ≤ d * d * K (2 * j + 1) → High s → High (grow K n d j s)
   stay-high j s f l =
       let g = d * d * K (2 * j) in
       let h = d * d * K (2 * j + 1) in

@@ -13,6 +13,7 @@ pub mod Quarters
 pub mod Waves
 pub mod SmallAngle
 pub mod Sharp
+pub mod SineSign
 pub mod Bounds
 pub mod Pythagoras
 pub mod Circle

@@ -29,64 +29,62 @@ struct Function {
 const HALF_PI: u32 = 0x3fc9_0fdb;
 const INFINITY: u32 = 0x7f80_0000;
 
-fn functions() -> [Function; 6] {
-    [
-        Function {
-            name: "scalar_exp",
-            ours: ours::scalar_exp,
-            rust: f32::exp,
-            library: f64::exp,
-            precise: precise::exp,
-            special: exp_special,
-            range: (-10.0, 0.0),
-        },
-        Function {
-            name: "scalar_ln",
-            ours: ours::scalar_ln,
-            rust: f32::ln,
-            library: f64::ln,
-            precise: precise::ln,
-            special: ln_special,
-            range: (1.0, 2000.0),
-        },
-        Function {
-            name: "scalar_sin",
-            ours: ours::scalar_sin,
-            rust: f32::sin,
-            library: f64::sin,
-            precise: |x| precise::sin_cos(x).0,
-            special: |x| outside(x, 4.0).or(zero(x)),
-            range: (0.0, 1.6),
-        },
-        Function {
-            name: "scalar_cos",
-            ours: ours::scalar_cos,
-            rust: f32::cos,
-            library: f64::cos,
-            precise: |x| precise::sin_cos(x).1,
-            special: |x| outside(x, 4.0),
-            range: (0.0, 1.6),
-        },
-        Function {
-            name: "scalar_asin",
-            ours: ours::scalar_asin,
-            rust: f32::asin,
-            library: f64::asin,
-            precise: precise::asin,
-            special: |x| outside(x, 1.0).or(zero(x)),
-            range: (-1.0, 1.0),
-        },
-        Function {
-            name: "scalar_atan",
-            ours: ours::scalar_atan,
-            rust: f32::atan,
-            library: f64::atan,
-            precise: precise::atan,
-            special: atan_special,
-            range: (0.0, 10.0),
-        },
-    ]
-}
+const FUNCTIONS: [Function; 6] = [
+    Function {
+        name: "scalar_exp",
+        ours: ours::scalar_exp,
+        rust: f32::exp,
+        library: f64::exp,
+        precise: precise::exp,
+        special: exp_special,
+        range: (-10.0, 0.0),
+    },
+    Function {
+        name: "scalar_ln",
+        ours: ours::scalar_ln,
+        rust: f32::ln,
+        library: f64::ln,
+        precise: precise::ln,
+        special: ln_special,
+        range: (1.0, 2000.0),
+    },
+    Function {
+        name: "scalar_sin",
+        ours: ours::scalar_sin,
+        rust: f32::sin,
+        library: f64::sin,
+        precise: |x| precise::sin_cos(x).0,
+        special: |x| outside(x, 4.0).or(zero(x)),
+        range: (0.0, 1.6),
+    },
+    Function {
+        name: "scalar_cos",
+        ours: ours::scalar_cos,
+        rust: f32::cos,
+        library: f64::cos,
+        precise: |x| precise::sin_cos(x).1,
+        special: |x| outside(x, 4.0),
+        range: (0.0, 1.6),
+    },
+    Function {
+        name: "scalar_asin",
+        ours: ours::scalar_asin,
+        rust: f32::asin,
+        library: f64::asin,
+        precise: precise::asin,
+        special: |x| outside(x, 1.0).or(zero(x)),
+        range: (-1.0, 1.0),
+    },
+    Function {
+        name: "scalar_atan",
+        ours: ours::scalar_atan,
+        rust: f32::atan,
+        library: f64::atan,
+        precise: precise::atan,
+        special: atan_special,
+        range: (0.0, 10.0),
+    },
+];
 
 fn exp_special(x: f32) -> Option<u32> {
     if x.is_nan() {
@@ -268,7 +266,7 @@ fn main() {
     let step = argument(1, 1);
     let named: Vec<String> = std::env::args().skip(2).collect();
     let chosen = |f: &&Function| named.is_empty() || named.iter().any(|n| n == f.name);
-    let verdicts: Vec<Verdict> = functions()
+    let verdicts: Vec<Verdict> = FUNCTIONS
         .iter()
         .filter(chosen)
         .map(|f| run(f, step))

@@ -1,3 +1,4 @@
+-- Each path is the clause that its tests on km choose.
 use Rattle.layers.specs.Ionset.{assignedOf}
 use borrow.Author.Needs.{needs}
 use borrow.Author.Tests.{le-leb, lt-leb}

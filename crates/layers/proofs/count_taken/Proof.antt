@@ -1,3 +1,4 @@
+-- A count below 1 fails the first half of the test, the other goes by the second.
 use Rattle.layers.specs.FromLayers.{countTaken}
 use borrow.Author.Tests.{le-leb, lt-leb}
 use Rattle.layers.proofs.count_taken.Statement.{statement}

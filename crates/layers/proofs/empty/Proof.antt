@@ -1,3 +1,4 @@
+-- The zero state with two fields set.
 use Rattle.layers.specs.FromLayers.{emptyOf}
 use borrow.Author.Needs.{needs}
 use Rattle.layers.proofs.empty.Statement.{statement}

@@ -1,3 +1,4 @@
+-- At most five points are read, since no more are taken.
 use Rattle.layers.specs.FromLayers.{fromLayersOf}
 use Rattle.layers.proofs.Counts.{taken-five}
 use mathlib.Core.Path.{sym, _∙_}

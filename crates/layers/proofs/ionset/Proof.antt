@@ -1,3 +1,4 @@
+-- At most three slots are settled, since `assign` makes no more.
 use Rattle.layers.specs.Ionset.{ionsetOf}
 use Rattle.layers.proofs.Counts.{three-at-most}
 use borrow.Author.Needs.{needs}

@@ -1,3 +1,4 @@
+-- The three stores are those of the definition; each index is below 15.
 use Rattle.layers.specs.Ionset.{layerFrom}
 use mathlib.Core.Path.{refl}
 use borrow.Author.Needs.{needs}

@@ -1,3 +1,4 @@
+-- A row of each table, by what `set_row` answers.
 use Rattle.layers.specs.FromLayers.{pointSet}
 use borrow.Author.Needs.{needs}
 use Rattle.layers.proofs.set_point.Statement.{statement}

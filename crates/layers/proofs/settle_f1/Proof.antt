@@ -1,3 +1,4 @@
+-- Each path is the clause that its tests choose: no F1, dropped, or kept.
 use Rattle.layers.specs.Ionset.{f1Settled}
 use borrow.Author.Needs.{needs}
 use Rattle.layers.proofs.settle_f1.Statement.{statement}

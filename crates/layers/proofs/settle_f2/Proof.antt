@@ -1,3 +1,4 @@
+-- One store, of the minimum.
 use Rattle.layers.specs.Ionset.{f2Settled}
 use borrow.Author.Needs.{needs}
 use Rattle.layers.proofs.settle_f2.Statement.{statement}

@@ -1,3 +1,4 @@
+-- F1, then F2.
 use Rattle.layers.specs.Ionset.{slotSettled}
 use borrow.Author.Needs.{needs}
 use Rattle.layers.proofs.settle_slot.Statement.{statement}

@@ -1,3 +1,4 @@
+-- The seven copies, in the definition's order.
 use Rattle.layers.specs.Ionset.{threeSlots}
 use borrow.Author.Needs.{needs}
 use Rattle.layers.proofs.three_slots.Statement.{statement}

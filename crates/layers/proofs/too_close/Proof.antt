@@ -1,3 +1,4 @@
+-- The first test answers, or the second does.
 use Rattle.layers.specs.Ionset.{tooClose}
 use Rattle.layers.proofs.too_close.Statement.{statement}
 use Rattle.layers.proofs.too_close.Tie as tie

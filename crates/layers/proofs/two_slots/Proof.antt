@@ -1,3 +1,4 @@
+-- The three copies, in the definition's order.
 use Rattle.layers.specs.Ionset.{twoSlots}
 use borrow.Author.Needs.{needs}
 use Rattle.layers.proofs.two_slots.Statement.{statement}

@@ -1,3 +1,4 @@
+-- Two stores.
 use Rattle.port_state.specs.State.{countsInto}
 use native.Mathlib.Omega.{arith}
 use lib.ListN.{length-set}

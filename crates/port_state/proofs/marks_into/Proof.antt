@@ -1,3 +1,4 @@
+-- Three stores; an i32 that was read is the number that was stored.
 use Rattle.port_state.specs.State.{marksInto}
 use mathlib.Core.Path.{_≡_, ap, _∙_}
 use Prim.Native.Nat.{_<_}

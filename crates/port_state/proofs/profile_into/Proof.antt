@@ -1,3 +1,4 @@
+-- Three runs of words.
 use Rattle.port_state.specs.State.{profileInto}
 use borrow.Author.Needs.{needs}
 use Rattle.port_state.proofs.profile_into.Statement.{statement}

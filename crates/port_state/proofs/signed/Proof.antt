@@ -1,3 +1,4 @@
+-- A word below 2^31 is itself; of any other w the number is -1 - (2^32 - 1 - w), which stays in range.
 use Prim.Native.Nat.{_-_}
 use native.Mathlib.Omega.{arith}
 use borrow.Author.Needs.{needs}

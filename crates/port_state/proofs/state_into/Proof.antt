@@ -1,3 +1,4 @@
+-- Four parts, each on what the one before left.
 use Rattle.port_state.specs.State.{stateInto}
 use borrow.Author.Needs.{needs}
 use Rattle.port_state.proofs.state_into.Statement.{statement}

@@ -1,3 +1,4 @@
+-- Field by field; nothing of the zero state is left.
 use Rattle.port_state.specs.State.{stateOf}
 use borrow.Author.Needs.{needs}
 use Rattle.port_state.proofs.state_of.Statement.{statement}

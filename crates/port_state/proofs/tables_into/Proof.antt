@@ -1,3 +1,4 @@
+-- Three runs of fifteen words.
 use Rattle.port_state.specs.State.{tablesInto}
 use borrow.Author.Needs.{needs}
 use Rattle.port_state.proofs.tables_into.Statement.{statement}

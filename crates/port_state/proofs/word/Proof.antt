@@ -1,3 +1,4 @@
+-- A number that is not negative is its own word; of a negative one n the word is 2^32 - 1 - (-1 - n), which stays in range.
 use mathlib.Core.Path.{_≡_, _∙_}
 use Prim.Native.Nat.{_-_, _<_, _≤_}
 use native.Mathlib.Omega.{arith}

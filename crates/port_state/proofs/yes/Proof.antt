@@ -1,3 +1,4 @@
+-- The test itself.
 use mathlib.Core.Path.{refl}
 use Rattle.port_state.specs.Words.{yesOf}
 use Rattle.port_state.proofs.yes.Statement.{statement}

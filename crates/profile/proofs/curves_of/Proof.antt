@@ -1,3 +1,4 @@
+-- Field by field.
 use Rattle.profile.specs.Lecden.{curvesOf}
 use borrow.Author.Needs.{needs}
 use Rattle.profile.proofs.curves_of.Statement.{statement}

@@ -1,3 +1,4 @@
+-- Slots 0 to 2 go to `lecden_slot`; every other number is refused.
 use Rattle.profile.specs.Lecden.{lecdenAnswer}
 use borrow.Author.Needs.{needs}
 use borrow.Author.Tests.{lt-ltb, le-ltb}

@@ -1,3 +1,4 @@
+-- Each step of the definition is what the call of the same name answers.
 use Rattle.profile.specs.Lecden.{lecdenOf}
 use borrow.Author.Needs.{needs}
 use Rattle.profile.proofs.lecden_slot.Statement.{statement}

@@ -1,3 +1,4 @@
+-- What is left of the test at step i is the whole test: all steps before it rise.
 use mathlib.Core.Path.{_≡_, refl}
 use mathlib.Core.Bool.{true, _&&_}
 use mathlib.Core.List.{List}

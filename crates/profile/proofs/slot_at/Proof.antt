@@ -1,3 +1,4 @@
+-- Ten reads; each index is below its table's length.
 use Rattle.profile.specs.Lecden.{slotAt}
 use mathlib.Core.Path.{refl}
 use borrow.Author.Needs.{needs}

@@ -1,3 +1,4 @@
+-- The field itself.
 use Rattle.profile.specs.Lecden.{suppliedOf}
 use mathlib.Core.Path.{refl}
 use Rattle.profile.proofs.supplied.Statement.{statement}

@@ -1,3 +1,4 @@
+-- The same operations, in the same order.
 use Rattle.profile.specs.Lecden.{tailOf}
 use borrow.Author.Needs.{needs}
 use Rattle.profile.proofs.tail_of.Statement.{statement}

@@ -1,3 +1,4 @@
+-- By the outcome: the state written, or nothing.
 use Rattle.port_state.specs.Ports.{answerOf}
 use mathlib.Core.Path.{refl}
 use borrow.Author.Needs.{needs}

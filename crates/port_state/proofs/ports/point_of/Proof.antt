@@ -1,3 +1,4 @@
+-- Nine words, three to a field.
 use Rattle.port_state.specs.Ports.{pointOf}
 use borrow.Author.Needs.{needs}
 use Rattle.port_state.proofs.ports.point_of.Statement.{statement}

@@ -1,3 +1,4 @@
+-- Refused for want of room, for the count of words, or what the answer leaves.
 use Rattle.port_state.specs.Ports.{portFromLayers}
 use mathlib.Core.Path.{refl}
 use borrow.Author.Tests.{le-leb, lt-leb, eq-eqb, ne-eqb}

@@ -1,3 +1,4 @@
+-- Refused for want of room, or what the answer leaves.
 use Rattle.port_state.specs.Ports.{portIonset}
 use mathlib.Core.Path.{refl}
 use borrow.Author.Tests.{le-leb, lt-leb}

@@ -1,3 +1,4 @@
+-- Each field is what its shape answers.
 use Rattle.profile.specs.Density.{candidatesOf}
 use borrow.Author.Needs.{needs}
 use Rattle.profile.proofs.density.candidates.Statement.{statement}

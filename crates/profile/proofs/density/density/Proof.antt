@@ -1,3 +1,4 @@
+-- The largest of what the five shapes answer.
 use Rattle.profile.specs.Density.{densityOf}
 use borrow.Author.Needs.{needs}
 use Rattle.profile.proofs.density.density.Statement.{statement}

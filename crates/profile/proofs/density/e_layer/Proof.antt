@@ -1,3 +1,4 @@
+-- Each path is the clause that its tests choose.
 use Rattle.profile.specs.Density.{fneOf}
 use borrow.Author.Needs.{needs}
 use Rattle.profile.proofs.density.e_layer.Statement.{statement}

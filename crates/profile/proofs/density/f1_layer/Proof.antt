@@ -1,3 +1,4 @@
+-- Each path is the clause that its tests choose.
 use Rattle.profile.specs.Density.{fn1Of}
 use borrow.Author.Needs.{needs}
 use Rattle.profile.proofs.density.f1_layer.Statement.{statement}

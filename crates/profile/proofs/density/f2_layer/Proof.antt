@@ -1,3 +1,4 @@
+-- Each path is the clause that its test chooses.
 use Rattle.profile.specs.Density.{fn2Of}
 use borrow.Author.Needs.{needs}
 use Rattle.profile.proofs.density.f2_layer.Statement.{statement}

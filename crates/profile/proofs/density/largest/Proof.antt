@@ -1,3 +1,4 @@
+-- Four maxima, in the Rust's order.
 use Rattle.profile.specs.Density.{largestOf}
 use borrow.Author.Needs.{needs}
 use Rattle.profile.proofs.density.largest.Statement.{statement}

@@ -1,3 +1,4 @@
+-- The same operations, in the same order.
 use Rattle.profile.specs.Density.{parabolaOf}
 use mathlib.Core.Path.{refl}
 use Rattle.profile.proofs.density.parabola.Statement.{statement}

@@ -1,3 +1,4 @@
+-- Each path is the clause that its tests choose.
 use Rattle.profile.specs.Density.{fnvalOf}
 use Rattle.profile.proofs.density.valley.Statement.{statement}
 use Rattle.profile.proofs.density.valley.Tie as tie

@@ -1,3 +1,4 @@
+-- Five ways through the tests, each the clause that they choose.
 use Rattle.profile.specs.F1.{f1Of}
 use borrow.Author.Needs.{needs}
 use Rattle.profile.proofs.f1.reshape.Statement.{statement}

@@ -1,3 +1,4 @@
+-- Field by field.
 use Rattle.profile.specs.F1.{reshapedOf}
 use mathlib.Core.Path.{refl}
 use Rattle.profile.proofs.f1.reshaped.Statement.{statement}

@@ -1,3 +1,4 @@
+-- Each path is the clause that its test chooses.
 use Rattle.profile.specs.F1.{aspOf}
 use Rattle.profile.proofs.f1.slope.Statement.{statement}
 use Rattle.profile.proofs.f1.slope.Tie as tie

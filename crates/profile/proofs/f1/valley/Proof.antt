@@ -1,3 +1,4 @@
+-- The same operations, in the same order.
 use Rattle.profile.specs.F1.{valleyOf}
 use borrow.Author.Needs.{needs}
 use Rattle.profile.proofs.f1.valley.Statement.{statement}

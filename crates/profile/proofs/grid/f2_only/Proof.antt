@@ -1,3 +1,4 @@
+-- The first test answers, or the second does.
 use Rattle.profile.specs.Grid.{f2OnlyOf}
 use Rattle.profile.proofs.grid.f2_only.Statement.{statement}
 use Rattle.profile.proofs.grid.f2_only.Tie as tie

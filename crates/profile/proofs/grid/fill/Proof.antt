@@ -1,3 +1,4 @@
+-- After k turns k places are filled.
 use mathlib.Core.Path.{_≡_, refl, sym, ap, _∙_}
 use Prim.Native.Nat.{_≤_, _<_, _+_, _-_}
 use native.Mathlib.Nat.{le-antisymm}

@@ -1,3 +1,4 @@
+-- The lower part, the top, the upper part.
 use Rattle.profile.specs.Grid.{heightsOf}
 use borrow.Author.Needs.{needs}
 use Rattle.profile.proofs.grid.heights.Statement.{statement}

@@ -1,3 +1,4 @@
+-- The stores and the two fills, in the definition's order.
 use Rattle.profile.specs.Grid.{lowerOf}
 use borrow.Author.Needs.{needs}
 use Rattle.profile.proofs.grid.lower.Statement.{statement}

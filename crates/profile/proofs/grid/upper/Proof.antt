@@ -1,3 +1,4 @@
+-- Each path is the clause that the test chooses; the places filled end below 49.
 use Rattle.profile.specs.Grid.{upperOf}
 use borrow.Author.Needs.{needs}
 use Rattle.profile.proofs.grid.upper.Statement.{statement}

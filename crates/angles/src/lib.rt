@@ -1,0 +1,1 @@
+// The angles that the MUF hands to sine and cosine lie within -4 to 4, or are NaN: theorems only, in proofs/.

@@ -1,0 +1,126 @@
+// What `chain` prints of files of every refusal and of unusual chains. The stored output has the paper's answers.
+ghost use Prim.Native.Nat.{_<_, _≤_};
+
+// Record n has this kind and next index.
+fn record(mut f: [u8; 4160], n: usize, kind: u8, next: u8) -> [u8; 4160]
+    requires { ⌜ n < 65 ⌝ }
+{
+    f[64 * n] = kind;
+    f[64 * n + 2] = next;
+    f
+}
+
+// Record 0 and one point, the chain 0, 1.
+fn smallest() -> [u8; 4160] {
+    let mut f = record([0; 4160], 0, 1, 1);
+    f[4] = 1;
+    record(f, 1, 2, 0)
+}
+
+// n records of kind 3 after those two, in order.
+fn with_deciles(n: usize) -> [u8; 4160]
+    requires { ⌜ n ≤ 60 ⌝ }
+{
+    let mut f = record(smallest(), 1, 2, 2);
+    let mut k = 2;
+    while k < n + 2 {
+        f[64 * k] = 3;
+        f[64 * k + 2] = ((k + 1) % 256) as u8;
+        k += 1;
+    }
+    record(f, n + 1, 3, 0)
+}
+
+// The text of the first n bytes, after its name.
+fn print(name: &[u8], f: [u8; 4160], n: usize)
+    requires { ⌜ n ≤ 4160 ⌝ }
+{
+    io::write_all(1, name);
+    let mut text = [0u8; 4096];
+    let len = chain_text::chain_text(&f[..n], &mut text);
+    io::write_all(1, &text[..len]);
+}
+
+fn lengths() {
+    let f = smallest();
+    print(b"64 bytes\n", f, 64);
+    print(b"127 bytes\n", f, 127);
+    print(b"128 bytes\n", f, 128);
+    print(b"129 bytes\n", f, 129);
+    print(b"4096 bytes\n", f, 4096);
+    print(b"4160 bytes\n", f, 4160);
+    print(b"no bytes\n", f, 0);
+}
+
+fn first_record() {
+    let mut kind = smallest();
+    kind[0] = 4;
+    print(b"kind 4\n", kind, 128);
+    let mut none = smallest();
+    none[4] = 0;
+    print(b"km 0\n", none, 128);
+    let mut many = smallest();
+    many[4] = 6;
+    print(b"km 6\n", many, 128);
+    let mut shape = smallest();
+    shape[5] = 2;
+    print(b"shape 2\n", shape, 128);
+    let mut gap = smallest();
+    gap[7] = 1;
+    print(b"byte 7\n", gap, 128);
+    let mut tail = smallest();
+    tail[63] = 1;
+    print(b"byte 63\n", tail, 128);
+}
+
+fn steps() {
+    let past = record(smallest(), 0, 1, 2);
+    print(b"past the last record\n", past, 128);
+    let itself = record(smallest(), 1, 2, 1);
+    print(b"a step to itself\n", itself, 128);
+    let mut cycle = record(record(smallest(), 1, 2, 2), 2, 2, 1);
+    cycle[4] = 2;
+    print(b"a cycle\n", cycle, 192);
+    let mut next = smallest();
+    next[3] = 1;
+    print(b"next 257\n", next, 128);
+}
+
+fn records() {
+    let ended = record(smallest(), 0, 1, 0);
+    print(b"record 0 ends\n", ended, 128);
+    let kind = record(smallest(), 1, 3, 0);
+    print(b"no point\n", kind, 128);
+    let mut short = smallest();
+    short[4] = 2;
+    print(b"a point too few\n", short, 128);
+    let many = record(record(smallest(), 1, 2, 2), 2, 2, 0);
+    print(b"a point too many\n", many, 192);
+    let mut padded = with_deciles(48);
+    padded[64 * 2 + 52] = 1;
+    print(b"byte 52 of a decile record\n", padded, 3200);
+}
+
+fn chains() {
+    let mut rubbish = smallest();
+    rubbish[128] = 9;
+    rubbish[190] = 7;
+    print(b"a record off the chain\n", rubbish, 192);
+    let mut permuted = record(record(record(smallest(), 0, 1, 2), 2, 2, 1), 1, 2, 0);
+    permuted[4] = 2;
+    print(b"a permuted chain\n", permuted, 192);
+    let few = with_deciles(47);
+    print(b"47 decile records\n", few, 3136);
+    let all = with_deciles(48);
+    print(b"48 decile records\n", all, 3200);
+    let more = with_deciles(49);
+    print(b"49 decile records\n", more, 3264);
+}
+
+fn main() {
+    lengths();
+    first_record();
+    steps();
+    records();
+    chains();
+}

@@ -1,0 +1,4 @@
+pub mod Off
+pub mod Back
+pub mod ReadWritten
+pub mod Linked

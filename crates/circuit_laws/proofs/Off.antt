@@ -1,0 +1,110 @@
+-- Records off the chain do not matter: two files of one length that agree on every record of the first one's chain have
+-- the same answer. Each step looks at reached records alone, and so does the reading along the chain.
+use Prim.Native.Nat.{ℕ, zero, suc, _+_, _-_, _<_}
+use mathlib.Core.Path.{_≡_, refl, ap, _∙_, sym}
+use mathlib.Core.List.{List, [], _∷_, _++_}
+use mathlib.Core.Bool.{Bool, true, false, _||_}
+use lib.ListN.{length, getD, replicate}
+use lib.Dec.{eqb, leb}
+use Rattle.refusal.specs.declared.Refusal.{Refusal}
+use Rattle.circuit.specs.declared.Chain.{Chain}
+use Rattle.circuit.specs.declared.Step.{Step}
+use Rattle.circuit.specs.Record.{Form, recordAt, nextOf}
+use Rattle.circuit.specs.Chain.{countOf, lengthGood, headGood, kmOf, stepOf, byStep, pick, soundBy, ended, answered, refused, walk, chainOf}
+use Rattle.circuit.specs.Read.{numbersOf, circuitOf, readBy, readOf}
+use Rattle.circuit.proofs.Steps.{step-to, step-next}
+use Rattle.circuit.proofs.Followed.{walk-ind, by-pick}
+use Rattle.circuit_laws.specs.OnChain.{OnChain}
+use Rattle.circuit_laws.specs.OnChain.OnChain.{first, after}
+
+by-same : (s t : Step) (e : Chain) (on on′ : ℕ → Chain) → s ≡ t → ((n : ℕ) → s ≡ Step.To n → on n ≡ on′ n)
+    → byStep s e on ≡ byStep t e on′
+by-same s t e on on′ p h = by-one s h ∙ ap (λ (x : Step). byStep x e on′) p
+  where
+    by-one : (s : Step) → ((n : ℕ) → s ≡ Step.To n → on n ≡ on′ n) → byStep s e on ≡ byStep s e on′
+    by-one Step.End h = refl
+    by-one (Step.To n) h = h n refl
+    by-one Step.Astray h = refl
+
+abbrev All : (ℕ → Type 0) → List ℕ → Type 0
+All P [] = Unit
+All P (x ∷ xs) = P x × All P xs
+
+all-append : (P : ℕ → Type 0) (a b : List ℕ) → All P a → All P b → All P (a ++ b)
+all-append P [] b p q = q
+all-append P (x ∷ a) b p q = (p .0, all-append P a b (p .1) q)
+
+all-zeros : (P : ℕ → Type 0) (k : ℕ) → P 0 → All P (replicate k 0)
+all-zeros P zero z = tt
+all-zeros P (suc k) z = (z, all-zeros P k z)
+
+all-at : (P : ℕ → Type 0) (l : List ℕ) → P 0 → All P l → (i : ℕ) → P (getD l i 0)
+all-at P [] z p i = z
+all-at P (x ∷ l) z p zero = p .0
+all-at P (x ∷ l) z p (suc i) = all-at P l z (p .1) i
+
+module _ (o : Form) (f g : List ℕ) (long : length f ≡ length g)
+    (same : (n : ℕ) → OnChain o f n → recordAt o f n ≡ recordAt o g n)
+  where
+    same-step : (order : List ℕ) (at : ℕ) → OnChain o f at → stepOf o f order at ≡ stepOf o g order at
+    unfolding stepOf
+    same-step order at on = rw (same at on, long)
+
+    reached : (order : List ℕ) (at n : ℕ) → OnChain o f at → stepOf o f order at ≡ Step.To n → OnChain o f n
+    reached order at n on e = after on (step-next o f order at n e) (step-to o f order at n e)
+
+    same-walk : (left : ℕ) (order : List ℕ) (at : ℕ) → OnChain o f at → walk o f left order at ≡ walk o g left order at
+    unfolding walk
+    same-walk zero order at on =
+        by-same (stepOf o f order at) (stepOf o g order at) _ _ _ (same-step order at on) (λ n e. refl)
+    same-walk (suc left) order at on =
+        by-same (stepOf o f order at) (stepOf o g order at) _ _ _ (same-step order at on)
+        (λ n e.
+        let r = reached order at n on e in
+        rw (same n r, same-walk left (order ++ (n ∷ [])) n r) refl)
+
+    same-chain : chainOf o f ≡ chainOf o g
+    unfolding chainOf
+    same-chain = rw (same 0 first, long, same-walk (kmOf (recordAt o g 0) + 48) (0 ∷ []) 0 first) refl
+
+    -- every record of the order is reached
+    reached-all : All (OnChain o f) (chainOf o f .order)
+    unfolding chainOf
+    reached-all =
+        let Q : Chain → Type 0 = λ c. All (OnChain o f) (c .order) in
+        let z = all-zeros (OnChain o f) 64 first in
+        by-pick Q (lengthGood o f) _ _
+        (λ e.
+        by-pick Q (headGood o (recordAt o f 0)) _ _
+        (λ h.
+        walk-ind o f (λ k l a. All (OnChain o f) l × OnChain o f a) Q
+        (λ k l a n p e t.
+        let r = reached l a n (p .1) e in
+        (all-append (OnChain o f) l (n ∷ []) (p .0) (r, tt), r))
+        (λ k l a p e t. all-append (OnChain o f) l (replicate (64 - length l) 0) (p .0) (all-zeros (OnChain o f) (64 - length l) first))
+        (λ r. z) (kmOf (recordAt o f 0) + 48) (0 ∷ []) 0 ((first, tt), first))
+        z)
+        z
+
+    same-numbers : (order : List ℕ) (from words n : ℕ) → All (OnChain o f) order
+        → numbersOf o f order from words n ≡ numbersOf o g order from words n
+    unfolding numbersOf
+    same-numbers order from words zero p = refl
+    same-numbers order from words (suc n) p =
+        rw (same-numbers order from words n p, same (getD order (from + n) 0) (all-at (OnChain o f) order first p (from + n)))
+
+    same-circuit : circuitOf o f (chainOf o f) ≡ circuitOf o g (chainOf o f)
+    unfolding circuitOf
+    same-circuit =
+        let c = chainOf o f in
+        let km = kmOf (recordAt o g 0) in
+        rw (
+          same 0 first,
+          same-numbers (c .order) 1 15 km reached-all,
+          same-numbers (c .order) (1 + km) 12 (c .count - (1 + km)) reached-all,
+        )
+        refl
+
+    pub off-chain : readOf o f ≡ readOf o g
+    unfolding readOf
+    off-chain = rw (same-circuit, same-chain) refl

@@ -1,0 +1,43 @@
+-- What the laws of the circuit file speak of: a circuit that is a value of its type, and a file in the writer's form.
+use Prim.Native.Nat.{ℕ, zero, suc, _+_, _*_, _-_, _/_, _^_, _<_}
+use mathlib.Core.Path.{_≡_}
+use mathlib.Core.List.{List, [], _∷_, _++_}
+use mathlib.Core.Bool.{false}
+use lib.ListN.{length, drop, take, replicate}
+use Rattle.circuit.specs.declared.Chain.{Chain}
+use Rattle.circuit.specs.declared.Circuit.{Circuit}
+use Rattle.circuit.specs.declared.ReadAnswer.{ReadAnswer}
+use Rattle.refusal.specs.declared.Outcome.{Outcome}
+use Rattle.circuit.specs.Record.{Form, old, allZero}
+use Rattle.circuit.specs.Chain.{chainOf}
+use Rattle.circuit.specs.Read.{readOf}
+
+-- each number of a list is below n
+abbrev pub Each : ℕ → List ℕ → Type 0
+Each n [] = Unit
+Each n (x ∷ xs) = (x < n) × Each n xs
+
+-- every word of a circuit is a u32, its arrays have their lengths, and the points that it does not use are zero
+pub record Whole (c : Circuit) : Type 0 where
+  pub gcd : c .gcd < 2 ^ 32
+  pub gcdkm : c .gcdkm < 2 ^ 32
+  pub amind : c .amind < 2 ^ 32
+  pub ssn : c .ssn < 2 ^ 32
+  pub points : Each (2 ^ 32) (c .points)
+  pub deciles : Each (2 ^ 32) (c .deciles)
+  pub five : length (c .points) ≡ 75
+  pub all : length (c .deciles) ≡ 576
+  pub unused : drop (15 * c .km) (c .points) ≡ replicate (75 - 15 * c .km) 0
+
+-- 0, 1, 2, .., n - 1
+unfoldable pub upTo : ℕ → List ℕ
+upTo zero = []
+upTo (suc n) = upTo n ++ (n ∷ [])
+
+-- A file in the writer's form, said without the writer: bytes, read without refusal, the chain is 0, 1, 2, .. to the last
+-- record, and deciles are there only if not all are +0.
+pub record InForm (f : List ℕ) : Type 0 where
+  pub bytes : Each 256 f
+  pub read : readOf old f .outcome ≡ Outcome.Answered
+  pub order : take (chainOf old f .count) (chainOf old f .order) ≡ upTo (length f / 64)
+  pub deciles : readOf old f .circuit .km + 1 < length f / 64 → allZero (readOf old f .circuit .deciles) ≡ false

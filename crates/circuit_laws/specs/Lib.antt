@@ -1,0 +1,2 @@
+pub mod OnChain
+pub mod Forms

@@ -1,0 +1,1 @@
+// The laws of the circuit file, over its definitions: no code.

@@ -1,0 +1,212 @@
+-- Cells filled from the front: what stands there is p, and then the cells as they were lent.
+use Prim.Native.Nat.{ℕ, zero, suc, _+_, _*_, _-_, _/_, _%_, _≤_, _<_}
+use mathlib.Core.Path.{_≡_, refl, ap, _∙_, sym}
+use mathlib.Core.List.{List, [], _∷_, _++_, append-assoc, append-nil}
+use native.Mathlib.Omega.{arith}
+use native.Mathlib.Numerals.{add-one}
+use native.Mathlib.Nat.{add-sub-cancel-left}
+use lib.ListN.{length, getD, take, drop, set, replicate, length-take, length-replicate, length-append, length-drop, drop-of-length-le}
+use lib.Seq.{take-at, drop-at, drop-drop, take-suc, length-take-le}
+use mathlib.Core.Bool.{Bool, true, false}
+use lib.Dec.{eqb, leb}
+use borrow.Author.Tests.{eq-eqb, ne-eqb, le-leb, lt-leb}
+use Rattle.refusal.specs.declared.Refusal.{Refusal}
+use Rattle.circuit.specs.declared.Circuit.{Circuit}
+use Rattle.circuit_write.specs.declared.WriteAnswer.{WriteAnswer}
+use Rattle.circuit.specs.Record.{old, allZero}
+use Rattle.circuit.proofs.Lists.{rest}
+use Rattle.circuit_write.specs.Written.{halfOf, wordOf, bytesOf, recordOf, headOf, pointAt, twelveAt, nextIn, entryBy, entryOf, entriesOf, decileRecords, recordsOf, fileOf, goodOf, answerOf, leftOf}
+
+pub two-cells : (l : List ℕ) (a b : ℕ) → length l ≡ 2 → set (set l 0 a) 1 b ≡ a ∷ b ∷ []
+two-cells [] a b e = absurd (omega arith)
+two-cells (x ∷ []) a b e = absurd (omega arith)
+two-cells (x ∷ y ∷ []) a b e = refl
+two-cells (x ∷ y ∷ z ∷ l) a b e = absurd (omega arith)
+
+pub four-cells : (l : List ℕ) (a b c d : ℕ) → length l ≡ 4
+    → set (set (set (set l 0 a) 1 b) 2 c) 3 d ≡ a ∷ b ∷ c ∷ d ∷ []
+four-cells [] a b c d e = absurd (omega arith)
+four-cells (x ∷ []) a b c d e = absurd (omega arith)
+four-cells (x ∷ y ∷ []) a b c d e = absurd (omega arith)
+four-cells (x ∷ y ∷ z ∷ []) a b c d e = absurd (omega arith)
+four-cells (x ∷ y ∷ z ∷ v ∷ []) a b c d e = refl
+four-cells (x ∷ y ∷ z ∷ v ∷ u ∷ l) a b c d e = absurd (omega arith)
+
+module _ (l l₀ p : List ℕ) (a : ℕ) (e : l ≡ p ++ drop a l₀) (n : length p ≡ a) where
+  -- a part filled
+  pub fill-on : (ys : List ℕ) (w : ℕ) → take a l ++ (ys ++ drop (a + w - a) (drop a l)) ≡ (p ++ ys) ++ drop (a + w) l₀
+  fill-on ys w =
+      rw (
+        add-sub-cancel-left a w,
+        e,
+        take-at p (drop a l₀) a n,
+        drop-at p (drop a l₀) a n,
+        drop-drop w a l₀,
+        append-assoc,
+      )
+
+  -- the rest filled
+  pub fill-end : (ys : List ℕ) → take a l ++ (ys ++ drop (length l - a) (drop a l)) ≡ p ++ ys
+  fill-end ys =
+      let h : length (drop a l) ≤ length l - a = simp length-drop (omega arith) in
+      rw (drop-of-length-le (drop a l) h, append-nil) (ap (λ (x : List ℕ). take a x ++ ys) e ∙ rw (take-at p (drop a l₀) a n) refl)
+
+pub bytes-append : (a b : List ℕ) → bytesOf (a ++ b) ≡ bytesOf a ++ bytesOf b
+unfolding bytesOf
+bytes-append [] b = refl
+bytes-append (w ∷ a) b = rw (bytes-append a b)
+
+pub length-bytes : (ws : List ℕ) → length (bytesOf ws) ≡ 4 * length ws
+unfolding bytesOf
+length-bytes [] = omega arith
+length-bytes (w ∷ ws) = omega (arith, length-bytes ws)
+
+pub bytes-on : (ws : List ℕ) (i : ℕ) → i < length ws → bytesOf (take (i + 1) ws) ≡ bytesOf (take i ws) ++ wordOf (getD ws i 0)
+unfolding bytesOf
+bytes-on ws i h = rw (add-one, take-suc ws i 0 h, bytes-append)
+
+-- the bytes of the first words
+pub bytes-took : (ws : List ℕ) (i : ℕ) → i ≤ length ws → length (bytesOf (take i ws)) ≡ 4 * i
+bytes-took ws i h = length-bytes (take i ws) ∙ ap (λ (n : ℕ). 4 * n) (length-take-le i ws h)
+
+pub words-more : (ws l l₀ ys : List ℕ) (i : ℕ) → i < length ws → l ≡ bytesOf (take i ws) ++ drop (4 * i) l₀
+    → ys ≡ wordOf (getD ws i 0)
+    → take (4 * i) l ++ (ys ++ drop (4 * i + 4 - 4 * i) (drop (4 * i) l)) ≡ bytesOf (take (i + 1) ws) ++ drop (4 * (i + 1)) l₀
+words-more ws l l₀ ys i h e y =
+    let q : 4 * i + 4 ≡ 4 * (i + 1) = omega arith in
+    fill-on l l₀ (bytesOf (take i ws)) (4 * i) e (bytes-took ws i (omega arith)) ys 4
+    ∙ rw (y, q, bytes-on ws i h) refl
+
+-- filled cells are as many as were lent
+pub length-filled : (p l₀ : List ℕ) (a : ℕ) → length p ≡ a → a ≤ length l₀ → length (p ++ drop a l₀) ≡ length l₀
+length-filled p l₀ a n h = simp (length-append, length-drop) (omega arith)
+
+-- a record put in four parts
+module _ (l ws : List ℕ) (kind next : ℕ) (h : length l ≡ 64) (k : length ws ≤ 15) where
+  unfoldable pub one : List ℕ
+  one = halfOf kind ++ drop 2 l
+
+  unfoldable pub two : List ℕ
+  two = take 2 one ++ (halfOf next ++ drop 2 (drop 2 one))
+
+  unfoldable pub three : List ℕ
+  three = take 4 two ++ (bytesOf ws ++ drop (4 + 4 * length ws - 4) (drop 4 two))
+
+  front : List ℕ
+  front = (halfOf kind ++ halfOf next) ++ bytesOf ws
+
+  three-is : three ≡ front ++ drop (4 + 4 * length ws) l
+  unfolding one two three front
+  three-is =
+      fill-on two l (halfOf kind ++ halfOf next) 4 (fill-on one l (halfOf kind) 2 refl refl (halfOf next) 2) refl
+      (bytesOf ws) (4 * length ws)
+
+  front-long : length front ≡ 4 + 4 * length ws
+  unfolding front
+  front-long = omega (arith, length-bytes ws)
+
+  three-long : length three ≡ 64
+  three-long = ap length three-is ∙ length-filled front l (4 + 4 * length ws) front-long (omega arith) ∙ h
+
+  pub put-all :
+      take (4 + 4 * length ws) three
+      ++ (replicate (length (take (length three - (4 + 4 * length ws)) (drop (4 + 4 * length ws) three))) 0
+      ++ drop (length three - (4 + 4 * length ws)) (drop (4 + 4 * length ws) three))
+      ≡ recordOf old kind next ws
+  unfolding recordOf front
+  put-all =
+      let q : length (take (length three - (4 + 4 * length ws)) (drop (4 + 4 * length ws) three)) ≡ 64 - (4 + 4 * length ws)
+      = ap length (rest (4 + 4 * length ws) three) ∙ simp (length-drop, three-long) in
+      fill-end three l front (4 + 4 * length ws) three-is front-long _
+      ∙ ap (λ (n : ℕ). front ++ replicate n 0) q
+      ∙ rw append-assoc refl
+
+-- the first word of record 0 is km, shape and two zero bytes
+pub head-put : (c : Circuit) (next : ℕ) → c .km ≤ 5 → c .shape ≤ 1
+    → recordOf old 1 next ((c .km + 256 * c .shape) ∷ c .gcd ∷ c .gcdkm ∷ c .amind ∷ c .ssn ∷ []) ≡ headOf old c next
+unfolding recordOf headOf bytesOf
+head-put c next h k =
+    let a : (c .km + 256 * c .shape) % 256 ≡ c .km = omega arith in
+    let b : (c .km + 256 * c .shape) / 256 ≡ c .shape = omega arith in
+    let b′ : c .shape % 256 ≡ c .shape = omega arith in
+    let d : (c .km + 256 * c .shape) / 65536 ≡ 0 = omega arith in
+    let e : (c .km + 256 * c .shape) / 16777216 ≡ 0 = omega arith in
+    rw (a, b, b′, d, e)
+
+pub length-record : (kind next : ℕ) (ws : List ℕ) → length ws ≤ 15 → length (recordOf old kind next ws) ≡ 64
+unfolding recordOf
+length-record kind next ws h = simp (length-append, length-bytes, length-replicate) (omega arith)
+
+took : (n : ℕ) (l : List ℕ) → length (take n l) ≤ n
+took n l = simp length-take (omega arith)
+
+entry-by : (first point : Bool) (c : Circuit) (n i : ℕ) → length (entryBy first point old c n i) ≡ 64
+unfolding headOf bytesOf
+entry-by true point c n i = refl
+entry-by false true c n i = length-record 2 (nextIn n i) (pointAt c (i - 1)) (took 15 (drop (15 * (i - 1)) (c .points)))
+entry-by false false c n i = length-record 3 (nextIn n i) (twelveAt c (i - (c .km + 1))) (omega (arith, took 12 (drop (12 * (i - (c .km + 1))) (c .deciles))))
+
+pub length-entry : (c : Circuit) (n i : ℕ) → length (entryOf old c n i) ≡ 64
+unfolding entryOf
+length-entry c n i = entry-by (eqb i 0) (leb i (c .km)) c n i
+
+pub length-entries : (c : Circuit) (n k : ℕ) → length (entriesOf old c n k) ≡ 64 * k
+unfolding entriesOf
+length-entries c n zero = omega arith
+length-entries c n (suc k) = simp (length-append, length-entries c n k, length-entry) (omega arith)
+
+-- one more record put
+pub entry-more : (c : Circuit) (n i : ℕ) (l l₀ ys : List ℕ) → l ≡ entriesOf old c n i ++ drop (64 * i) l₀
+    → ys ≡ entryOf old c n i
+    → take (64 * i) l ++ (ys ++ drop (64 * i + 64 - 64 * i) (drop (64 * i) l)) ≡ entriesOf old c n (i + 1) ++ drop (64 * (i + 1)) l₀
+unfolding entriesOf
+entry-more c n i l l₀ ys e y =
+    let q : 64 * i + 64 ≡ 64 * (i + 1) = omega arith in
+    fill-on l l₀ (entriesOf old c n i) (64 * i) e (length-entries c n i) ys 64 ∙ rw (y, q, add-one i) refl
+
+-- which record it is that is put
+module _ (c : Circuit) (n i next : ℕ) (k : next ≡ nextIn n i) where
+  pub entry-head : i ≡ 0 → headOf old c next ≡ entryOf old c n i
+  unfolding entryOf
+  entry-head e = rw (k, eq-eqb i 0 e)
+
+  pub entry-point : (i ≡ 0 → ⊥) → i ≤ c .km
+      → recordOf old 2 next (take (15 * (i - 1) + 15 - 15 * (i - 1)) (drop (15 * (i - 1)) (c .points))) ≡ entryOf old c n i
+  unfolding entryOf
+  entry-point e h = rw (k, ne-eqb i 0 e, le-leb i (c .km) h, add-sub-cancel-left (15 * (i - 1)) 15)
+
+  pub entry-twelve : (i ≡ 0 → ⊥) → c .km < i
+      → recordOf old 3 next
+      (take (12 * (i - (c .km + 1)) + 12 - 12 * (i - (c .km + 1))) (drop (12 * (i - (c .km + 1))) (c .deciles)))
+      ≡ entryOf old c n i
+  unfolding entryOf
+  entry-twelve e h =
+      rw (k, ne-eqb i 0 e, lt-leb i (c .km) h, add-sub-cancel-left (12 * (i - (c .km + 1))) 12)
+
+most-by : (b : Bool) (m : ℕ) → 1 + m + decileRecords b ≤ m + 49
+most-by true m = omega arith
+most-by false m = omega arith
+
+pub records-most : (c : Circuit) → recordsOf c ≤ c .km + 49
+records-most c = most-by (allZero (c .deciles)) (c .km)
+
+-- the answer and the cells left, by the tests
+module _ (c : Circuit) (out : List ℕ) where
+  pub write-bad : goodOf c ≡ false
+      → (WriteAnswer.Refused Refusal.RecordZero ≡ answerOf old c out) × (out ≡ leftOf old c out)
+  unfolding answerOf leftOf
+  write-bad e = (rw e, rw e)
+
+  pub write-small : goodOf c ≡ true → length out < 64 * recordsOf c
+      → (WriteAnswer.Refused Refusal.Length ≡ answerOf old c out) × (out ≡ leftOf old c out)
+  unfolding answerOf leftOf
+  write-small e h = let t = lt-leb (64 * recordsOf c) (length out) h in (rw (e, t), rw (e, t))
+
+  pub write-good : goodOf c ≡ true → 64 * recordsOf c ≤ length out
+      → (WriteAnswer.Written (64 * recordsOf c) ≡ answerOf old c out)
+      × (fileOf old c ++ drop (64 * recordsOf c) out ≡ leftOf old c out)
+  unfolding answerOf leftOf
+  write-good e h = let t = le-leb (64 * recordsOf c) (length out) h in (rw (e, t), rw (e, t))
+
+pub good-is : (c : Circuit) → 1 ≤ c .km → c .km ≤ 5 → c .shape ≤ 1 → goodOf c ≡ true
+good-is c a b d = rw (le-leb 1 (c .km) a, le-leb (c .km) 5 b, le-leb (c .shape) 1 d)

@@ -1,0 +1,58 @@
+-- After i turns i zeros stand at the front.
+use Prim.Native.Nat.{ℕ, _≤_, _<_, _+_, _-_}
+use mathlib.Core.Path.{_≡_, refl, sym, ap, _∙_}
+use mathlib.Core.List.{_++_}
+use native.Mathlib.Omega.{arith}
+use borrow.Author.Fill.{fill-none, fill-more}
+use lib.ListN.{length, drop, replicate, length-set}
+use denote.Ref.{now}
+use Rattle.circuit.proofs.Lists.{filled}
+use Rattle.circuit_write.proofs.put.zeros.Statement.{statement}
+use Rattle.circuit_write.proofs.put.zeros.Tie as tie
+
+abbrev Inv-loop : tie.InvT-loop
+Inv-loop out₀ i₀ out i =
+    (i ≤ length out₀) × (length out ≡ length out₀) × (out ≡ replicate i 0 ++ drop i out₀)
+
+abbrev μ-loop : tie.MeasureT-loop
+μ-loop out₀ i₀ out i = length out₀ - i
+
+loop-holds : tie.Need-loop-holds Inv-loop μ-loop
+loop-holds c = (omega arith, refl, refl)
+
+slice-write-out : tie.Need-slice-write-out Inv-loop μ-loop
+slice-write-out c = omega arith
+
+add-i : tie.Need-add-i Inv-loop μ-loop
+add-i c = omega arith
+
+loop-less : tie.Need-loop-less Inv-loop μ-loop
+loop-less c = omega arith
+
+loop-again : tie.Need-loop-again Inv-loop μ-loop
+loop-again c =
+    let l = c .before .loop in
+    (omega arith, simp length-set (l .inv .1), rw (l .inv .2) (fill-more (l .i) 0 _ (omega arith)))
+
+same-length : tie.Need-same-length Inv-loop μ-loop
+same-length c = c .before .loop .inv .1
+
+returns : tie.Need-returns Inv-loop μ-loop
+returns c =
+    let a = now (c .before .before .args .out) in
+    let e : c .before .loop .i ≡ length a = omega arith in
+    c .before .loop .inv .2 ∙ filled _ a (c .before .loop .i) (omega arith) ∙ ap (λ (n : ℕ). replicate n 0) e
+
+pub zeros-spec : {M : Type 1} → statement M
+zeros-spec =
+    tie.close
+    (tie.spec
+    Inv-loop
+    μ-loop
+    loop-holds
+    slice-write-out
+    add-i
+    loop-less
+    loop-again
+    same-length
+    returns)

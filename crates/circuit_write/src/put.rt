@@ -1,0 +1,67 @@
+// Records, put into their part of the file.
+ghost use mathlib.Core.Path.{_≡_};
+ghost use Prim.Native.Nat.{_+_, _*_, _≤_, _<_};
+ghost use lib.ListN.{length, replicate};
+ghost use Rattle.circuit.specs.Record.{old};
+ghost use Rattle.circuit_write.specs.Written.{halfOf, wordOf, bytesOf, recordOf, headOf};
+use circuit::Circuit;
+
+fn half(n: usize, out: &mut [u8])
+    requires { ⌜ length (now out) ≡ 2 ⌝ }
+    ensures { λ _. ⌜ now (out .exit) ≡ halfOf n ⌝ }
+{
+    out[0] = (n % 256) as u8;
+    out[1] = (n / 256 % 256) as u8;
+}
+
+fn word(w: u32, out: &mut [u8])
+    requires { ⌜ length (now out) ≡ 4 ⌝ }
+    ensures { λ _. ⌜ now (out .exit) ≡ wordOf w ⌝ }
+{
+    out[0] = (w % 256) as u8;
+    out[1] = (w / 256 % 256) as u8;
+    out[2] = (w / 65536 % 256) as u8;
+    out[3] = (w / 16777216 % 256) as u8;
+}
+
+fn words(ws: &[u32], out: &mut [u8])
+    requires { ⌜ length (now out) ≡ 4 * length (now ws) ⌝ }
+    ensures { λ _. ⌜ now (out .exit) ≡ bytesOf (now (ws .entry)) ⌝ }
+{
+    let mut i = 0;
+    while i < ws.len() {
+        word(ws[i], &mut out[4 * i..4 * i + 4]);
+        i += 1;
+    }
+}
+
+fn zeros(out: &mut [u8])
+    ensures { λ _. ⌜ now (out .exit) ≡ replicate (length (now (out .entry))) 0 ⌝ }
+{
+    let mut i = 0;
+    while i < out.len() {
+        out[i] = 0;
+        i += 1;
+    }
+}
+
+pub fn record(kind: usize, next: usize, ws: &[u32], out: &mut [u8])
+    requires { ⌜ (length (now out) ≡ 64) × (length (now ws) ≤ 15) ⌝ }
+    ensures { λ _. ⌜ now (out .exit) ≡ recordOf old kind next (now (ws .entry)) ⌝ }
+{
+    let end = 4 + 4 * ws.len();
+    half(kind, &mut out[0..2]);
+    half(next, &mut out[2..4]);
+    words(ws, &mut out[4..end]);
+    zeros(&mut out[end..]);
+}
+
+// km and shape are the low bytes of the first word.
+pub fn head(c: Circuit, next: usize, out: &mut [u8])
+    requires { ⌜ (length (now out) ≡ 64) × (c .km ≤ 5) × (c .shape ≤ 1) ⌝ }
+    ensures { λ _. ⌜ now (out .exit) ≡ headOf old c next ⌝ }
+{
+    let first = (c.km + 256 * c.shape) as u32;
+    let ws = [first, c.gcd, c.gcdkm, c.amind, c.ssn];
+    record(1, next, &ws, out);
+}
