@@ -1,0 +1,4 @@
+pub mod Alike
+pub mod Prepared
+pub mod Frames
+pub mod Lists

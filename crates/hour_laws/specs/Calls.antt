@@ -1,0 +1,106 @@
+-- Calls on one state: circuit MUFs and slot sheets, each with its own arguments and lent cells. What a call answers and what it leaves are the very definitions that the contracts of the two functions are equated with.
+use mathlib.Core.Bool.{Bool, true, false, _&&_}
+use mathlib.Core.List.{List, [], _∷_}
+use mathlib.Core.Option.{Option, none, some}
+use Prim.Native.Nat.{ℕ}
+use lib.Dec.{ltb, eqb}
+use lib.IntN.{ℤ}
+use lib.ListN.{length, getD, set}
+use lib.Ieee.{Float, nan}
+use Rattle.refusal.specs.declared.Outcome.{Outcome}
+use Rattle.layers.specs.State.{at}
+use Rattle.layers.specs.declared.IonoState.{IonoState}
+use Rattle.layers.specs.declared.LayerMuf.{LayerMuf}
+use Rattle.layers.specs.declared.EsParams.{EsParams}
+use Rattle.ionogram.specs.declared.Ionogram.{Ionogram}
+use Rattle.layer_mufs.specs.Controlling.{controllingOf}
+use Rattle.layer_mufs.specs.declared.Circuit.{Circuit}
+use Rattle.muf.specs.Curmuf.{inDomain, rowsBy, doneOf, flatOf, rewrittenBy}
+use Rattle.muf.specs.declared.EsRow.{EsRow}
+use Rattle.muf.specs.declared.MufHour.{MufHour}
+use Rattle.muf.specs.declared.Done.{Done}
+use Rattle.hour.specs.Sheet.{slotSheetOf, sheetCellsOf, slotSheetScanOf, sheetCellsScanOf}
+use Rattle.hour.specs.declared.SlotSheet.{SlotSheet}
+
+-- ---- the Es rows lent to a circuit MUF: flat, four numbers a row, or records
+
+pub data EsRows : Type 0 where
+  flat : List Float → EsRows
+  records : List EsParams → EsRows
+
+-- past the end, where no code reads
+abbrev pub noEs : EsParams
+noEs = record { fs = []; hs = nan }
+
+abbrev pub recordAt : List EsParams → ℕ → EsRow
+recordAt es k = let e = getD es k noEs in record { fs0 = at (e .fs) 0; fs1 = at (e .fs) 1; fs2 = at (e .fs) 2; hs = e .hs }
+
+-- the rows that there are, at most km
+unfoldable pub mufOf : IonoState → EsRows → List Float → List Float → List Float → Circuit → Done
+mufOf s (flat es) f2d clat clck c = flatOf s es f2d clat clck c
+mufOf s (records es) f2d clat clck c = doneOf s (rowsBy (ltb (length es) (s .km)) (length es) (s .km)) (recordAt es) f2d clat clck c
+
+-- only the controlling row's lower decile is rewritten
+abbrev pub recordsBy : Bool → List EsParams → ℕ → Float → List EsParams
+recordsBy true es ksx lower = let e = getD es ksx noEs in set es ksx (record { fs = set (e .fs) 0 lower; hs = e .hs })
+recordsBy false es ksx lower = es
+
+unfoldable pub esAfter : EsRows → Bool → ℕ → Float → EsRows
+esAfter (flat es) rewrites ksx lower = flat (rewrittenBy rewrites es ksx lower)
+esAfter (records es) rewrites ksx lower = records (recordsBy rewrites es ksx lower)
+
+-- ---- calls and answers
+
+pub data Call : Type 0 where
+  aMuf : EsRows → List Float → List Float → List Float → Circuit → Call
+  -- any slot number, any angle count, any layer table, any cells
+  aSheet : ℕ → ℕ → List LayerMuf → List ℤ → Call
+
+-- all that a call gives back but the state: its outcome, its hour and its Es rows, or its rows and its cells
+pub data Answer : Type 0 where
+  ofMuf : Outcome → MufHour → EsRows → Answer
+  ofSheet : Outcome → Ionogram → List ℤ → Answer
+
+unfoldable pub answerOf : IonoState → Call → Answer
+answerOf s (aMuf es f2d clat clck c) = let d = mufOf s es f2d clat clck c in ofMuf (d .answer .outcome) (d .answer .hour) (esAfter es (d .rewrites) (d .ksx) (d .lower))
+answerOf s (aSheet k nang layers cells) = let r = slotSheetOf s k nang layers cells in ofSheet (r .outcome) (r .ion) (sheetCellsOf s k nang cells)
+
+-- the state that it returns
+unfoldable pub afterOf : IonoState → Call → IonoState
+afterOf s (aMuf es f2d clat clck c) = mufOf s es f2d clat clck c .answer .state
+afterOf s (aSheet k nang layers cells) = slotSheetOf s k nang layers cells .state
+
+-- the same with forty scans in place of each walk
+unfoldable pub answerScanOf : IonoState → Call → Answer
+answerScanOf s (aMuf es f2d clat clck c) = answerOf s (aMuf es f2d clat clck c)
+answerScanOf s (aSheet k nang layers cells) = let r = slotSheetScanOf s k nang layers cells in ofSheet (r .outcome) (r .ion) (sheetCellsScanOf s k nang cells)
+
+unfoldable pub afterScanOf : IonoState → Call → IonoState
+afterScanOf s (aMuf es f2d clat clck c) = afterOf s (aMuf es f2d clat clck c)
+afterScanOf s (aSheet k nang layers cells) = slotSheetScanOf s k nang layers cells .state
+
+-- ---- answered or refused, and the slot that a call picks
+
+abbrev pub isAnswered : Outcome → Bool
+isAnswered Outcome.Answered = true
+isAnswered (Outcome.Refused r) = false
+
+abbrev pub outcomeOf : Answer → Outcome
+outcomeOf (ofMuf o hour es) = o
+outcomeOf (ofSheet o ion cells) = o
+
+unfoldable pub answered : IonoState → Call → Bool
+answered s c = isAnswered (outcomeOf (answerOf s c))
+
+abbrev pub pickIf : Bool → ℕ → Option ℕ
+pickIf true k = some k
+pickIf false k = none
+
+-- An answered sheet has its slot, a refused one none. A MUF has the controlling slot, whether it is answered or not; none where it is refused 9, or 10 for its deciles.
+unfoldable pub pick : IonoState → Call → Option ℕ
+pick s (aMuf es f2d clat clck c) = pickIf (inDomain c && eqb (length f2d) 576) (controllingOf s)
+pick s (aSheet k nang layers cells) = pickIf (answered s (aSheet k nang layers cells)) k
+
+abbrev pub IsMuf : Call → Type 0
+IsMuf (aMuf es f2d clat clck c) = Unit {0}
+IsMuf (aSheet k nang layers cells) = ⊥
