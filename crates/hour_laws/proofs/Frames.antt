@@ -197,6 +197,11 @@ sheet-answered true true s k layers = refl
 sheet-answered true false s k layers = refl
 sheet-answered false b s k layers = refl
 
+pub refusal-by-arguments : (s t : IonoState) (k nang : ℕ) (layers : List LayerMuf) (cells : List ℤ) → answered t (aSheet k nang layers cells) ≡ answered s (aSheet k nang layers cells)
+unfolding answered answerOf slotSheetOf
+refusal-by-arguments s t k nang layers cells =
+    sheet-answered (leb k 2) (roomFor nang cells) t k layers ∙ sym (sheet-answered (leb k 2) (roomFor nang cells) s k layers)
+
 both-true : (a b : Bool) → a ≡ true → b ≡ true → (a && b) ≡ true
 both-true a b ha hb = rw (ha, hb)
 

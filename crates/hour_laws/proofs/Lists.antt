@@ -20,7 +20,7 @@ use Rattle.sounding.proofs.Scans.{genion-scan}
 use Rattle.hour.specs.Sheet.{sheetBy, cellsBy, slotSheetOf, sheetCellsOf, slotSheetScanOf, sheetCellsScanOf}
 use Rattle.hour.specs.declared.SlotSheet.{SlotSheet}
 use Rattle.hour_laws.specs.Calls.{Call, aMuf, aSheet, Answer, ofSheet, answerOf, afterOf, answerScanOf, afterScanOf, answered, pick}
-use Rattle.hour_laws.specs.Lists.{runOf, answersOf, runScanOf, answersScanOf, statesOf, Every, Together, Allowed, picks, orElse, own, laterOr, onlyIf, lastOf, alone, SameProfile, ReadsWell, ListOfCalls, ListsOfCalls}
+use Rattle.hour_laws.specs.Lists.{runOf, answersOf, runScanOf, answersScanOf, readOf, Every, Together, Allowed, picks, orElse, own, laterOr, onlyIf, lastOf, alone, SameProfile, ReadsWell, ListOfCalls, ListsOfCalls}
 use Rattle.hour_laws.proofs.Prepared.{Common, common-self}
 use Rattle.hour_laws.proofs.Frames.{not-both, FreshFor, some-same, Stepped, one-step}
 
@@ -160,7 +160,7 @@ any-list s calls allowed =
       ielect-left = c .ielect-common;
       answers-scanned = answers-by-scan calls s;
       state-scanned = run-scanned calls s;
-      reads-well = every-reads (statesOf s calls);
+      reads-well = every-reads (readOf s calls);
     }
 
 pub lists-of-calls : ListsOfCalls

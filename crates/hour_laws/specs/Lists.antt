@@ -13,7 +13,7 @@ use Rattle.layers.specs.Ionset.{ionsetOf}
 use Rattle.layers.specs.FromLayers.{countTaken}
 use Rattle.layers.specs.declared.IonoState.{IonoState}
 use Rattle.layers.specs.declared.StateAnswer.{StateAnswer}
-use Rattle.profile.specs.Lecden.{slotAt}
+use Rattle.profile.specs.Lecden.{slotAt, lecdenOf}
 use Rattle.profile.specs.Rising.{risesOf}
 use Rattle.walk.specs.Walk.{Held}
 use Rattle.heights.specs.Reads.{FortyReads}
@@ -37,10 +37,14 @@ unfoldable pub answersScanOf : IonoState → List Call → List Answer
 answersScanOf s [] = []
 answersScanOf s (c ∷ cs) = answerScanOf s c ∷ answersScanOf (afterScanOf s c) cs
 
--- the states that its calls leave, whose profiles they read
-unfoldable pub statesOf : IonoState → List Call → List IonoState
-statesOf s [] = []
-statesOf s (c ∷ cs) = afterOf s c ∷ statesOf (afterOf s c) cs
+-- the states whose profiles its calls read: each with the slot prepared that the call picks
+abbrev pub withPicked : Option ℕ → IonoState → List IonoState → List IonoState
+withPicked none s rest = rest
+withPicked (some k) s rest = lecdenOf s k ∷ rest
+
+unfoldable pub readOf : IonoState → List Call → List IonoState
+readOf s [] = []
+readOf s (c ∷ cs) = withPicked (pick s c) s (readOf (afterOf s c) cs)
 
 -- ---- which lists are allowed
 
@@ -119,7 +123,7 @@ pub record ListOfCalls (s : IonoState) (calls : List Call) : Type 0 where
   pub answers-scanned : answersScanOf s calls ≡ answersOf s calls
   pub state-scanned : runScanOf s calls ≡ runOf s calls
   -- (vi) on each profile that is read the forty reads are the scans', in rising order, with the cursor as counted and moved 49 places at most
-  pub reads-well : Every ReadsWell (statesOf s calls)
+  pub reads-well : Every ReadsWell (readOf s calls)
 
 -- for what `ionset` answers of any state with 1 to 5 points
 abbrev pub ListsOfCalls : Type 0
