@@ -1,6 +1,6 @@
 -- A circuit as 657 words: km, shape, gcd, gcdkm, amind, ssn, 75 of the points (15 a point), 576 deciles.
 use mathlib.Core.List.{List, [], _∷_, _++_}
-use Prim.Native.Nat.{ℕ, _+_, _%_}
+use Prim.Native.Nat.{ℕ, _+_}
 use lib.ListN.{getD, length, take, drop}
 use Rattle.circuit.specs.declared.Circuit.{Circuit}
 
@@ -16,10 +16,6 @@ wordsOf w from n = take n (drop from w)
 unfoldable pub wordsInto : List ℕ → ℕ → List ℕ → List ℕ
 wordsInto w from x = take from w ++ x ++ drop (from + length x) w
 
--- a count; what is over 2^32 is cut
-abbrev pub countOf : ℕ → ℕ
-countOf n = n % 4294967296
-
 unfoldable pub circuitOf : List ℕ → Circuit
 circuitOf w =
     record {
@@ -34,10 +30,12 @@ circuitOf w =
     }
 
 -- words 0 to 5
-unfoldable pub numbersInto : Circuit → List ℕ → List ℕ
-numbersInto c w =
-    wordsInto w 0 (countOf (c .km) ∷ countOf (c .shape) ∷ c .gcd ∷ c .gcdkm ∷ c .amind ∷ c .ssn ∷ [])
+abbrev pub numbersOf : Circuit → List ℕ
+numbersOf c = c .km ∷ c .shape ∷ c .gcd ∷ c .gcdkm ∷ c .amind ∷ c .ssn ∷ []
+
+unfoldable pub layoutOf : Circuit → List ℕ
+layoutOf c = numbersOf c ++ (c .points ++ c .deciles)
 
 -- words past the 657 stay
 unfoldable pub circuitInto : Circuit → List ℕ → List ℕ
-circuitInto c w = wordsInto (wordsInto (numbersInto c w) 6 (c .points)) 81 (c .deciles)
+circuitInto c w = layoutOf c ++ drop 657 w

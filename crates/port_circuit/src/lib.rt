@@ -4,7 +4,7 @@ ghost use mathlib.Core.Path.{_≡_};
 ghost use Prim.Native.Nat.{_+_, _≤_};
 ghost use lib.ListN.{length};
 ghost use denote.Ref.{now};
-ghost use Rattle.port_circuit.specs.Words.{wordsOf, wordsInto, countOf, circuitOf, numbersInto, circuitInto};
+ghost use Rattle.port_circuit.specs.Words.{wordsOf, wordsInto, circuitOf, numbersOf, circuitInto};
 ghost use Rattle.port_circuit.specs.Exports.{answerOf, portRead, portWrite};
 use circuit::Circuit;
 use circuit::ReadAnswer;
@@ -91,22 +91,18 @@ fn words_576_into(x: [u32; 576], w: &mut [u32], from: usize)
     words_into(&x, w, from);
 }
 
-fn count(n: usize) -> u32
-    ensures { λ r. ⌜ r ≡ countOf n ⌝ }
-{
-    (n % 4294967296) as u32
-}
-
 fn numbers_into(c: Circuit, w: &mut [u32])
-    requires { ⌜ 657 ≤ length (now w) ⌝ }
-    ensures { λ r. ⌜ now (w .exit) ≡ numbersInto c (now (w .entry)) ⌝ }
+    requires { ⌜ (657 ≤ length (now w)) × (c .km ≤ 5) × (c .shape ≤ 1) ⌝ }
+    ensures { λ r. ⌜ now (w .exit) ≡ wordsInto (now (w .entry)) 0 (numbersOf c) ⌝ }
 {
-    let x = [count(c.km), count(c.shape), c.gcd, c.gcdkm, c.amind, c.ssn];
+    let km = c.km;
+    let shape = c.shape;
+    let x = [km as u32, shape as u32, c.gcd, c.gcdkm, c.amind, c.ssn];
     words_into(&x, w, 0);
 }
 
 fn circuit_into(c: Circuit, w: &mut [u32])
-    requires { ⌜ 657 ≤ length (now w) ⌝ }
+    requires { ⌜ (657 ≤ length (now w)) × (c .km ≤ 5) × (c .shape ≤ 1) ⌝ }
     ensures { λ r. ⌜ now (w .exit) ≡ circuitInto c (now (w .entry)) ⌝ }
 {
     let points = c.points;
@@ -117,7 +113,7 @@ fn circuit_into(c: Circuit, w: &mut [u32])
 }
 
 fn answer_into(a: ReadAnswer, out: &mut [u32]) -> u32
-    requires { ⌜ 657 ≤ length (now out) ⌝ }
+    requires { ⌜ (657 ≤ length (now out)) × (a .circuit .km ≤ 5) × (a .circuit .shape ≤ 1) ⌝ }
     ensures { λ r. ⌜ r ≡ answerOf a (now (out .entry)) .number ⌝ ∗ ⌜ now (out .exit) ≡ answerOf a (now (out .entry)) .cells ⌝ }
 {
     let o = a.outcome;

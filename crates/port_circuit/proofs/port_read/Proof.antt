@@ -3,6 +3,7 @@ use Rattle.port_circuit.specs.Exports.{portRead}
 use mathlib.Core.Path.{refl}
 use borrow.Author.Tests.{le-leb, lt-leb}
 use borrow.Author.Needs.{needs}
+use Rattle.port_circuit.proofs.Laid.{small}
 use Rattle.port_circuit.proofs.port_read.Statement.{statement}
 use Rattle.port_circuit.proofs.port_read.Tie as tie
 
@@ -10,7 +11,7 @@ read-requires : tie.Need-read-requires
 read-requires c κs = search needs
 
 answer-into-requires : tie.Need-answer-into-requires
-answer-into-requires c κs = search needs
+answer-into-requires c κs = (c .before .before .if1 .taken, rw (c .before .read .ensures) (small _ .0), rw (c .before .read .ensures) (small _ .1))
 
 same-length : tie.Need-same-length
 same-length c = search needs
