@@ -1,3 +1,4 @@
+-- Field by field.
 use Rattle.port_circuit.specs.Words.{circuitOf}
 use borrow.Author.Needs.{needs}
 use Rattle.port_circuit.proofs.circuit_of.Statement.{statement}
