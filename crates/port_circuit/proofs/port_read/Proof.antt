@@ -1,0 +1,29 @@
+-- Refused for want of room, or what the answer leaves.
+use Rattle.port_circuit.specs.Exports.{portRead}
+use mathlib.Core.Path.{refl}
+use borrow.Author.Tests.{le-leb, lt-leb}
+use borrow.Author.Needs.{needs}
+use Rattle.port_circuit.proofs.Laid.{small}
+use Rattle.port_circuit.proofs.port_read.Statement.{statement}
+use Rattle.port_circuit.proofs.port_read.Tie as tie
+
+read-requires : tie.Need-read-requires
+read-requires c κs = search needs
+
+answer-into-requires : tie.Need-answer-into-requires
+answer-into-requires c κs = (c .before .before .if1 .taken, rw (c .before .read .ensures) (small _ .0), rw (c .before .read .ensures) (small _ .1))
+
+same-length : tie.Need-same-length
+same-length c = search needs
+
+returns : tie.Need-returns
+unfolding portRead
+returns c = rw (le-leb _ _ (c .before .before .before .before .before .if1 .taken), ← c .before .before .before .before .read .ensures) (c .before .before .answer-into .ensures)
+
+returns-2 : tie.Need-returns-2
+unfolding portRead
+returns-2 c = rw (lt-leb _ _ (c .if1 .left)) (refl, refl)
+
+pub port-read-spec : {M : Type 1} → statement M
+port-read-spec =
+    tie.close (tie.spec read-requires answer-into-requires same-length returns returns-2)

@@ -1,0 +1,38 @@
+-- Refused for want of words, or what the writer answers and leaves.
+use Rattle.port_circuit.specs.Exports.{portWrite}
+use mathlib.Core.Path.{refl, ap, _∙_}
+use borrow.Author.Tests.{le-leb, lt-leb}
+use Rattle.circuit_write.specs.Written.{numberIn}
+use borrow.Author.Needs.{needs}
+use Rattle.port_circuit.proofs.port_write.Statement.{statement}
+use Rattle.port_circuit.proofs.port_write.Tie as tie
+
+circuit-of-requires : tie.Need-circuit-of-requires
+circuit-of-requires c κs = search needs
+
+write-requires : tie.Need-write-requires
+write-requires c κs = search needs
+
+number-requires : tie.Need-number-requires
+number-requires c κs = search needs
+
+same-length : tie.Need-same-length
+same-length c = search needs
+
+returns : tie.Need-returns
+unfolding portWrite
+returns c =
+    let w = c .before .before .before .write .ensures in
+    rw (
+      le-leb _ _ (c .before .before .before .before .before .before .if1 .taken),
+      ← c .before .before .before .before .before .circuit-of .ensures,
+    ) (c .number .ensures ∙ ap numberIn (w .0), w .1)
+
+returns-2 : tie.Need-returns-2
+unfolding portWrite
+returns-2 c = rw (lt-leb _ _ (c .if1 .left)) (refl, refl)
+
+pub port-write-spec : {M : Type 1} → statement M
+port-write-spec =
+    tie.close
+    (tie.spec circuit-of-requires write-requires number-requires same-length returns returns-2)
