@@ -28,7 +28,7 @@ use Kind::*;
 
 const NONE: &str = "unreachable!(\"not built\")";
 
-const EXPORTS: [Export; 28] = [
+const EXPORTS: [Export; 29] = [
     Export("scalar_c", "scalar_sqrt", &[Number], "f32", "a0.sqrt()"),
     Export(
         "scalar_c",
@@ -90,6 +90,13 @@ const EXPORTS: [Export; 28] = [
     Export(
         "port_heights",
         "port_gethp_scan",
+        &[Words, Word, Lent],
+        "u32",
+        NONE,
+    ),
+    Export(
+        "port_heights",
+        "port_reading",
         &[Words, Word, Lent],
         "u32",
         NONE,

@@ -1,4 +1,5 @@
-//! The paper's refusals, worked out without our code.
+//! The paper's refusals, cursor and kinds of readings, worked out without our
+//! code.
 
 use crate::routed::muf::reach;
 use crate::routed::side;
@@ -127,4 +128,34 @@ pub fn cursor(state: &State, fxx: f32) -> u32 {
     let part = if ht >= 0.0 { 1.0 - node } else { 1.0 + node };
     let read = ht * (1.0 - 0.5 * part) + htr[0];
     htr[1..].iter().filter(|h| **h <= read).count() as u32
+}
+
+/// The kind of a density read: 0 floor, 1 on a segment, 2 top. Floor is the
+/// first test's answer, top is where no segment holds the read.
+pub fn kind(state: &State, zi: f32) -> u32 {
+    let htr = heights(state);
+    if zi - htr[0] <= 0.0 {
+        0
+    } else if htr.windows(2).any(|h| holds(h[0], h[1], zi)) {
+        1
+    } else {
+        2
+    }
+}
+
+/// Whether the segment between two heights holds the read. A rising one holds
+/// all that is under its upper end, whether or not that is over its lower one;
+/// a falling one what is from its first height down to over its second; two
+/// equal heights only the read that meets them. The signs are those of the
+/// differences: two equal infinities have none.
+fn holds(first: f32, second: f32, zi: f32) -> bool {
+    use std::cmp::Ordering::{Equal, Greater, Less};
+    let sign = |a: f32, b: f32| (a - b).partial_cmp(&0.0);
+    let (from_first, from_second) = (sign(first, zi), sign(zi, second));
+    match sign(first, second) {
+        Some(Less) => !matches!(from_first, Some(Less | Equal)) || from_second == Some(Less),
+        Some(Equal) => from_first == Some(Equal),
+        // falling, or without a sign
+        _ => matches!(from_first, Some(Greater | Equal)) && from_second == Some(Greater),
+    }
 }

@@ -208,6 +208,16 @@ pub fn gethp(state: &State, fxx: f32, rises: bool) -> [u32; 2] {
     [hp.to_bits(), ht.to_bits()]
 }
 
+/// The density at a height as `gethp` has it by scans: the first under its
+/// floor test, else what the scan answers.
+pub fn reading(state: &State, zi: f32) -> u32 {
+    let s = state_of(state);
+    if zi - s.htr[0] <= 0.0 {
+        return s.fnsq[0].to_bits();
+    }
+    muf::reach::profile_interpolate(&s.htr, &s.fnsq, zi).to_bits()
+}
+
 pub fn bendy(state: &State, i: usize, k: usize, f: f32) -> u32 {
     muf::bendy(&state_of(state), i, k, f).to_bits()
 }

@@ -251,6 +251,37 @@ pub fn frequency(r: &mut Random, state: &State) -> f32 {
     }
 }
 
+/// A height to read the density at: at a node, beside one, between two, or
+/// any.
+pub fn height(r: &mut Random, state: &State) -> f32 {
+    let h = heights(state);
+    let at = r.below(49);
+    match r.below(8) {
+        0 | 1 => h[at],
+        2 => r.beside(h[at], 2),
+        3 | 4 => h[at] + (h[at + 1] - h[at]) * r.between(0.0, 1.0),
+        5 => r.pick(&[h[0], h[49], h[48]]),
+        6 => r.wild(),
+        _ => r.between(60.0, 500.0),
+    }
+}
+
+/// Neighbouring heights made alike, to fall, infinite or no numbers.
+pub fn bend_heights(r: &mut Random, state: &mut State) {
+    let mut h = heights(state);
+    for _ in 0..1 + r.below(4) {
+        let at = r.below(49);
+        match r.below(6) {
+            0 | 1 => h[at + 1] = h[at],
+            2 => h.swap(at, at + 1),
+            3 => h[at..].reverse(),
+            4 => h[at] = r.pick(&[f32::INFINITY, f32::NEG_INFINITY]),
+            _ => h[at] = f32::NAN,
+        }
+    }
+    state[HTR..HTR + 50].copy_from_slice(&bits(&h));
+}
+
 /// A path of plausible numbers: gcd, gcdkm, amind, ssn.
 pub fn path(r: &mut Random) -> [f32; 4] {
     let gcdkm = r.tabled(50.0, 20000.0);

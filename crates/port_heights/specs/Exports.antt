@@ -7,6 +7,9 @@ use lib.ListN.{length, set}
 use lib.Ieee.{Float, binary32, ofBits}
 use Rattle.port_state.specs.Words.{floatsOf, floatsInto}
 use Rattle.port_state.specs.State.{stateOf}
+use Rattle.layers.specs.declared.IonoState.{IonoState}
+use Rattle.readings.specs.Scan.{kindOf, valueOf, readingOf}
+use Rattle.readings.specs.declared.Reading.{Reading}
 use Rattle.heights.specs.Gethp.{gethpOf, gethpScanOf}
 use Rattle.heights.specs.Bendy.{bendyAnswer, penAnswer, layerNumberOf, layerValuesOf}
 use Rattle.heights.specs.Xlin.{xlinOf}
@@ -37,6 +40,15 @@ gethpLeft state fxx out = onState state 3 out (record { number = 0; words = heig
 
 unfoldable pub gethpScanLeft : List ℕ → ℕ → List ℕ → Left
 gethpScanLeft state fxx out = onState state 3 out (record { number = 0; words = heightsInto (gethpScanOf (stateOf state) (ofBits binary32 fxx)) out })
+
+-- the kind, the density
+unfoldable pub readingInto : Reading → List ℕ → List ℕ
+readingInto r out = set (floatsInto out 1 (valueOf r ∷ [])) 0 (kindOf r)
+
+unfoldable pub readingLeft : List ℕ → ℕ → List ℕ → Left
+readingLeft state zi out =
+    let s = stateOf state in
+    onState state 2 out (record { number = 0; words = readingInto (readingOf (s .htr) (s .fnsq) (ofBits binary32 zi)) out })
 
 -- the refusal's number, or 0 and the value's word
 abbrev pub layerLeft : LayerNumber → List ℕ → Left

@@ -5,9 +5,10 @@ ghost use lib.ListN.{length};
 ghost use denote.Ref.{now};
 ghost use Rattle.port_state.specs.Words.{floatsOf, floatsInto};
 ghost use Rattle.heights.specs.Bendy.{layerNumberOf, layerValuesOf};
-ghost use Rattle.port_heights.specs.Exports.{heightsInto, gethpLeft, gethpScanLeft, bendyLeft, penLeft, xlinLeft};
+ghost use Rattle.port_heights.specs.Exports.{heightsInto, readingInto, gethpLeft, gethpScanLeft, readingLeft, bendyLeft, penLeft, xlinLeft};
 use heights::Heights;
 use heights::LayerNumber;
+use readings::Reading;
 
 fn wide(w: u32) -> usize
     ensures { λ r. ⌜ r ≡ w ⌝ }
@@ -32,6 +33,15 @@ fn heights_into(h: Heights, out: &mut [u32])
     port_state::floats_into(&x, out, 0);
     let c = h.cursor;
     out[2] = c as u32;
+}
+
+fn reading_into(r: Reading, out: &mut [u32])
+    requires { ⌜ 2 ≤ length (now out) ⌝ }
+    ensures { λ e. ⌜ now (out .exit) ≡ readingInto r (now (out .entry)) ⌝ }
+{
+    let x = [readings::value(r)];
+    port_state::floats_into(&x, out, 1);
+    out[0] = readings::kind(r);
 }
 
 fn layer_into(a: LayerNumber, out: &mut [u32]) -> u32
@@ -81,6 +91,26 @@ pub extern "C" fn port_gethp_scan(state: &[u32], fxx: u32, out: &mut [u32]) -> u
     let f = scalar::number(fxx);
     let h = heights::gethp_scan(s, f);
     heights_into(h, out);
+    0
+}
+
+// the density at the height zi, by a scan; out: the kind (floor 0, segment 1, top 2), the density
+#[no_mangle]
+pub extern "C" fn port_reading(state: &[u32], zi: u32, out: &mut [u32]) -> u32
+    ensures { λ r. ⌜ (r ≡ readingLeft (now (state .entry)) zi (now (out .entry)) .number) × (now (out .exit) ≡ readingLeft (now (state .entry)) zi (now (out .entry)) .words) ⌝ }
+{
+    if state.len() < 153 {
+        return 1;
+    }
+    if out.len() < 2 {
+        return 1;
+    }
+    let s = port_state::state_of(state);
+    let z = scalar::number(zi);
+    let htr = s.htr;
+    let fnsq = s.fnsq;
+    let r = readings::read_by_scan(&htr, &fnsq, z);
+    reading_into(r, out);
     0
 }
 

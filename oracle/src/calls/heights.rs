@@ -1,4 +1,4 @@
-//! `gethp` by the walk and by scans, `bendy`, `pen`, `xlin`.
+//! `gethp` by the walk and by scans, a density read by a scan, `bendy`, `pen`, `xlin`.
 
 use super::*;
 use crate::routed::side;
@@ -47,6 +47,30 @@ pub fn rust_walk(r: &mut Random) -> Call {
     answering(lists, all_floats, vec![MARK; 2], scanned, |out| {
         out.copy_from_slice(&walked);
         0
+    })
+}
+
+/// The kind and the density, whose NaN is the one pattern.
+pub fn reading(r: &mut Random) -> Call {
+    let mut state = states::any(r);
+    if r.once_in(3) {
+        states::bend_heights(r, &mut state);
+    }
+    let zi = states::height(r, &state);
+    let (given, out) = (resized(r, &state), room(r, 2));
+    let wanted = long_enough(&[(&given, STATE), (&out, 2)]).map(|()| {
+        let density = side::reading(&state, zi);
+        let one_nan = if float::is_nan(density) {
+            float::NAN
+        } else {
+            density
+        };
+        vec![predict::kind(&state, zi), one_nan]
+    });
+    let zi = zi.to_bits();
+    let lists = vec![("state", given.clone()), ("zi", vec![zi])];
+    answering(lists, no_floats, out, wanted, |out| {
+        ours::port_reading(&given, zi, out)
     })
 }
 

@@ -15,7 +15,7 @@ use crate::words::*;
 pub type Case = fn(&mut Random) -> Call;
 
 /// Each comparison by its name, which is that of our function.
-pub const COMPARISONS: [(&str, Case); 17] = [
+pub const COMPARISONS: [(&str, Case); 18] = [
     ("rust_walk", heights::rust_walk),
     ("port_from_layers", slots::from_layers),
     ("port_ionset", slots::ionset),
@@ -33,6 +33,7 @@ pub const COMPARISONS: [(&str, Case); 17] = [
     ("port_fobby", ionogram::fobby),
     ("port_alosfv", ionogram::alosfv),
     ("port_sheet", ionogram::sheet),
+    ("port_reading", heights::reading),
 ];
 
 /// What lent words hold before a call.
