@@ -4,6 +4,7 @@ ghost use Prim.Native.Nat.{_<_, _≤_};
 use circular::Answer;
 use hour::SlotSheet;
 use ionogram::Ionogram;
+use layer_mufs::Circuit;
 use layers::IonoState;
 use layers::LayerMuf;
 use layers::LayerParams;
@@ -26,14 +27,19 @@ fn refused(x: SlotSheet) -> u64 {
     refusal::outcome_number(outcome) as u64
 }
 
-// One point, E 2.75, F1 5.25 and F2 12.25 MHz, as `ionset` leaves it.
-fn slots() -> IonoState {
+// E 2.75, F1 5.25 and F2 12.25 MHz.
+fn points() -> [LayerParams; 5] {
     let point = LayerParams {
         fi: [2.75, 5.25, 12.25],
         yi: [30.0, 39.0, 96.0],
         hi: [107.0, 185.0, 205.0],
     };
-    let made = layers::from_layers([point, point, point, point, point], 1);
+    [point, point, point, point, point]
+}
+
+// One such point, as `ionset` leaves it.
+fn slots() -> IonoState {
+    let made = layers::from_layers(points(), 1);
     let set = layers::ionset(made.state);
     set.state
 }
@@ -167,8 +173,77 @@ fn prepared_twice() {
     say(b"rows changed: ", differing_rows(fresh.ion, again.ion));
 }
 
+// One to five points.
+fn counts() {
+    let made = layers::from_layers(points(), 0);
+    let none = made.outcome;
+    say(b"no point: ", refusal::outcome_number(none) as u64);
+    let made = layers::from_layers(points(), 6);
+    let many = made.outcome;
+    say(b"six points: ", refusal::outcome_number(many) as u64);
+    let set = layers::ionset(layers::zero_state());
+    let unset = set.outcome;
+    say(
+        b"slots of no point: ",
+        refusal::outcome_number(unset) as u64,
+    );
+}
+
+// Slots are 0, 1 and 2; the slot number is looked at before the angles.
+fn slot_numbers() {
+    let s = slots();
+    let prepared = profile::lecden(s, 3);
+    let outcome = prepared.outcome;
+    say(
+        b"lecden of slot 3: ",
+        refusal::outcome_number(outcome) as u64,
+    );
+    let mut cells = [0i32; 30];
+    let lines = no_layers();
+    let x = hour::slot_sheet(s, 3, 41, lines, &mut cells);
+    say(b"sheet of slot 3, 41 angles: ", refused(x));
+}
+
+// The MUF of the point's hour, 1,500 km, with so long a list of deciles, all zero, and so long a path in radians.
+fn muf_of(what: &[u8], deciles: usize, gcd: f32, clocks: usize)
+    requires { ⌜ (deciles ≤ 577) × (clocks ≤ 1) ⌝ }
+{
+    let path = Circuit {
+        gcd,
+        gcdkm: 1500.0,
+        amind: 3.0,
+        ssn: 80.0,
+    };
+    let mut es = [2.0, 3.0, 4.0, 110.0];
+    let f2d = [0.0; 577];
+    let clat = [0.5];
+    let clck = [12.0];
+    let m = muf::curmuf(
+        slots(),
+        &mut es,
+        &f2d[..deciles],
+        &clat,
+        &clck[..clocks],
+        path,
+    );
+    let outcome = m.outcome;
+    say(what, refusal::outcome_number(outcome) as u64);
+}
+
+// The domain comes before the lists.
+fn mufs() {
+    muf_of(b"576 deciles, a clock: ", 576, 0.235, 1);
+    muf_of(b"575 deciles: ", 575, 0.235, 1);
+    muf_of(b"577 deciles: ", 577, 0.235, 1);
+    muf_of(b"no clock: ", 576, 0.235, 0);
+    muf_of(b"575 deciles, gcd 6.4: ", 575, 6.4, 1);
+}
+
 fn main() {
     rooms();
+    counts();
+    slot_numbers();
+    mufs();
     angles();
     prepared_twice();
 }
