@@ -79,12 +79,15 @@ impl Tally {
 }
 
 /// Nanoseconds of one call on these numbers, back to back: the best of many
-/// rounds.
+/// rounds. The answers go into a list: an answer that is put where the next
+/// argument is read from would make the calls wait for each other.
 pub fn nanoseconds(numbers: &[f32], f: impl Fn(f32) -> f32) -> f64 {
+    let mut answers = vec![0.0; numbers.len()];
     best_round(numbers, || {
-        for x in numbers {
-            black_box(f(black_box(*x)));
+        for (answer, x) in answers.iter_mut().zip(numbers) {
+            *answer = f(black_box(*x));
         }
+        black_box(&mut answers);
     })
 }
 
@@ -96,8 +99,8 @@ pub fn chained_nanoseconds(numbers: &[f32], f: impl Fn(f32) -> f32) -> f64 {
     })
 }
 
-fn best_round(numbers: &[f32], round: impl Fn()) -> f64 {
-    let time = || {
+fn best_round(numbers: &[f32], mut round: impl FnMut()) -> f64 {
+    let mut time = || {
         let started = Instant::now();
         round();
         started.elapsed().as_secs_f64() * 1e9 / numbers.len() as f64
