@@ -8,6 +8,7 @@ pub mod WholeRoot
 pub mod MeanStep
 pub mod Closest
 pub mod RoundedRoot
+pub mod Sizes
 pub mod RootDigits
 pub mod RootPattern
 pub mod Normalise

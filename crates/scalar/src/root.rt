@@ -7,21 +7,22 @@ ghost use lib.Ieee.{binary32, ofBits};
 ghost use Rattle.scalar.specs.Root.{root, sqrtOf};
 ghost use Rattle.scalar.specs.RootPattern.{rootPattern};
 
-// A guess at the root's digits, with 2^52 added so that they are the last ones of its pattern. w is
-// the radicand at a scale, and y about its reciprocal root, within three in a hundred, from half of
-// w's pattern; `part` and `rest` are two steps from there. One guess in 500 is off, by one. No proof
-// rests on that: `rounded_root` corrects any guess.
-fn near_root(t: u64) -> f64
-    requires { ⌜ t < 2 ^ 24 ⌝ }
+// A guess at the root of n, rounded. y is about the reciprocal root, within three in a hundred, from
+// half of n's pattern as a float, which t holds; `part` and `rest` are two steps from there. What is
+// added last leaves the root's digits at the end of the sum's pattern. One guess in 500 is off, by
+// one. No proof rests on that: `rounded_root` corrects any guess.
+fn near_root(n: u64, t: u64) -> u64
+    requires { ⌜ (n < 2 ^ 48) × (t < 2 ^ 24) ⌝ }
+    ensures { λ r. ⌜ r < 2 ^ 25 ⌝ }
 {
-    let half = t * 0x1000_0000;
-    let w = f64::from_bits(0x4090_0000_0000_0000 + 2 * half);
-    let y = f64::from_bits(0x3faa_fab0_0000_0000 - half);
+    let w = n as f64;
+    let y = f64::from_bits(0x3e8a_fab0_0000_0000 - t * 0x1000_0000);
     let g = w * y;
     let h = g * y;
     let part = 8.755958941603463 - h;
     let rest = h * (part * part) - 165.53025385697867;
-    g * part * (rest * rest + 21920.188392918262) + 4503599627370496.0
+    let near = g * part * (rest * rest + 21920.188392918262) + 1180591620717411303424.0;
+    f64::to_bits(near) % 0x200_0000
 }
 
 // A guess, brought down until its square less itself is below n.
@@ -50,14 +51,10 @@ fn raised(n: u64, guess: u64) -> u64
 
 // The root of n, rounded, from any guess: mostly the guess itself. It is the r with n above r * r - r
 // and not above r * r + r, since the square of r + 1/2 is no whole number.
-fn rounded_root(n: u64, near: f64) -> u64
-    requires { ⌜ (0 < n) × (n < 2 ^ 48) ⌝ }
+fn rounded_root(n: u64, guess: u64) -> u64
+    requires { ⌜ (0 < n) × (n < 2 ^ 48) × (guess < 2 ^ 25) ⌝ }
     ensures { λ r. ⌜ r ≡ (root (4 * n) + 1) / 2 ⌝ }
 {
-    if near != near {
-        return raised(n, lowered(n, 0x80_0000));
-    }
-    let guess = f64::to_bits(near) % 0x200_0000;
     let square = guess * guess;
     if square < n + guess {
         if n <= square + guess {
@@ -74,8 +71,9 @@ fn root_pattern(e: u32) -> u32
     ensures { λ r. ⌜ r ≡ rootPattern (2 ^ 23 + e % 2 ^ 23) (e / 2 ^ 23) ⌝ }
 {
     let m = 0x80_0000 + e % 0x80_0000;
-    let n = (m as u64) << (23 + e / 0x80_0000 % 2);
-    let digits = rounded_root(n, near_root((e % 0x100_0000) as u64));
+    let scale = 0x80_0000 + e / 0x80_0000 % 2 * 0x80_0000;
+    let n = m as u64 * scale as u64;
+    let digits = rounded_root(n, near_root(n, (e % 0x100_0000) as u64));
     e / 0x100_0000 * 0x80_0000 + digits as u32
 }
 

@@ -1,10 +1,10 @@
--- `scalar::root::root_pattern` meets its contract: the shift loses nothing, and four times what is rooted is the radicand. Assumes nothing.
+-- `scalar::root::root_pattern` meets its contract: four times what is rooted is the radicand. Assumes nothing.
 use borrow.Author.Needs.{needs}
 use mathlib.Core.Path.{_≡_, sym, ap, ap₂, _∙_, subst}
-use Prim.Native.Nat.{ℕ, _+_, _*_, _/_, _%_, _^_, _≤_, _<_}
-use native.Mathlib.Nat.{mul-pos}
+use Prim.Native.Nat.{ℕ, zero, suc, _+_, _*_, _/_, _%_, _^_, _≤_, _<_}
+use native.Mathlib.Nat.{lt-trans, mod-lt, zero-lt-suc}
 use native.Mathlib.Omega.{arith}
-use lib.Pow.{shl-exact, pow-add, pow-pos}
+use lib.Dec.{lit<}
 use Rattle.scalar.specs.Root.{root}
 use Rattle.scalar.specs.RootPattern.{radicand, rootDigits}
 use Rattle.scalar.proofs.RootDigits.{span}
@@ -26,25 +26,19 @@ m-high : (e : ℕ) → m e < 2 ^ 24
 m-high e = omega arith
 
 -- what is rooted: a fourth of the radicand
-abbrev shifted : ℕ → ℕ
-shifted e = m e * 2 ^ (23 + h e % 2) % 2 ^ 64
+abbrev rooted : ℕ → ℕ
+rooted e = m e * (2 ^ 23 + h e % 2 * 2 ^ 23)
 
-in-word : (e : ℕ) → shifted e ≡ m e * 2 ^ (23 + h e % 2)
-in-word e = shl-exact 24 (23 + h e % 2) 64 (m-high e) (few (h e))
+fourfold : (e : ℕ) → 4 * rooted e ≡ radicand (m e) (h e)
+fourfold e = go (m e) (h e % 2) (mod-lt (h e) (zero-lt-suc 1))
   where
-    few : (h : ℕ) → 24 + (23 + h % 2) ≤ 64
-    few h = omega arith
+    go : (m odd : ℕ) → odd < 2 → 4 * (m * (2 ^ 23 + odd * 2 ^ 23)) ≡ m * 2 ^ (25 + odd)
+    go m zero l = omega arith
+    go m (suc zero) l = omega arith
+    go m (suc (suc odd)) l = absurd (omega arith)
 
-fourfold : (e : ℕ) → 4 * shifted e ≡ radicand (m e) (h e)
-fourfold e =
-    ap (λ (x : ℕ). 4 * x) (in-word e ∙ ap (λ (x : ℕ). m e * x) (pow-add 2 23 (h e % 2)))
-    ∙ four (m e) (2 ^ (h e % 2)) ∙ ap (λ (x : ℕ). m e * x) (sym (pow-add 2 25 (h e % 2)))
-  where
-    four : (m p : ℕ) → 4 * (m * (2 ^ 23 * p)) ≡ m * (2 ^ 25 * p)
-    four m p = omega arith
-
-shifted-in : (e : ℕ) → (0 < shifted e) × (shifted e < 2 ^ 48)
-shifted-in e = let s = span (m e) (h e) (m-low e) (m-high e) in let f = fourfold e in within (shifted e) (radicand (m e) (h e)) f (s .0) (s .1)
+rooted-in : (e : ℕ) → (0 < rooted e) × (rooted e < 2 ^ 48)
+rooted-in e = let s = span (m e) (h e) (m-low e) (m-high e) in within (rooted e) (radicand (m e) (h e)) (fourfold e) (s .0) (s .1)
   where
     within : (n A : ℕ) → 4 * n ≡ A → 2 ^ 48 ≤ A → A < 2 ^ 50 → (0 < n) × (n < 2 ^ 48)
     within n A f a b = (omega arith, omega arith)
@@ -59,26 +53,29 @@ result-le c = let e = c .before .before .args .e in subst (λ (x : ℕ). x ≤ 2
 add-m : tie.Need-add-m
 add-m c = search needs
 
+mul-scale : tie.Need-mul-scale
+mul-scale c = search needs
+
+add-scale : tie.Need-add-scale
+add-scale c = search needs
+
 cast-n : tie.Need-cast-n
 cast-n c = search needs
-
-add-n : tie.Need-add-n
-add-n c = search needs
 
 cast-n-2 : tie.Need-cast-n-2
 cast-n-2 c = search needs
 
-shl-n : tie.Need-shl-n
-shl-n c = search needs
+mul-n : tie.Need-mul-n
+mul-n c = record { fits = lt-trans (rooted-in (c .args .e) .1) (lit< tt) }
 
 cast-near-root : tie.Need-cast-near-root
 cast-near-root c = search needs
 
 near-root-requires : tie.Need-near-root-requires
-near-root-requires c κs = search needs
+near-root-requires c κs = (rooted-in (c .args .e) .1, omega arith)
 
 rounded-root-requires : tie.Need-rounded-root-requires
-rounded-root-requires c κs = shifted-in (c .before .args .e)
+rounded-root-requires c κs = (rooted-in (c .before .args .e) .0, rooted-in (c .before .args .e) .1, c .near-root .ensures)
 
 mul-result : tie.Need-mul-result
 mul-result c = search needs
@@ -98,4 +95,4 @@ returns c = let e = c .before .before .args .e in ap₂ (λ (x y : ℕ). x * 2 ^
 pub root-pattern-spec : {M : Type 1} → statement M
 root-pattern-spec =
     tie.close
-    (tie.spec add-m cast-n add-n cast-n-2 shl-n cast-near-root near-root-requires rounded-root-requires mul-result cast-result add-result returns)
+    (tie.spec add-m mul-scale add-scale cast-n cast-n-2 mul-n cast-near-root near-root-requires rounded-root-requires mul-result cast-result add-result returns)
