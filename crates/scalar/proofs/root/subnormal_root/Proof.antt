@@ -1,6 +1,6 @@
 -- `scalar::root::subnormal_root` meets its contract: the root is that of the normalised significand. Assumes nothing.
 use borrow.Author.Needs.{needs}
-use mathlib.Core.Path.{_≡_, refl, sym, ap, _∙_, subst}
+use mathlib.Core.Path.{_≡_, sym, ap, _∙_, subst}
 use Prim.Native.Nat.{ℕ, _+_, _-_, _*_, _/_, _%_, _^_, _<_}
 use native.Mathlib.Nat.{mul-one}
 use native.Mathlib.Omega.{arith}
@@ -39,7 +39,7 @@ root-pattern-requires c κs = search needs
 result-is : (c : tie.After-root-pattern) → c .root-pattern .result ≡ rootPattern (m (c .before)) (126 - c .before .spare-zeros .result)
 result-is c =
     let k = known (c .before) in
-    c .root-pattern .ensures ∙ taken-apart (m (c .before)) (126 - c .before .spare-zeros .result) _ (k .low) (k .high) refl
+    c .root-pattern .ensures ∙ taken-apart (m (c .before)) (126 - c .before .spare-zeros .result) _ (k .low) (k .high) (omega arith)
 
 returns : tie.Need-returns
 returns c =
