@@ -7,10 +7,11 @@ ghost use lib.Ieee.{binary32, ofBits};
 ghost use Rattle.scalar.specs.Root.{root, sqrtOf};
 ghost use Rattle.scalar.specs.RootPattern.{rootPattern};
 
-// A guess at the root of n, rounded. y is about the reciprocal root, within three in a hundred, from
-// half of n's pattern as a float, which t holds; `part` and `rest` are two steps from there. What is
-// added last leaves the root's digits at the end of the sum's pattern. One guess in 500 is off, by
-// one. No proof rests on that: `rounded_root` corrects any guess.
+// A guess at the root of n, rounded. y is 1.7 over the root within three in a hundred: t holds n's
+// pattern as a float but for its leading part, and y's pattern falls by half of it. g * part is the
+// root to a scale within seven in ten thousand, and with `rest` within two in 10^10. What is added
+// last leaves the digits at the end of the sum's pattern. One guess in 600 is off, by one. No proof
+// rests on that: `rounded_root` corrects any guess.
 fn near_root(n: u64, t: u64) -> u64
     requires { ⌜ (n < 2 ^ 48) × (t < 2 ^ 24) ⌝ }
     ensures { λ r. ⌜ r < 2 ^ 25 ⌝ }
