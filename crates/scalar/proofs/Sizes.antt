@@ -3,9 +3,9 @@
 use mathlib.Core.Path.{_≡_, refl, sym, ap, _∙_, subst}
 use mathlib.Core.Bool.{Bool, true, false, not, cond, _&&_, Bool·beq}
 use Prim.Native.Nat.{ℕ, zero, suc, _+_, _-_, _*_, _/_, _%_, _^_, _≤_, _<_, compare}
-use native.Mathlib.Nat.{le-trans, le-of-eq, le-of-lt, lt-of-le-of-lt, lt-of-lt-of-le, mul-comm, mul-assoc, mul-right-comm, mul-mul-mul-comm, mul-le-mul, mul-le-mul-right, le-of-mul-le-mul-right, mul-pos, mul-one, suc-mul, div-mul-le-self, le-div-iff-mul-le, div-le-of-le-mul, mod-lt, zero-lt-suc}
+use native.Mathlib.Nat.{le-trans, le-of-eq, le-of-lt, lt-of-le-of-lt, lt-of-lt-of-le, mul-comm, mul-assoc, mul-right-comm, mul-mul-mul-comm, mul-le-mul, mul-le-mul-right, le-of-mul-le-mul-right, mul-pos, mul-one, suc-mul, div-mul-le-self, le-div-iff-mul-le, div-le-of-le-mul, zero-lt-suc}
 use native.Mathlib.Omega.{arith}
-use lib.Dec.{T, eqb, ltb, leb, eqb→eq, lit≤}
+use lib.Dec.{T, eqb, ltb, leb, eqb→eq}
 use lib.Pow.{pow-add, pow-pos, pow-lt, pow-mono}
 use lib.Ieee.{Float, nan, inf, fin, binary64, up, down, size, units, odd, round, neg, sum, add, sub, mul, ofInt, ofFields, ofBits, isNan}
 use lib.Ieee.Digits.{size-reaches}

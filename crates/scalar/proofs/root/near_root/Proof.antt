@@ -1,5 +1,5 @@
 -- `scalar::root::near_root` meets its contract: n is a float exactly, y's pattern is a number's, and the sum is no NaN, by its size. Assumes nothing.
-use Prim.Native.Nat.{ℕ, _-_, _*_, _^_, _<_}
+use Prim.Native.Nat.{_-_, _*_, _^_}
 use native.Mathlib.Omega.{arith}
 use borrow.Author.Needs.{needs}
 use lib.Dec.{lit≤, lit<, le→leb}

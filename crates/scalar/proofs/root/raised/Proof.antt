@@ -1,5 +1,5 @@
 -- `scalar::root::raised` meets its contract: the square less r stays below n, and where the loop leaves off the square and r are not. The measure is what n is above r. Assumes nothing.
-use Prim.Native.Nat.{ℕ, _+_, _-_, _*_, _^_, _<_}
+use Prim.Native.Nat.{ℕ, _+_, _-_, _*_, _<_}
 use native.Mathlib.Omega.{arith}
 use Rattle.scalar.proofs.RoundedRoot.{rounded, guess-lt}
 use Rattle.scalar.proofs.root.raised.Statement.{statement}

@@ -1,5 +1,4 @@
 -- `scalar::root::rounded_root` meets its contract: the two tests say that the guess is the rounded root, and else `raised` gives it. Assumes nothing.
-use Prim.Native.Nat.{_^_}
 use native.Mathlib.Nat.{le-of-lt, lt-of-le-of-lt, mul-le-mul}
 use native.Mathlib.Omega.{arith}
 use borrow.Author.Needs.{needs}

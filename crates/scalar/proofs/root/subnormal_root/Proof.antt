@@ -1,7 +1,7 @@
 -- `scalar::root::subnormal_root` meets its contract: the root is that of the normalised significand. Assumes nothing.
 use borrow.Author.Needs.{needs}
 use mathlib.Core.Path.{_≡_, sym, ap, _∙_, subst}
-use Prim.Native.Nat.{ℕ, _+_, _-_, _*_, _/_, _%_, _^_, _<_}
+use Prim.Native.Nat.{ℕ, _-_, _*_, _%_, _^_, _<_}
 use native.Mathlib.Nat.{mul-one}
 use native.Mathlib.Omega.{arith}
 use lib.Ieee.{binary32, ofBits}
