@@ -78,16 +78,34 @@ impl Tally {
     }
 }
 
-/// Nanoseconds of one call on these numbers: the best of many rounds.
+/// Nanoseconds of one call on these numbers, back to back: the best of many
+/// rounds. The answers go into a list: an answer that is put where the next
+/// argument is read from would make the calls wait for each other.
 pub fn nanoseconds(numbers: &[f32], f: impl Fn(f32) -> f32) -> f64 {
-    let round = || {
-        let started = Instant::now();
-        for x in numbers {
-            black_box(f(black_box(*x)));
+    let mut answers = vec![0.0; numbers.len()];
+    best_round(numbers, || {
+        for (answer, x) in answers.iter_mut().zip(numbers) {
+            *answer = f(black_box(*x));
         }
+        black_box(&mut answers);
+    })
+}
+
+/// Nanoseconds of one call where each waits for the one before: it is given
+/// the last answer plus the next number.
+pub fn chained_nanoseconds(numbers: &[f32], f: impl Fn(f32) -> f32) -> f64 {
+    best_round(numbers, || {
+        black_box(numbers.iter().fold(0.0, |last, x| f(last + x)));
+    })
+}
+
+fn best_round(numbers: &[f32], mut round: impl FnMut()) -> f64 {
+    let mut time = || {
+        let started = Instant::now();
+        round();
         started.elapsed().as_secs_f64() * 1e9 / numbers.len() as f64
     };
-    (0..1000).map(|_| round()).fold(f64::MAX, f64::min)
+    (0..1000).map(|_| time()).fold(f64::MAX, f64::min)
 }
 
 /// Words as eight hexadecimal digits each.

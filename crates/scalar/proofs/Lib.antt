@@ -7,7 +7,8 @@ pub mod Truncation
 pub mod WholeRoot
 pub mod MeanStep
 pub mod Closest
-pub mod Guess
+pub mod RoundedRoot
+pub mod Sizes
 pub mod RootDigits
 pub mod RootPattern
 pub mod Normalise

@@ -3,7 +3,7 @@ use mathlib.Core.Path.{_≡_, refl, sym, ap, ap₂, _∙_, subst}
 use mathlib.Core.Bool.{Bool, true, false, not, _&&_, _||_, Bool·beq, false≢true}
 use Prim.Native.Nat.{ℕ, _*_, _%_, _^_, _≤_, _<_}
 use lib.Dec.{T, eqb, eqb-refl}
-use lib.Ieee.{Float, nan, inf, fin, binary32, up, down, div, eq, ne, isNan, nanBits, ofBits, toBits}
+use lib.Ieee.{Float, nan, inf, fin, binary32, binary64, up, down, div, eq, ne, isNan, nanBits, ofBits, toBits}
 use lib.Ieee.Bits.{is-true, nanBits-is, nanBits-above}
 use borrow.Author.Tests.{lt-ltb, le-ltb}
 
@@ -40,6 +40,9 @@ nan-pattern b h = nan-only (ofBits binary32 b) (sym (nanBits-is binary32 b) ∙ 
 
 pub number-pattern : (b : ℕ) → b % 2 ^ 31 ≤ 0x7f80_0000 → T (not (nanBits binary32 b))
 number-pattern b h = subst (λ (x : Bool). T (not x)) (sym (nanBits-above binary32 b ∙ le-ltb (255 * 2 ^ 23) (b % 2 ^ 31) h)) tt
+
+pub number-pattern-64 : (b : ℕ) → b % 2 ^ 63 ≤ 0x7ff0_0000_0000_0000 → T (not (nanBits binary64 b))
+number-pattern-64 b h = subst (λ (x : Bool). T (not x)) (sym (nanBits-above binary64 b ∙ le-ltb (2047 * 2 ^ 52) (b % 2 ^ 63) h)) tt
 
 -- how the code makes a NaN
 pub zero-by-zero : div binary32 (ofBits binary32 0) (ofBits binary32 0) ≡ nan

@@ -1,5 +1,5 @@
 -- Digits shifted to be 24 of them: by the zeros that lead them in 32 digits, less 8. The exponent falls by as much. Assumes nothing.
-use mathlib.Core.Path.{_≡_, sym, ap, _∙_, subst}
+use mathlib.Core.Path.{_≡_, sym, ap, ap₂, _∙_, subst}
 use Prim.Native.Nat.{ℕ, suc, _+_, _-_, _*_, _/_, _%_, _^_, _≤_, _<_}
 use native.Mathlib.Nat.{le-trans, le-of-eq, lt-of-lt-of-le, lt-of-le-of-lt, lt-of-not-le, lt-irrefl, mul-assoc, mul-le-mul-right, mod-eq-of-lt}
 use native.Mathlib.Omega.{arith}
@@ -57,6 +57,13 @@ module _ (t k : ℕ) (p : 0 < t) (h : t < 2 ^ 24) where
 -- within 32 bits nothing is lost
 pub in-word : (m : ℕ) → m < 2 ^ 24 → m % 2 ^ 32 ≡ m
 in-word m h = mod-eq-of-lt (lt-of-lt-of-le h (lit≤ tt))
+
+-- h and the last 23 digits of m, made up to one number, are got back from it
+pub taken-apart : (m h e : ℕ) → 2 ^ 23 ≤ m → m < 2 ^ 24 → e ≡ m % 2 ^ 23 + h * 2 ^ 23 → rootPattern (2 ^ 23 + e % 2 ^ 23) (e / 2 ^ 23) ≡ rootPattern m h
+taken-apart m h e lo hi i =
+    let p : 2 ^ 23 + e % 2 ^ 23 ≡ m = omega arith in
+    let q : e / 2 ^ 23 ≡ h = omega arith in
+    ap₂ (λ (x y : ℕ). rootPattern x y) p q
 
 -- the pattern is that of a finite value
 pub pattern-lt : (m h : ℕ) → 2 ^ 23 ≤ m → m < 2 ^ 24 → h ≤ 400 → rootPattern m h < 0x7f80_0000

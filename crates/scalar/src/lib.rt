@@ -92,11 +92,14 @@ pub fn sqrt(x: f32) -> f32
         return x;
     }
     let b = f32::to_bits(x);
-    if b == 0 {
-        return x;
+    if b < 0x80_0000 {
+        if b == 0 {
+            return x;
+        }
+        return f32::from_bits(root::subnormal_root(b));
     }
     if b < 0x7f80_0000 {
-        return f32::from_bits(root::positive_root(b));
+        return f32::from_bits(root::normal_root(b));
     }
     if b == 0x7f80_0000 {
         return x;

@@ -3,11 +3,12 @@
 //! paper's rule.
 //!
 //! scalars [PAIRS] [PATTERNS]: 10^8 random pairs and every pattern by default.
+//! Then our root's time beside the hardware's: `scalars 1 1` for that alone.
 
 use oracle::float::{same, same_number};
 use oracle::ours;
 use oracle::random::{Random, EDGES};
-use oracle::report::{argument, finish, nanoseconds, Tally, Verdict};
+use oracle::report::{argument, chained_nanoseconds, finish, nanoseconds, Tally, Verdict};
 use oracle::routing::{max_rule, min_rule};
 
 fn main() {
@@ -80,12 +81,26 @@ fn on_pairs(name: &'static str, pairs: u64, ours: Pair, rule: Pair) -> Verdict {
     tally.done()
 }
 
-/// Nanoseconds of our root beside the hardware's, on the same numbers.
+/// Nanoseconds of our root beside the hardware's, on the same numbers: back to
+/// back, and each call waiting for the one before.
 fn time_roots() {
     let mut random = Random::new(2);
     let numbers: Vec<f32> = (0..4096).map(|_| random.between(0.0001, 1.0)).collect();
-    let ours = nanoseconds(&numbers, ours::scalar_sqrt);
-    let rust = nanoseconds(&numbers, f32::sqrt);
-    let ratio = ours / rust;
-    println!("sqrt: ours {ours:.2} ns, hardware {rust:.2} ns, ratio {ratio:.2}");
+    let ours = |x| ours::scalar_sqrt(x);
+    let ways = [
+        (
+            "back to back",
+            nanoseconds(&numbers, ours),
+            nanoseconds(&numbers, f32::sqrt),
+        ),
+        (
+            "in a chain",
+            chained_nanoseconds(&numbers, ours),
+            chained_nanoseconds(&numbers, f32::sqrt),
+        ),
+    ];
+    for (way, ours, rust) in ways {
+        let ratio = ours / rust;
+        println!("sqrt {way}: ours {ours:.2} ns, hardware {rust:.2} ns, ratio {ratio:.2}");
+    }
 }

@@ -1,4 +1,4 @@
--- `scalar::sqrt` meets its contract: each way out is a fact of `proofs/SpecialRoots.antt` or what `positive_root` ensures. Assumes nothing.
+-- `scalar::sqrt` meets its contract: each way out is a fact of `proofs/SpecialRoots.antt` or what the callee ensures. Assumes nothing.
 use borrow.Author.Needs.{needs}
 use mathlib.Core.Path.{_≡_, sym, ap, _∙_, subst}
 use native.Mathlib.Omega.{arith}
@@ -25,28 +25,38 @@ float-to-bits-b : tie.Need-float-to-bits-b
 float-to-bits-b c = not-nan (c .before .args .x) (c .if1 .left)
 
 returns-2 : tie.Need-returns-2
-returns-2 c = let s = c .before .before in own (s .args .x) (toBits binary32 (s .args .x)) 0 (is s) (c .if2 .taken) zero-root
+returns-2 c = let s = c .before .before .before in own (s .args .x) (toBits binary32 (s .args .x)) 0 (is s) (c .if3 .taken) zero-root
 
-positive-root-requires : tie.Need-positive-root-requires
-positive-root-requires c κs = search needs
+subnormal-root-requires : tie.Need-subnormal-root-requires
+subnormal-root-requires c κs = search needs
 
 float-from-bits-result : tie.Need-float-from-bits-result
-float-from-bits-result c = number-pattern (c .positive-root .result) (let l = c .positive-root .ensures .1 in omega arith)
+float-from-bits-result c = number-pattern (c .subnormal-root .result) (let l = c .subnormal-root .ensures .1 in omega arith)
 
 returns-3 : tie.Need-returns-3
-returns-3 c = c .positive-root .ensures .0 ∙ ap sqrtOf (sym (is (c .before .before .before .before)))
+returns-3 c = c .subnormal-root .ensures .0 ∙ ap sqrtOf (sym (is (c .before .before .before .before)))
+
+normal-root-requires : tie.Need-normal-root-requires
+normal-root-requires c κs = search needs
+
+float-from-bits-result-2 : tie.Need-float-from-bits-result-2
+float-from-bits-result-2 c = number-pattern (c .normal-root .result) (let l = c .normal-root .ensures .1 in omega arith)
 
 returns-4 : tie.Need-returns-4
-returns-4 c = let s = c .before .before .before .before in own (s .args .x) (toBits binary32 (s .args .x)) 0x7f80_0000 (is s) (c .if4 .taken) inf-root
+returns-4 c = c .normal-root .ensures .0 ∙ ap sqrtOf (sym (is (c .before .before .before .before)))
 
 returns-5 : tie.Need-returns-5
-returns-5 c = let s = c .before .before .before .before .before in own (s .args .x) (toBits binary32 (s .args .x)) 0x8000_0000 (is s) (c .if5 .taken) minus-zero-root
+returns-5 c = let s = c .before .before .before .before in own (s .args .x) (toBits binary32 (s .args .x)) 0x7f80_0000 (is s) (c .if5 .taken) inf-root
 
 returns-6 : tie.Need-returns-6
-returns-6 c =
+returns-6 c = let s = c .before .before .before .before .before in own (s .args .x) (toBits binary32 (s .args .x)) 0x8000_0000 (is s) (c .if6 .taken) minus-zero-root
+
+returns-7 : tie.Need-returns-7
+returns-7 c =
     let s = c .before .before .before .before .before in
     let b = toBits binary32 (s .args .x) in
-    zero-by-zero ∙ sym (ap sqrtOf (is s) ∙ above-inf b (omega arith) (c .if5 .left) (toBits-lt binary32 (s .args .x) (held s)))
+    zero-by-zero ∙ sym (ap sqrtOf (is s) ∙ above-inf b (omega arith) (c .if6 .left) (toBits-lt binary32 (s .args .x) (held s)))
 
 pub sqrt-spec : {M : Type 1} → statement M
-sqrt-spec = tie.close (tie.spec returns float-to-bits-b returns-2 positive-root-requires float-from-bits-result returns-3 returns-4 returns-5 returns-6)
+sqrt-spec =
+    tie.close (tie.spec returns float-to-bits-b returns-2 subnormal-root-requires float-from-bits-result returns-3 normal-root-requires float-from-bits-result-2 returns-4 returns-5 returns-6 returns-7)

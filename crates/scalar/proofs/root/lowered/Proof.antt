@@ -1,14 +1,14 @@
--- `scalar::root::lowered` meets its contract: the loop leaves off where the square is not above n. The measure is r. Assumes nothing.
+-- `scalar::root::lowered` meets its contract: the loop leaves off where the square less r is below n. The measure is r. Assumes nothing.
 use Prim.Native.Nat.{_^_, _<_}
 use native.Mathlib.Nat.{le-of-lt, lt-of-le-of-lt, mul-le-mul}
 use native.Mathlib.Omega.{arith}
 use lib.Dec.{lit<}
-use Rattle.scalar.proofs.MeanStep.{guess-pos}
+use Rattle.scalar.proofs.RoundedRoot.{guess-pos}
 use Rattle.scalar.proofs.root.lowered.Statement.{statement}
 use Rattle.scalar.proofs.root.lowered.Tie as tie
 
 abbrev Inv-loop : tie.InvT-loop
-Inv-loop n guess r₀ r = r < 2 ^ 28
+Inv-loop n guess r₀ r = r < 2 ^ 25
 
 abbrev μ-loop : tie.MeasureT-loop
 μ-loop n guess r₀ r = r
@@ -16,14 +16,17 @@ abbrev μ-loop : tie.MeasureT-loop
 loop-holds : tie.Need-loop-holds Inv-loop μ-loop
 loop-holds c = omega arith
 
+add-loop : tie.Need-add-loop Inv-loop μ-loop
+add-loop c = omega arith
+
 mul-loop : tie.Need-mul-loop Inv-loop μ-loop
 mul-loop c = record { fits = lt-of-le-of-lt (mul-le-mul (le-of-lt (c .loop .inv)) (le-of-lt (c .loop .inv))) (lit< tt) }
 
 sub-r : tie.Need-sub-r Inv-loop μ-loop
-sub-r c = guess-pos (c .before .before .args .n) (c .before .loop .r) (c .loop-test .taken)
+sub-r c = guess-pos (c .before .before .args .n) (c .before .loop .r) (c .before .before .pre .0) (c .loop-test .taken)
 
 loop-less : tie.Need-loop-less Inv-loop μ-loop
-loop-less c = omega (arith, guess-pos (c .before .before .args .n) (c .before .loop .r) (c .loop-test .taken))
+loop-less c = omega (arith, guess-pos (c .before .before .args .n) (c .before .loop .r) (c .before .before .pre .0) (c .loop-test .taken))
 
 loop-again : tie.Need-loop-again Inv-loop μ-loop
 loop-again c = omega arith
@@ -32,4 +35,4 @@ returns : tie.Need-returns Inv-loop μ-loop
 returns c = omega arith
 
 pub lowered-spec : {M : Type 1} → statement M
-lowered-spec = tie.close (tie.spec Inv-loop μ-loop loop-holds mul-loop sub-r loop-less loop-again returns)
+lowered-spec = tie.close (tie.spec Inv-loop μ-loop loop-holds add-loop mul-loop sub-r loop-less loop-again returns)

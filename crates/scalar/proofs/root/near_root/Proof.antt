@@ -1,80 +1,76 @@
--- `scalar::root::near_root` meets its contract: by the bounds of `proofs/Guess.antt`. Assumes nothing.
-use Prim.Native.Nat.{ℕ, _+_, _-_, _*_, _/_, _^_, _≤_, _<_}
-use native.Mathlib.Nat.{le-of-lt, mul-le-mul}
+-- `scalar::root::near_root` meets its contract: n is a float exactly, y's pattern is a number's, and the sum is no NaN, by its size. Assumes nothing.
+use Prim.Native.Nat.{_-_, _*_, _^_}
 use native.Mathlib.Omega.{arith}
 use borrow.Author.Needs.{needs}
-use Rattle.scalar.proofs.Guess.{Bounds, bounds}
+use lib.Dec.{lit≤, lit<, le→leb}
+use lib.IntN.{pos}
+use lib.Ieee.{Float, binary64, add, sub, mul, ofInt, ofBits, inFloat}
+use Rattle.scalar.proofs.Nan.{number-pattern-64}
+use Rattle.scalar.proofs.Sizes.{Small, small-not-nan, mul-small, add-small, sub-small, int-small, bits-small}
 use Rattle.scalar.proofs.root.near_root.Statement.{statement}
 use Rattle.scalar.proofs.root.near_root.Tie as tie
 
-known : (c : tie.After-reciprocal) → Bounds (c .before .args .m) (c .before .args .odd) (c .reciprocal .result)
-known c = bounds (c .before .args .m) (c .before .args .odd) (c .reciprocal .result) (c .before .pre .2) (c .before .pre .3) (c .reciprocal .ensures)
+-- the chain of operations, from a w of at most 2 ^ 50 and a y of at most 1; each figure is the sum of two, and 2, or one, and 3
+module _ (w y A B C M : Float) (W : Small 50 w) (Y : Small 0 y) (a : Small 54 A) (b : Small 172 B) (k : Small 352 C) (m : Small 468 M) where
+  abbrev g : Float
+  g = mul binary64 w y
 
--- the first guess
-abbrev r : tie.After-reciprocal → ℕ
-r c = c .before .args .m * (0x8000_0000 + c .before .args .odd * 0x3504_f334) / 2 ^ 25 * c .reciprocal .result / 2 ^ 36
+  abbrev h : Float
+  h = mul binary64 g y
 
-square : (c : tie.After-reciprocal) → r c * r c ≤ 2 ^ 27 * 2 ^ 27
-square c = mul-le-mul (le-of-lt (known c .first)) (le-of-lt (known c .first))
+  abbrev part : Float
+  part = sub binary64 A h
 
--- what its square lacks, and the step by it
-abbrev lack : tie.After-reciprocal → ℕ
-lack c = c .before .args .n - r c * r c
+  abbrev rest : Float
+  rest = sub binary64 (mul binary64 h (mul binary64 part part)) B
 
-step : (c : tie.After-reciprocal) → lack c / 2 ^ 15 * (c .reciprocal .result * (0x10_0000 - c .before .args .odd * 0x4_afb1) / 2 ^ 26) ≤ 2 ^ 35 * 2 ^ 26
-step c = known c .step (lack c) (less (c .before .args .n) (r c * r c) (c .before .pre .0))
-  where
-    less : (n s : ℕ) → n < 2 ^ 50 → n - s < 2 ^ 50
-    less n s h = omega arith
+  g-small : Small 52 g
+  g-small = mul-small 50 0 w y (lit≤ tt) W Y
 
-reciprocal-requires : tie.Need-reciprocal-requires
-reciprocal-requires c κs = search needs
+  h-small : Small 54 h
+  h-small = mul-small 52 0 g y (lit≤ tt) g-small Y
 
-mul-r : tie.Need-mul-r
-mul-r c = search needs
+  part-small : Small 57 part
+  part-small = sub-small 54 A h (lit< tt) a h-small
 
-add-r : tie.Need-add-r
-add-r c = search needs
+  rest-small : Small 175 rest
+  rest-small =
+      sub-small 172 (mul binary64 h (mul binary64 part part)) B (lit< tt)
+      (mul-small 54 116 h (mul binary64 part part) (lit≤ tt) h-small (mul-small 57 57 part part (lit≤ tt) part-small part-small)) b
 
-mul-r-2 : tie.Need-mul-r-2
-mul-r-2 c = omega (arith, known c .scaled)
+  near : Small 471 (add binary64 (mul binary64 (mul binary64 g part) (add binary64 (mul binary64 rest rest) C)) M)
+  near =
+      add-small 468 (mul binary64 (mul binary64 g part) (add binary64 (mul binary64 rest rest) C)) M (lit< tt)
+      (mul-small 111 355 (mul binary64 g part) (add binary64 (mul binary64 rest rest) C) (lit≤ tt)
+      (mul-small 52 57 g part (lit≤ tt) g-small part-small)
+      (add-small 352 (mul binary64 rest rest) C (lit< tt) (mul-small 175 175 rest rest (lit≤ tt) rest-small rest-small) k))
+      m
 
-mul-r-3 : tie.Need-mul-r-3
-mul-r-3 c = omega (arith, known c .times-y)
+int-to-float-w : tie.Need-int-to-float-w
+unfolding inFloat
+int-to-float-w c = le→leb (c .before .args .n) (2 ^ 53) (omega arith)
 
-mul-if1 : tie.Need-mul-if1
-mul-if1 c = omega (arith, square c)
+mul-y : tie.Need-mul-y
+mul-y c = search needs
+
+sub-y : tie.Need-sub-y
+sub-y c = search needs
+
+float-from-bits-y : tie.Need-float-from-bits-y
+float-from-bits-y c = number-pattern-64 _ (omega arith)
+
+float-to-bits-result : tie.Need-float-to-bits-result
+float-to-bits-result c =
+    let n = c .before .args .n in
+    let t = c .before .args .t in
+    small-not-nan 471 _
+    (near (ofInt binary64 (pos n)) (ofBits binary64 (0x3e8a_fab0_0000_0000 - t * 2 ^ 28)) _ _ _ _
+    (int-small 48 n (lit≤ tt) (omega arith)) (bits-small 0 (0x3e8a_fab0_0000_0000 - t * 2 ^ 28) (lit≤ tt) (omega arith))
+    (bits-small 54 4621118784733092990 (lit≤ tt) (lit< tt)) (bits-small 172 4640028094607903140 (lit≤ tt) (lit< tt))
+    (bits-small 352 4671754589461097391 (lit≤ tt) (lit< tt)) (bits-small 468 4922434392715952128 (lit≤ tt) (lit< tt)))
 
 returns : tie.Need-returns
-returns c = omega (arith, known (c .before) .first)
-
-mul-half : tie.Need-mul-half
-mul-half c = search needs
-
-sub-half : tie.Need-sub-half
-sub-half c = search needs
-
-mul-half-2 : tie.Need-mul-half-2
-mul-half-2 c = omega (arith, known (c .before) .half)
-
-mul-result : tie.Need-mul-result
-mul-result c = omega (arith, square (c .before))
-
-sub-result : tie.Need-sub-result
-sub-result c = search needs
-
-mul-result-2 : tie.Need-mul-result-2
-mul-result-2 c = omega (arith, step (c .before))
-
-add-result : tie.Need-add-result
-add-result c = omega (arith, step (c .before))
-
-add-result-2 : tie.Need-add-result-2
-add-result-2 c = omega (arith, known (c .before) .first, step (c .before))
-
-returns-2 : tie.Need-returns-2
-returns-2 c = omega (arith, known (c .before) .first, step (c .before))
+returns c = search needs
 
 pub near-root-spec : {M : Type 1} → statement M
-near-root-spec =
-    tie.close (tie.spec reciprocal-requires mul-r add-r mul-r-2 mul-r-3 mul-if1 returns mul-half sub-half mul-half-2 mul-result sub-result mul-result-2 add-result add-result-2 returns-2)
+near-root-spec = tie.close (tie.spec int-to-float-w mul-y sub-y float-from-bits-y float-to-bits-result returns)

@@ -1,40 +1,39 @@
--- `scalar::root::raised` meets its contract: the square stays at or below n, and where n - r * r is at most 2 * r, n is below the square of r + 1. The measure is what n is above r. Assumes nothing.
-use Prim.Native.Nat.{_-_, _*_, _≤_}
+-- `scalar::root::raised` meets its contract: the square less r stays below n, and where the loop leaves off the square and r are not. The measure is what n is above r. Assumes nothing.
+use Prim.Native.Nat.{ℕ, _+_, _-_, _*_, _<_}
 use native.Mathlib.Omega.{arith}
-use Rattle.scalar.proofs.WholeRoot.{root-only}
-use Rattle.scalar.proofs.Guess.{at-most-square}
+use Rattle.scalar.proofs.RoundedRoot.{rounded, guess-lt}
 use Rattle.scalar.proofs.root.raised.Statement.{statement}
 use Rattle.scalar.proofs.root.raised.Tie as tie
 
 abbrev Inv-loop : tie.InvT-loop
-Inv-loop n guess r₀ r = r * r ≤ n
+Inv-loop n guess r₀ r = r * r < n + r
 
 abbrev μ-loop : tie.MeasureT-loop
 μ-loop n guess r₀ r = n - r
 
 loop-holds : tie.Need-loop-holds Inv-loop μ-loop
-loop-holds c = omega arith
+loop-holds c = c .pre .1
 
 mul-loop : tie.Need-mul-loop Inv-loop μ-loop
-mul-loop c = omega (arith, at-most-square (c .loop .r))
+mul-loop c = omega (arith, guess-lt (c .before .args .n) (c .loop .r) (c .before .pre .0) (c .loop .inv))
 
-mul-loop-2 : tie.Need-mul-loop-2 Inv-loop μ-loop
-mul-loop-2 c = omega arith
-
-sub-loop : tie.Need-sub-loop Inv-loop μ-loop
-sub-loop c = omega arith
+add-loop : tie.Need-add-loop Inv-loop μ-loop
+add-loop c = omega (arith, guess-lt (c .before .args .n) (c .loop .r) (c .before .pre .0) (c .loop .inv))
 
 add-r : tie.Need-add-r Inv-loop μ-loop
-add-r c = omega (arith, at-most-square (c .before .loop .r))
+add-r c = omega (arith, guess-lt (c .before .before .args .n) (c .before .loop .r) (c .before .before .pre .0) (c .before .loop .inv))
 
 loop-less : tie.Need-loop-less Inv-loop μ-loop
-loop-less c = omega (arith, at-most-square (c .before .loop .r))
+loop-less c = omega arith
 
 loop-again : tie.Need-loop-again Inv-loop μ-loop
-loop-again c = omega arith
+loop-again c = next (c .before .before .args .n) (c .before .loop .r) (c .loop-test .taken)
+  where
+    next : (n r : ℕ) → r * r + r < n → (r + 1) * (r + 1) < n + (r + 1)
+    next n r h = omega arith
 
 returns : tie.Need-returns Inv-loop μ-loop
-returns c = root-only (c .before .before .args .n) (c .before .loop .r) (omega arith, omega arith)
+returns c = rounded (c .before .before .args .n) (c .before .loop .r) (c .before .loop .inv) (omega arith)
 
 pub raised-spec : {M : Type 1} → statement M
-raised-spec = tie.close (tie.spec Inv-loop μ-loop loop-holds mul-loop mul-loop-2 sub-loop add-r loop-less loop-again returns)
+raised-spec = tie.close (tie.spec Inv-loop μ-loop loop-holds mul-loop add-loop add-r loop-less loop-again returns)

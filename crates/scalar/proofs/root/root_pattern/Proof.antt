@@ -1,68 +1,98 @@
--- `scalar::root::root_pattern` meets its contract: the shift loses nothing, and the root has 25 digits. Assumes nothing.
+-- `scalar::root::root_pattern` meets its contract: four times what is rooted is the radicand. Assumes nothing.
 use borrow.Author.Needs.{needs}
-use mathlib.Core.Path.{_≡_, sym, ap, _∙_, subst}
-use Prim.Native.Nat.{ℕ, _+_, _*_, _/_, _%_, _^_, _≤_, _<_}
+use mathlib.Core.Path.{_≡_, sym, ap, ap₂, _∙_, subst}
+use Prim.Native.Nat.{ℕ, zero, suc, _+_, _*_, _/_, _%_, _^_, _≤_, _<_}
+use native.Mathlib.Nat.{lt-trans, mod-lt, zero-lt-suc}
 use native.Mathlib.Omega.{arith}
-use lib.Pow.{shl-exact}
+use lib.Dec.{lit<}
 use Rattle.scalar.specs.Root.{root}
-use Rattle.scalar.specs.RootPattern.{radicand}
-use Rattle.scalar.proofs.WholeRoot.{root-is}
-use Rattle.scalar.proofs.RootDigits.{span, root-high}
+use Rattle.scalar.specs.RootPattern.{radicand, rootDigits}
+use Rattle.scalar.proofs.RootDigits.{span}
+use Rattle.scalar.proofs.RootPattern.{digits-in}
 use Rattle.scalar.proofs.root.root_pattern.Statement.{statement}
 use Rattle.scalar.proofs.root.root_pattern.Tie as tie
 
-in-word : (m h : ℕ) → m < 2 ^ 24 → m * 2 ^ (25 + h % 2) % 2 ^ 64 ≡ radicand m h
-in-word m h l = shl-exact 24 (25 + h % 2) 64 l (few h)
+-- m and h in e
+abbrev m : ℕ → ℕ
+m e = 2 ^ 23 + e % 2 ^ 23
+
+abbrev h : ℕ → ℕ
+h e = e / 2 ^ 23
+
+m-low : (e : ℕ) → 2 ^ 23 ≤ m e
+m-low e = omega arith
+
+m-high : (e : ℕ) → m e < 2 ^ 24
+m-high e = omega arith
+
+-- what is rooted: a fourth of the radicand
+abbrev rooted : ℕ → ℕ
+rooted e = m e * (2 ^ 23 + h e % 2 * 2 ^ 23)
+
+fourfold : (e : ℕ) → 4 * rooted e ≡ radicand (m e) (h e)
+fourfold e = go (m e) (h e % 2) (mod-lt (h e) (zero-lt-suc 1))
   where
-    few : (h : ℕ) → 24 + (25 + h % 2) ≤ 64
-    few h = omega arith
+    go : (m odd : ℕ) → odd < 2 → 4 * (m * (2 ^ 23 + odd * 2 ^ 23)) ≡ m * 2 ^ (25 + odd)
+    go m zero l = omega arith
+    go m (suc zero) l = omega arith
+    go m (suc (suc odd)) l = absurd (omega arith)
 
-radicand-lt : (c : tie.Start) → c .args .m * 2 ^ (25 + c .args .h % 2) % 2 ^ 64 < 2 ^ 50
-radicand-lt c = subst (λ (x : ℕ). x < 2 ^ 50) (sym (in-word (c .args .m) (c .args .h) (c .pre .1))) (span (c .args .m) (c .args .h) (c .pre .0) (c .pre .1) .1)
+rooted-in : (e : ℕ) → (0 < rooted e) × (rooted e < 2 ^ 48)
+rooted-in e = let s = span (m e) (h e) (m-low e) (m-high e) in within (rooted e) (radicand (m e) (h e)) (fourfold e) (s .0) (s .1)
+  where
+    within : (n A : ℕ) → 4 * n ≡ A → 2 ^ 48 ≤ A → A < 2 ^ 50 → (0 < n) × (n < 2 ^ 48)
+    within n A f a b = (omega arith, omega arith)
 
--- the callee's result is the root of the radicand, and is below 2 ^ 25
-result-is : (c : tie.After-whole-root) → c .whole-root .result ≡ root (radicand (c .before .before .args .m) (c .before .before .args .h))
-result-is c = let s = c .before .before in c .whole-root .ensures ∙ ap root (in-word (s .args .m) (s .args .h) (s .pre .1))
+-- the callee's result
+result-is : (c : tie.After-rounded-root) → c .rounded-root .result ≡ rootDigits (m (c .before .before .args .e)) (h (c .before .before .args .e))
+result-is c = c .rounded-root .ensures ∙ ap (λ (x : ℕ). (root x + 1) / 2) (fourfold (c .before .before .args .e))
 
-result-lt : (c : tie.After-whole-root) → c .whole-root .result < 2 ^ 25
-result-lt c =
-    let s = c .before .before in
-    let A = radicand (s .args .m) (s .args .h) in
-    subst (λ (x : ℕ). x < 2 ^ 25) (sym (result-is c)) (root-high A (root A) (root-is A) (span (s .args .m) (s .args .h) (s .pre .0) (s .pre .1) .1))
+result-le : (c : tie.After-rounded-root) → c .rounded-root .result ≤ 2 ^ 24
+result-le c = let e = c .before .before .args .e in subst (λ (x : ℕ). x ≤ 2 ^ 24) (sym (result-is c)) (digits-in (m e) (h e) (m-low e) (m-high e) .1)
 
-add-n : tie.Need-add-n
-add-n c = search needs
+add-m : tie.Need-add-m
+add-m c = search needs
+
+mul-scale : tie.Need-mul-scale
+mul-scale c = search needs
+
+add-scale : tie.Need-add-scale
+add-scale c = search needs
 
 cast-n : tie.Need-cast-n
 cast-n c = search needs
 
-shl-n : tie.Need-shl-n
-shl-n c = search needs
+cast-n-2 : tie.Need-cast-n-2
+cast-n-2 c = search needs
+
+mul-n : tie.Need-mul-n
+mul-n c = record { fits = lt-trans (rooted-in (c .args .e) .1) (lit< tt) }
 
 cast-near-root : tie.Need-cast-near-root
 cast-near-root c = search needs
 
 near-root-requires : tie.Need-near-root-requires
-near-root-requires c κs = (radicand-lt c, omega arith, omega arith, omega arith)
+near-root-requires c κs = (rooted-in (c .args .e) .1, omega arith)
 
-whole-root-requires : tie.Need-whole-root-requires
-whole-root-requires c κs = (radicand-lt (c .before), omega arith)
+rounded-root-requires : tie.Need-rounded-root-requires
+rounded-root-requires c κs = (rooted-in (c .before .args .e) .0, rooted-in (c .before .args .e) .1, c .near-root .ensures)
 
 mul-result : tie.Need-mul-result
 mul-result c = search needs
 
-add-result : tie.Need-add-result
-add-result c = omega (arith, result-lt c)
-
 cast-result : tie.Need-cast-result
-cast-result c = omega (arith, result-lt c)
+cast-result c = omega (arith, result-le c)
 
-add-result-2 : tie.Need-add-result-2
-add-result-2 c = omega (arith, result-lt c)
+add-result : tie.Need-add-result
+add-result c = omega (arith, result-le c)
 
 returns : tie.Need-returns
-returns c = ap (λ (x : ℕ). c .before .before .args .h / 2 * 2 ^ 23 + (x + 1) / 2) (result-is c)
+returns c = let e = c .before .before .args .e in ap₂ (λ (x y : ℕ). x * 2 ^ 23 + y) (halved e) (result-is c)
+  where
+    halved : (e : ℕ) → e / 2 ^ 24 ≡ e / 2 ^ 23 / 2
+    halved e = omega arith
 
 pub root-pattern-spec : {M : Type 1} → statement M
 root-pattern-spec =
-    tie.close (tie.spec add-n cast-n shl-n cast-near-root near-root-requires whole-root-requires mul-result add-result cast-result add-result-2 returns)
+    tie.close
+    (tie.spec add-m mul-scale add-scale cast-n cast-n-2 mul-n cast-near-root near-root-requires rounded-root-requires mul-result cast-result add-result returns)
