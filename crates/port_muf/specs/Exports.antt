@@ -50,8 +50,8 @@ pub record HourLeft : Type 0 where
   pub es : List ℕ
   pub out : List ℕ
 
-abbrev pub left : ℕ → List ℕ → List ℕ → List ℕ → HourLeft
-left number state es out = record { number = number; state = state; es = es; out = out }
+abbrev pub leaves : ℕ → List ℕ → List ℕ → List ℕ → HourLeft
+leaves number state es out = record { number = number; state = state; es = es; out = out }
 
 -- every word as a float
 abbrev pub floats : List ℕ → List Float
@@ -95,8 +95,8 @@ wordsBy false es ksx lower = es
 
 abbrev pub outcomeBy : Outcome → Done → List ℕ → List ℕ → List ℕ → HourLeft
 outcomeBy Outcome.Answered d state es out =
-    left 0 (stateInto (d .answer .state) state) (wordsBy (d .rewrites) es (d .ksx) (d .lower)) (hourInto (d .answer .hour) out)
-outcomeBy (Outcome.Refused r) d state es out = left (numberOf r) state es out
+    leaves 0 (stateInto (d .answer .state) state) (wordsBy (d .rewrites) es (d .ksx) (d .lower)) (hourInto (d .answer .hour) out)
+outcomeBy (Outcome.Refused r) d state es out = leaves (numberOf r) state es out
 
 unfoldable pub doneLeft : Done → List ℕ → List ℕ → List ℕ → HourLeft
 doneLeft d state es out = outcomeBy (d .answer .outcome) d state es out
@@ -108,9 +108,9 @@ curmufBy false true c short a = short
 curmufBy false false true short a = short
 curmufBy false false false short a = a
 
--- `curmuf` on what the words stand for, lists of any length
+-- `flatOf` is all of `curmuf`: its hour and state, and the row that it rewrites; here on what the words stand for, lists of any length
 unfoldable pub curmufLeft : List ℕ → List ℕ → List ℕ → List ℕ → List ℕ → List ℕ → List ℕ → HourLeft
 curmufLeft state es deciles clat clck numbers out =
     curmufBy (ltb (length state) 153) (ltb (length numbers) 4) (ltb (length out) 54)
-    (left (numberOf Refusal.Length) state es out)
+    (leaves (numberOf Refusal.Length) state es out)
     (doneLeft (flatOf (stateOf state) (floats es) (floats deciles) (floats clat) (floats clck) (circuitOf numbers)) state es out)

@@ -7,7 +7,7 @@ ghost use denote.Ref.{now};
 ghost use Rattle.port_state.specs.Words.{floatsInto};
 ghost use Rattle.muf.specs.Sporadic.{rowAt, esFrom, startOf};
 ghost use Rattle.muf.specs.Curmuf.{rowsOf, workedOf, flatOf};
-ghost use Rattle.port_muf.specs.Exports.{floats, left, circuitOf, tenInto, lineInto, headInto, hourInto, wordsBy, doneLeft, curmufLeft};
+ghost use Rattle.port_muf.specs.Exports.{floats, leaves, circuitOf, tenInto, lineInto, headInto, hourInto, wordsBy, doneLeft, curmufLeft};
 use layer_mufs::Circuit;
 use layers::IonoState;
 use layers::LayerMuf;
@@ -201,7 +201,7 @@ fn es_into(rewrites: bool, ksx: usize, lower: f32, es: &mut [u32])
 
 fn done_into(d: Done, state: &mut [u32], es: &mut [u32], out: &mut [u32]) -> u32
     requires { ⌜ (153 ≤ length (now state)) × (54 ≤ length (now out)) × (d .rewrites ≡ true → 4 * d .ksx < length (now es)) ⌝ }
-    ensures { λ r. ⌜ left r (now (state .exit)) (now (es .exit)) (now (out .exit)) ≡ doneLeft d (now (state .entry)) (now (es .entry)) (now (out .entry)) ⌝ }
+    ensures { λ r. ⌜ leaves r (now (state .exit)) (now (es .exit)) (now (out .exit)) ≡ doneLeft d (now (state .entry)) (now (es .entry)) (now (out .entry)) ⌝ }
 {
     let a = d.answer;
     let o = a.outcome;
@@ -230,7 +230,7 @@ pub extern "C" fn port_curmuf(
     numbers: &[u32],
     out: &mut [u32],
 ) -> u32
-    ensures { λ r. ⌜ left r (now (state .exit)) (now (es .exit)) (now (out .exit)) ≡ curmufLeft (now (state .entry)) (now (es .entry)) (now (deciles .entry)) (now (clat .entry)) (now (clck .entry)) (now (numbers .entry)) (now (out .entry)) ⌝ }
+    ensures { λ r. ⌜ leaves r (now (state .exit)) (now (es .exit)) (now (out .exit)) ≡ curmufLeft (now (state .entry)) (now (es .entry)) (now (deciles .entry)) (now (clat .entry)) (now (clck .entry)) (now (numbers .entry)) (now (out .entry)) ⌝ }
 {
     if state.len() < 153 {
         return 1;
