@@ -146,8 +146,8 @@ pub fn curmuf_records(
     clck: &[f32],
     c: Circuit,
 ) -> MufAnswer
-    ensures { λ r. ⌜ r ≡ recordsMufOf s (now (es .entry)) (now (f2d .entry)) (now (clat .entry)) (now (clck .entry)) c ⌝ }
-    ensures { λ r. ⌜ now (es .exit) ≡ recordsAfterOf s (now (es .entry)) (now (f2d .entry)) (now (clat .entry)) (now (clck .entry)) c ⌝ }
+    ensures { λ r. ⌜ (r ≡ recordsMufOf s (now (es .entry)) (now (f2d .entry)) (now (clat .entry)) (now (clck .entry)) c)
+        × (now (es .exit) ≡ recordsAfterOf s (now (es .entry)) (now (f2d .entry)) (now (clat .entry)) (now (clck .entry)) c) ⌝ }
 {
     let step = search(es, s.km, c);
     let d = searched(s, step, f2d, clat, clck, c);
