@@ -9,8 +9,8 @@ use Rattle.layers.specs.State.{at}
 use Rattle.layers.specs.declared.IonoState.{IonoState}
 use Rattle.layers.specs.declared.EsParams.{EsParams}
 use Rattle.layer_mufs.specs.declared.Circuit.{Circuit}
-use Rattle.muf.specs.Sporadic.{nextBy, esRowOf, startOf}
-use Rattle.muf.specs.Curmuf.{rowsBy, doneOf, workedOf, esBy, threeOf}
+use Rattle.muf.specs.Sporadic.{nextBy, esRowOf}
+use Rattle.muf.specs.Curmuf.{rowsBy, doneOf}
 use Rattle.muf.specs.declared.EsRow.{EsRow}
 use Rattle.muf.specs.declared.EsStep.{EsStep}
 use Rattle.muf.specs.declared.MufAnswer.{MufAnswer}
