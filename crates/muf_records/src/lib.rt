@@ -1,12 +1,10 @@
 // The circuit MUF over a lent list of Es records.
 ghost use mathlib.Core.Path.{_≡_};
-ghost use Prim.Native.Nat.{ℕ, _<_, _≤_};
+ghost use Prim.Native.Nat.{_<_};
 ghost use mathlib.Core.Bool.{true};
-ghost use lib.ListN.{length, getD, set};
+ghost use lib.ListN.{length};
 ghost use Rattle.muf.specs.Sporadic.{startOf, esFrom};
 ghost use Rattle.muf_records.specs.Records.{rowOf, recordAt, takenRows, turnOf, lowered, recordsBy, recordsMufOf, recordsAfterOf};
-ghost use Rattle.muf.specs.Curmuf.{workedOf, doneOf};
-ghost use Rattle.muf.specs.declared.EsRow.{EsRow};
 ghost use Rattle.muf.specs.declared.EsStep.{EsStep};
 use layer_mufs::Circuit;
 use layers::EsParams;
@@ -15,8 +13,6 @@ use muf::Done;
 use muf::EsRow;
 use muf::EsStep;
 use muf::MufAnswer;
-use muf::ThreeAnswer;
-use refusal::Refusal;
 
 fn row(e: EsParams) -> EsRow
     ensures { λ r. ⌜ r ≡ rowOf e ⌝ }
@@ -72,51 +68,6 @@ fn search(es: &[EsParams], km: usize, c: Circuit) -> EsStep
     step
 }
 
-// All that an accepted call works out, the search of the Es rows given; the lists reach to slot ks.
-fn worked(
-    s: IonoState,
-    ks: usize,
-    step: EsStep,
-    f2d: &[f32],
-    clat: f32,
-    clck: f32,
-    c: Circuit,
-) -> Done
-    requires { ⌜ ks < 3 ⌝ }
-    ensures { λ r. ⌜ ((n : ℕ) (row : ℕ → EsRow) → step ≡ esFrom row c n 0 startOf → r ≡ workedOf s ks n row (now (f2d .entry)) clat clck c) ⌝ }
-{
-    let t = profile::lecden_slot(s, ks);
-    let l = layer_mufs::slot(t, ks);
-    let found = muf::three_lines(t, l, ks, f2d, clat, clck, c);
-    match found {
-        ThreeAnswer::Refused(r) => muf::refused_done(s, r),
-        ThreeAnswer::Found(m) => muf::finish(s, t, l.fi0, m, ks, step),
-    }
-}
-
-// The whole call but for the rows: their search is given, and the one to be rewritten is named.
-fn searched(
-    s: IonoState,
-    step: EsStep,
-    f2d: &[f32],
-    clat: &[f32],
-    clck: &[f32],
-    c: Circuit,
-) -> Done
-    ensures { λ r. ⌜ ((n : ℕ) (row : ℕ → EsRow) → step ≡ esFrom row c n 0 startOf → r ≡ doneOf s n row (now (f2d .entry)) (now (clat .entry)) (now (clck .entry)) c) ⌝ }
-{
-    if muf::in_domain(c) {
-        let ks = layer_mufs::controlling(s);
-        if muf::lists_reach(ks, f2d.len(), clat.len(), clck.len()) {
-            let lat = clat[ks];
-            let clock = clck[ks];
-            return worked(s, ks, step, f2d, lat, clock, c);
-        }
-        return muf::refused_done(s, Refusal::MufLists);
-    }
-    muf::refused_done(s, Refusal::MufInput)
-}
-
 fn with_lower(e: EsParams, lower: f32) -> EsParams
     ensures { λ r. ⌜ r ≡ lowered e lower ⌝ }
 {
@@ -150,6 +101,6 @@ pub fn curmuf_records(
         × (now (es .exit) ≡ recordsAfterOf s (now (es .entry)) (now (f2d .entry)) (now (clat .entry)) (now (clck .entry)) c) ⌝ }
 {
     let step = search(es, s.km, c);
-    let d = searched(s, step, f2d, clat, clck, c);
+    let d = muf::searched(s, step, f2d, clat, clck, c);
     rewrite(es, d)
 }

@@ -75,10 +75,10 @@ use Rattle.muf_records.proofs.search as search′
 use Rattle.muf_records.proofs.search.Symbol as search-def
 use Rattle.muf_records.proofs.search.Symbol.{name as #search}
 use Rattle.muf_records.proofs.search.Met as search-thm
-use Rattle.muf_records.proofs.searched as searched
-use Rattle.muf_records.proofs.searched.Symbol as searched-def
-use Rattle.muf_records.proofs.searched.Symbol.{name as #searched}
-use Rattle.muf_records.proofs.searched.Met as searched-thm
+use Rattle.muf.proofs.searched as searched
+use Rattle.muf.proofs.searched.Symbol as searched-def
+use Rattle.muf.proofs.searched.Symbol.{name as #searched}
+use Rattle.muf.proofs.searched.Met as searched-thm
 use Rattle.muf_records.proofs.rewrite as rewrite′
 use Rattle.muf_records.proofs.rewrite.Symbol as rewrite-def
 use Rattle.muf_records.proofs.rewrite.Symbol.{name as #rewrite}
@@ -345,5 +345,5 @@ curmuf-records-spec 𝓤 H 𝓜 𝓖 𝓡 =
     (tables 𝓤 H 𝓜 𝓡 code.env .C) (tables 𝓤 H 𝓜 𝓡 code.env .Λ) #curmuf-records code.function (code.unfolded 𝓤 H 𝓜 𝓡)
     (records-meets 𝓤 H (𝓖 .A) (givenOf 𝓤 H 𝓜 𝓖) (𝓜 .mem) (𝓡 .run) (tablesOf 𝓤 H 𝓜 (tables 𝓤 H 𝓜 𝓡 code.env))
     (cited 𝓤 H (Search 𝓤 H (𝓖 .A) (𝓜 .mem) (𝓡 .run)) 𝓜 𝓡 code.env #search search-def.routine code.calls-muf-records·search (search-thm.met 𝓤 H 𝓜 𝓖 𝓡))
-    (cited 𝓤 H (Searched 𝓤 H (𝓖 .A) (𝓜 .mem) (𝓡 .run)) 𝓜 𝓡 code.env #searched searched-def.routine code.calls-muf-records·searched (searched-thm.met 𝓤 H 𝓜 𝓖 𝓡))
+    (cited 𝓤 H (Searched 𝓤 H (𝓖 .A) (𝓜 .mem) (𝓡 .run)) 𝓜 𝓡 code.env #searched searched-def.routine code.calls-muf·searched (searched-thm.met 𝓤 H 𝓜 𝓖 𝓡))
     (cited 𝓤 H (Rewrite 𝓤 H (𝓖 .A) (𝓜 .mem) (𝓡 .run)) 𝓜 𝓡 code.env #rewrite rewrite-def.routine code.calls-muf-records·rewrite (rewrite-thm.met 𝓤 H 𝓜 𝓖 𝓡)))

@@ -3,11 +3,11 @@ use Prim.Native.Nat.{_<_}
 use native.Mathlib.Omega.{arith}
 use mir.Facts.{fits-le, fits-lit}
 use Rattle.layer_mufs.proofs.Small.{controlling-small}
 use Rattle.muf.proofs.Lists.{lists-reach}
 use Rattle.muf.specs.Curmuf.{doneOf}
 use borrow.Author.Needs.{needs}
-use Rattle.muf_records.proofs.searched.Statement.{statement}
-use Rattle.muf_records.proofs.searched.Tie as tie
+use Rattle.muf.proofs.searched.Statement.{statement}
+use Rattle.muf.proofs.searched.Tie as tie
 
 in-domain-requires : tie.Need-in-domain-requires
 in-domain-requires c κs = search needs
