@@ -503,7 +503,7 @@ pub fn finish(s: IonoState, t: IonoState, fe: f32, m: Three, ks: usize, step: Es
 }
 
 // All that an accepted call works out, the search of the Es rows given; the lists reach to slot ks.
-fn worked(
+pub fn worked(
     s: IonoState,
     ks: usize,
     step: EsStep,

@@ -6,7 +6,7 @@ ghost use lib.ListN.{length};
 ghost use denote.Ref.{now};
 ghost use Rattle.port_state.specs.Words.{floatsInto};
 ghost use Rattle.muf.specs.Sporadic.{rowAt, esFrom, startOf};
-ghost use Rattle.muf.specs.Curmuf.{rowsOf, workedOf, flatOf};
+ghost use Rattle.muf.specs.Curmuf.{flatOf};
 ghost use Rattle.port_muf.specs.Exports.{floats, leaves, circuitOf, tenInto, lineInto, headInto, hourInto, wordsBy, doneLeft, curmufLeft};
 use layer_mufs::Circuit;
 use layers::IonoState;
@@ -15,7 +15,6 @@ use muf::Done;
 use muf::EsRow;
 use muf::EsStep;
 use muf::MufHour;
-use muf::ThreeAnswer;
 use refusal::Outcome;
 use refusal::Refusal;
 
@@ -55,32 +54,6 @@ fn word_rows(es: &[u32], n: usize, c: Circuit) -> EsStep
     EsStep::Next(a)
 }
 
-// All that an accepted call works out, as `curmuf` does.
-fn worked(
-    s: IonoState,
-    ks: usize,
-    es: &[u32],
-    f2d: &[f32],
-    clat: f32,
-    clck: f32,
-    c: Circuit,
-) -> Done
-    requires { ⌜ ks < 3 ⌝ }
-    ensures { λ r. ⌜ r ≡ workedOf s ks (rowsOf (length (now (es .entry))) (s .km)) (rowAt (floats (now (es .entry)))) (now (f2d .entry)) clat clck c ⌝ }
-{
-    let t = profile::lecden_slot(s, ks);
-    let l = layer_mufs::slot(t, ks);
-    let found = muf::three_lines(t, l, ks, f2d, clat, clck, c);
-    match found {
-        ThreeAnswer::Refused(r) => muf::refused_done(s, r),
-        ThreeAnswer::Found(m) => {
-            let n = muf::row_count(es.len(), s.km);
-            let step = word_rows(es, n, c);
-            muf::finish(s, t, l.fi0, m, ks, step)
-        }
-    }
-}
-
 // The whole call but for what it writes.
 fn called(s: IonoState, es: &[u32], deciles: &[u32], clat: &[u32], clck: &[u32], c: Circuit) -> Done
     ensures { λ r. ⌜ r ≡ flatOf s (floats (now (es .entry))) (floats (now (deciles .entry))) (floats (now (clat .entry))) (floats (now (clck .entry))) c ⌝ }
@@ -91,7 +64,9 @@ fn called(s: IonoState, es: &[u32], deciles: &[u32], clat: &[u32], clck: &[u32],
             let f2d = super::floats_576(deciles);
             let lat = scalar::number(clat[ks]);
             let clock = scalar::number(clck[ks]);
-            return worked(s, ks, es, &f2d, lat, clock, c);
+            let n = muf::row_count(es.len(), s.km);
+            let step = word_rows(es, n, c);
+            return muf::worked(s, ks, step, &f2d, lat, clock, c);
         }
         return muf::refused_done(s, Refusal::MufLists);
     }

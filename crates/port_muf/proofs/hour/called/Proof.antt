@@ -3,10 +3,15 @@ use mathlib.Core.Path.{_≡_, sym, _∙_}
 use Prim.Native.Nat.{_<_}
 use native.Mathlib.Nat.{le-of-eq}
 use native.Mathlib.Omega.{arith}
+use lib.ListN.{length}
 use mir.Facts.{fits-le, fits-lit}
 use Rattle.layer_mufs.proofs.Small.{controlling-small}
+use Rattle.muf.specs.Sporadic.{rowAt}
+use Rattle.muf.specs.Curmuf.{rowsOf}
+use Rattle.muf.proofs.Rows.{rows-there}
 use Rattle.muf.proofs.Lists.{deciles-whole, lists-reach}
 use borrow.Author.Needs.{needs}
+use Rattle.port_muf.specs.Exports.{floats}
 use Rattle.port_muf.proofs.Floats.{not-in-domain, lists-short, taken-up}
 use Rattle.port_muf.proofs.hour.called.Statement.{statement}
 use Rattle.port_muf.proofs.hour.called.Tie as tie
@@ -47,26 +52,32 @@ shared-slice-read-number-2 c = lists-reach _ _ _ _ (sym (c .before .before .befo
 number-requires-2 : tie.Need-number-requires-2
 number-requires-2 c κs = search needs
 
+row-count-requires : tie.Need-row-count-requires
+row-count-requires c κs = search needs
+
+word-rows-requires : tie.Need-word-rows-requires
+word-rows-requires c κs = rw (c .row-count .ensures) (rows-there _ _)
+
 slice-aggregate-worked : tie.Need-slice-aggregate-worked
 slice-aggregate-worked c = search needs
 
 worked-requires : tie.Need-worked-requires
 worked-requires c κs =
-    let b = c .before .before .before .before .before .before .before .before .controlling in
+    let b = c .before .before .before .before .before .before .before .before .before .before .controlling in
     rw (b .ensures) (controlling-small _)
 
 returns : tie.Need-returns
 returns c =
-    let f = c .before .before .before .before .before .before in
+    let f = c .before .before .before .before .before .before .before .before in
     let q = f .before .before .before .before .before in
     let a = q .before .before .before .before .before .args in
-    c .worked .ensures
+    c .worked .ensures (rowsOf (length (a .es .now)) (a .s .km)) (rowAt (floats (a .es .now))) (rw (← c .before .before .before .row-count .ensures) (c .before .before .word-rows .ensures))
     ∙ taken-up (a .s) (a .es .now) (a .deciles .now) (a .clat .now) (a .clck .now) (a .c) _ _ _ _ (f .before .before .before .controlling .ensures)
     (sym (q .in-domain .ensures) ∙ f .before .before .before .before .if1 .taken)
     (sym (f .before .before .lists-reach .ensures) ∙ f .before .if2 .taken)
     (f .floats-576 .ensures)
-    (c .before .before .before .before .number .ensures)
-    (c .before .before .number2 .ensures)
+    (c .before .before .before .before .before .before .number .ensures)
+    (c .before .before .before .before .number2 .ensures)
 
 refused-done-requires : tie.Need-refused-done-requires
 refused-done-requires c κs = search needs
@@ -104,6 +115,8 @@ called-spec =
     mul-number-2
     shared-slice-read-number-2
     number-requires-2
+    row-count-requires
+    word-rows-requires
     slice-aggregate-worked
     worked-requires
     returns
