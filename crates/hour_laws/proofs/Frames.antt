@@ -41,7 +41,8 @@ use Rattle.muf.specs.declared.MufAnswer.{MufAnswer}
 use Rattle.muf.specs.declared.Done.{Done}
 use Rattle.hour.specs.Sheet.{sheetBy, cellsBy, slotSheetOf, sheetCellsOf}
 use Rattle.hour.specs.declared.SlotSheet.{SlotSheet}
-use Rattle.hour_laws.specs.Calls.{EsRows, flat, records, recordAt, mufOf, esAfter, Call, aMuf, aSheet, Answer, ofMuf, ofSheet, answerOf, afterOf, isAnswered, outcomeOf, answered, pickIf, pick}
+use Rattle.muf_records.specs.Records.{recordAt, recordsDoneOf}
+use Rattle.hour_laws.specs.Calls.{EsRows, flat, records, mufOf, esAfter, Call, aMuf, aSheet, Answer, ofMuf, ofSheet, answerOf, afterOf, isAnswered, outcomeOf, answered, pickIf, pick}
 use Rattle.hour_laws.specs.Lists.{alone, onlyIf, SameProfile}
 use Rattle.hour_laws.proofs.Alike.{Alike, genion-same, alosfv-same, three-same}
 use Rattle.hour_laws.proofs.Prepared.{Common, common-self, lecden-alike, lecden-others, lecden-common}
@@ -145,7 +146,7 @@ done-follows s t n row f2d clat clck c g fresh =
     (done-by (inDomain c) (reach (controllingOf s)) s t n row f2d clat clck c g (λ hd hr. fresh (controllingOf s) (picked (inDomain c) (eqb (length f2d) 576) (controllingOf s) hd (deciles-right (length f2d) (controllingOf s) (length clat) (length clck) hr))))
 
 muf-follows : (es : EsRows) (s t : IonoState) (f2d clat clck : List Float) (c : Circuit) → Common s t → FreshFor s t (aMuf es f2d clat clck c) → Follows (mufOf t es f2d clat clck c) (mufOf s es f2d clat clck c) t (controllingOf s)
-unfolding mufOf flatOf pick
+unfolding mufOf flatOf recordsDoneOf pick
 muf-follows (flat es) s t f2d clat clck c g fresh =
     subst (λ (m : ℕ). Follows (doneOf t (rowsOf (length es) m) (rowAt es) f2d clat clck c) (doneOf s (rowsOf (length es) (s .km)) (rowAt es) f2d clat clck c) t (controllingOf s)) (sym (g .km-common))
     (done-follows s t (rowsOf (length es) (s .km)) (rowAt es) f2d clat clck c g fresh)
@@ -169,7 +170,7 @@ done-picked s n row f2d clat clck c e =
     picked (inDomain c) (eqb (length f2d) 576) k (h .0) (deciles-right (length f2d) k (length clat) (length clck) (h .1))
 
 muf-picked : (es : EsRows) (s : IonoState) (f2d clat clck : List Float) (c : Circuit) → answered s (aMuf es f2d clat clck c) ≡ true → pick s (aMuf es f2d clat clck c) ≡ some (controllingOf s)
-unfolding answered answerOf pick mufOf flatOf
+unfolding answered answerOf pick mufOf flatOf recordsDoneOf
 muf-picked (flat es) s f2d clat clck c e = done-picked s (rowsOf (length es) (s .km)) (rowAt es) f2d clat clck c e
 muf-picked (records es) s f2d clat clck c e = done-picked s (rowsBy (ltb (length es) (s .km)) (length es) (s .km)) (recordAt es) f2d clat clck c e
 

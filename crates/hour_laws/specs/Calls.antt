@@ -3,22 +3,21 @@ use mathlib.Core.Bool.{Bool, true, false, _&&_}
 use mathlib.Core.List.{List, [], _∷_}
 use mathlib.Core.Option.{Option, none, some}
 use Prim.Native.Nat.{ℕ}
-use lib.Dec.{ltb, eqb}
+use lib.Dec.{eqb}
 use lib.IntN.{ℤ}
-use lib.ListN.{length, getD, set}
-use lib.Ieee.{Float, nan}
+use lib.ListN.{length}
+use lib.Ieee.{Float}
 use Rattle.refusal.specs.declared.Outcome.{Outcome}
-use Rattle.layers.specs.State.{at}
 use Rattle.layers.specs.declared.IonoState.{IonoState}
 use Rattle.layers.specs.declared.LayerMuf.{LayerMuf}
 use Rattle.layers.specs.declared.EsParams.{EsParams}
 use Rattle.ionogram.specs.declared.Ionogram.{Ionogram}
 use Rattle.layer_mufs.specs.Controlling.{controllingOf}
 use Rattle.layer_mufs.specs.declared.Circuit.{Circuit}
-use Rattle.muf.specs.Curmuf.{inDomain, rowsBy, doneOf, flatOf, rewrittenBy}
-use Rattle.muf.specs.declared.EsRow.{EsRow}
+use Rattle.muf.specs.Curmuf.{inDomain, flatOf, rewrittenBy}
 use Rattle.muf.specs.declared.MufHour.{MufHour}
 use Rattle.muf.specs.declared.Done.{Done}
+use Rattle.muf_records.specs.Records.{recordsDoneOf, recordsBy}
 use Rattle.hour.specs.Sheet.{slotSheetOf, sheetCellsOf, slotSheetScanOf, sheetCellsScanOf}
 use Rattle.hour.specs.declared.SlotSheet.{SlotSheet}
 
@@ -28,23 +27,11 @@ pub data EsRows : Type 0 where
   flat : List Float → EsRows
   records : List EsParams → EsRows
 
--- past the end, where no code reads
-abbrev pub noEs : EsParams
-noEs = record { fs = []; hs = nan }
-
-abbrev pub recordAt : List EsParams → ℕ → EsRow
-recordAt es k = let e = getD es k noEs in record { fs0 = at (e .fs) 0; fs1 = at (e .fs) 1; fs2 = at (e .fs) 2; hs = e .hs }
-
--- the rows that there are, at most km
 unfoldable pub mufOf : IonoState → EsRows → List Float → List Float → List Float → Circuit → Done
 mufOf s (flat es) f2d clat clck c = flatOf s es f2d clat clck c
-mufOf s (records es) f2d clat clck c = doneOf s (rowsBy (ltb (length es) (s .km)) (length es) (s .km)) (recordAt es) f2d clat clck c
+mufOf s (records es) f2d clat clck c = recordsDoneOf s es f2d clat clck c
 
 -- only the controlling row's lower decile is rewritten
-abbrev pub recordsBy : Bool → List EsParams → ℕ → Float → List EsParams
-recordsBy true es ksx lower = let e = getD es ksx noEs in set es ksx (record { fs = set (e .fs) 0 lower; hs = e .hs })
-recordsBy false es ksx lower = es
-
 unfoldable pub esAfter : EsRows → Bool → ℕ → Float → EsRows
 esAfter (flat es) rewrites ksx lower = flat (rewrittenBy rewrites es ksx lower)
 esAfter (records es) rewrites ksx lower = records (recordsBy rewrites es ksx lower)

@@ -1,11 +1,12 @@
 // The circuit MUF of an hour: what is refused, the three regular layers, sporadic E over flat rows
 // of four numbers, and the hour put together.
 ghost use mathlib.Core.Path.{_≡_};
-ghost use Prim.Native.Nat.{_+_, _*_, _<_, _≤_};
+ghost use Prim.Native.Nat.{ℕ, _+_, _*_, _<_, _≤_};
 ghost use lib.ListN.{length};
 ghost use Rattle.muf.specs.Sporadic.{rayOf, takenOf, esRowOf, startOf, rowAt, esFrom, sigl4Of, esFoundOf, esLineOf};
+ghost use Rattle.muf.specs.declared.EsRow.{EsRow};
 ghost use Rattle.muf.specs.Hour.{modeOf, hourOf, zeroLine, zeroHour, refusedOf};
-ghost use Rattle.muf.specs.Curmuf.{withinOf, inDomain, listsReach, threeOf, rowsOf, refusedDone, esBy, workedOf, flatOf, esAfterOf, curmufOf};
+ghost use Rattle.muf.specs.Curmuf.{withinOf, inDomain, listsReach, threeOf, rowsOf, refusedDone, esBy, workedOf, doneOf, flatOf, esAfterOf, curmufOf};
 use hops::Hops;
 use layer_mufs::Circuit;
 use layer_mufs::LineAnswer;
@@ -501,46 +502,59 @@ pub fn finish(s: IonoState, t: IonoState, fe: f32, m: Three, ks: usize, step: Es
     }
 }
 
-// All that an accepted call works out; the lists reach to slot ks.
-fn worked(
+// All that an accepted call works out, the search of the Es rows given; the lists reach to slot ks.
+pub fn worked(
     s: IonoState,
     ks: usize,
-    es: &[f32],
+    step: EsStep,
     f2d: &[f32],
     clat: f32,
     clck: f32,
     c: Circuit,
 ) -> Done
     requires { ⌜ ks < 3 ⌝ }
-    ensures { λ r. ⌜ r ≡ workedOf s ks (rowsOf (length (now (es .entry))) (s .km)) (rowAt (now (es .entry))) (now (f2d .entry)) clat clck c ⌝ }
+    ensures { λ r. ⌜ ((n : ℕ) (row : ℕ → EsRow) → step ≡ esFrom row c n 0 startOf → r ≡ workedOf s ks n row (now (f2d .entry)) clat clck c) ⌝ }
 {
     let t = profile::lecden_slot(s, ks);
     let l = layer_mufs::slot(t, ks);
     let found = three_lines(t, l, ks, f2d, clat, clck, c);
     match found {
         ThreeAnswer::Refused(r) => refused_done(s, r),
-        ThreeAnswer::Found(m) => {
-            let n = row_count(es.len(), s.km);
-            let step = es_rows(es, n, c);
-            finish(s, t, l.fi0, m, ks, step)
-        }
+        ThreeAnswer::Found(m) => finish(s, t, l.fi0, m, ks, step),
     }
 }
 
-// The whole call but for the row that it rewrites.
-fn flat(s: IonoState, es: &[f32], f2d: &[f32], clat: &[f32], clck: &[f32], c: Circuit) -> Done
-    ensures { λ r. ⌜ r ≡ flatOf s (now (es .entry)) (now (f2d .entry)) (now (clat .entry)) (now (clck .entry)) c ⌝ }
+// The whole call but for the Es rows, flat or records: their search is given, of whatever rows it
+// is, and the row to be rewritten is named. Where the call is refused before them it is not used.
+pub fn searched(
+    s: IonoState,
+    step: EsStep,
+    f2d: &[f32],
+    clat: &[f32],
+    clck: &[f32],
+    c: Circuit,
+) -> Done
+    ensures { λ r. ⌜ ((n : ℕ) (row : ℕ → EsRow) → step ≡ esFrom row c n 0 startOf → r ≡ doneOf s n row (now (f2d .entry)) (now (clat .entry)) (now (clck .entry)) c) ⌝ }
 {
     if in_domain(c) {
         let ks = layer_mufs::controlling(s);
         if lists_reach(ks, f2d.len(), clat.len(), clck.len()) {
             let lat = clat[ks];
             let clock = clck[ks];
-            return worked(s, ks, es, f2d, lat, clock, c);
+            return worked(s, ks, step, f2d, lat, clock, c);
         }
         return refused_done(s, Refusal::MufLists);
     }
     refused_done(s, Refusal::MufInput)
+}
+
+// The whole call but for the row that it rewrites.
+fn flat(s: IonoState, es: &[f32], f2d: &[f32], clat: &[f32], clck: &[f32], c: Circuit) -> Done
+    ensures { λ r. ⌜ r ≡ flatOf s (now (es .entry)) (now (f2d .entry)) (now (clat .entry)) (now (clck .entry)) c ⌝ }
+{
+    let n = row_count(es.len(), s.km);
+    let step = es_rows(es, n, c);
+    searched(s, step, f2d, clat, clck, c)
 }
 
 // The MUF hour; `es` holds four numbers a row: three of `fs`, then `hs`. Only the controlling row's

@@ -1,75 +1,22 @@
-use mathlib.Core.Path.{sym, _∙_}
-use Prim.Native.Nat.{_<_}
-use native.Mathlib.Omega.{arith}
-use mir.Facts.{fits-le, fits-lit}
-use Rattle.layer_mufs.proofs.Small.{controlling-small}
-use Rattle.muf.proofs.Lists.{lists-reach}
-use Rattle.muf.specs.Curmuf.{flatOf, doneOf}
+use mathlib.Core.Path.{refl}
+use Rattle.muf.specs.Curmuf.{flatOf}
+use Rattle.muf.proofs.Rows.{rows-there}
 use borrow.Author.Needs.{needs}
 use Rattle.muf.proofs.flat.Statement.{statement}
 use Rattle.muf.proofs.flat.Tie as tie
 
-in-domain-requires : tie.Need-in-domain-requires
-in-domain-requires c κs = search needs
+row-count-requires : tie.Need-row-count-requires
+row-count-requires c κs = search needs
 
-controlling-requires : tie.Need-controlling-requires
-controlling-requires c κs = search needs
+es-rows-requires : tie.Need-es-rows-requires
+es-rows-requires c κs = rw (c .row-count .ensures) (rows-there _ _)
 
-lists-reach-requires : tie.Need-lists-reach-requires
-lists-reach-requires c κs = search needs
-
-mul-lat : tie.Need-mul-lat
-mul-lat c =
-    let h : c .before .before .controlling .result < 3 = rw (c .before .before .controlling .ensures) (controlling-small _) in
-    fits-le {n = 12} (omega arith) (fits-lit tt)
-
-shared-slice-read-lat : tie.Need-shared-slice-read-lat
-shared-slice-read-lat c = lists-reach _ _ _ _ (sym (c .before .before .lists-reach .ensures) ∙ c .before .if2 .taken) .0
-
-mul-clock : tie.Need-mul-clock
-mul-clock c =
-    let b = c .before .before .before .controlling in
-    let h : b .result < 3 = rw (b .ensures) (controlling-small _) in
-    fits-le {n = 12} (omega arith) (fits-lit tt)
-
-shared-slice-read-clock : tie.Need-shared-slice-read-clock
-shared-slice-read-clock c = lists-reach _ _ _ _ (sym (c .before .before .before .lists-reach .ensures) ∙ c .before .before .if2 .taken) .1
-
-worked-requires : tie.Need-worked-requires
-worked-requires c κs = let b = c .before .before .before .before .controlling in rw (b .ensures) (controlling-small _)
+searched-requires : tie.Need-searched-requires
+searched-requires c κs = search needs
 
 returns : tie.Need-returns
-unfolding flatOf doneOf
-returns c = rw (← c .before .before .before .before .before .before .before .in-domain .ensures, c .before .before .before .before .before .before .if1 .taken, ← c .before .before .before .before .before .controlling .ensures, ← c .before .before .before .before .lists-reach .ensures, c .before .before .before .if2 .taken, ← c .before .before .before .before .before .controlling .ensures, ← c .worked .ensures)
-
-refused-done-requires : tie.Need-refused-done-requires
-refused-done-requires c κs = search needs
-
-returns-2 : tie.Need-returns-2
-unfolding flatOf doneOf
-returns-2 c = rw (← c .before .before .before .before .before .in-domain .ensures, c .before .before .before .before .if1 .taken, ← c .before .before .before .controlling .ensures, ← c .before .before .lists-reach .ensures, c .before .if2 .left, ← c .refused-done .ensures)
-
-refused-done-requires-2 : tie.Need-refused-done-requires-2
-refused-done-requires-2 c κs = search needs
-
-returns-3 : tie.Need-returns-3
-unfolding flatOf doneOf
-returns-3 c = rw (← c .before .before .in-domain .ensures, c .before .if1 .left, ← c .refused-done2 .ensures)
+unfolding flatOf
+returns c = rw (← c .before .before .row-count .ensures) (c .searched .ensures _ _ (c .before .es-rows .ensures))
 
 pub flat-spec : {M : Type 1} → statement M
-flat-spec =
-    tie.close
-    (tie.spec
-    in-domain-requires
-    controlling-requires
-    lists-reach-requires
-    mul-lat
-    shared-slice-read-lat
-    mul-clock
-    shared-slice-read-clock
-    worked-requires
-    returns
-    refused-done-requires
-    returns-2
-    refused-done-requires-2
-    returns-3)
+flat-spec = tie.close (tie.spec row-count-requires es-rows-requires searched-requires returns)

@@ -1,5 +1,4 @@
 use Rattle.muf.specs.Curmuf.{workedOf}
-use Rattle.muf.proofs.Rows.{rows-there}
 use borrow.Author.Needs.{needs}
 use Rattle.muf.proofs.worked.Statement.{statement}
 use Rattle.muf.proofs.worked.Tie as tie
@@ -22,22 +21,16 @@ refused-done-requires c κs = search needs
 enum-known-found-2 : tie.Need-enum-known-found-2
 enum-known-found-2 c = search needs
 
-row-count-requires : tie.Need-row-count-requires
-row-count-requires c κs = search needs
-
-es-rows-requires : tie.Need-es-rows-requires
-es-rows-requires c κs = rw (c .row-count .ensures) (rows-there _ _)
-
 finish-requires : tie.Need-finish-requires
 finish-requires c κs = search needs
 
 returns : tie.Need-returns
 unfolding workedOf
-returns c = rw (← c .before .before .before .before .before .before .lecden-slot .ensures, ← c .before .before .before .before .before .slot .ensures, ← c .before .before .before .before .three-lines .ensures, c .before .before .found .given .1, ← c .refused-done .ensures)
+returns c n row e = rw (← c .before .before .before .before .before .before .lecden-slot .ensures, ← c .before .before .before .before .before .slot .ensures, ← c .before .before .before .before .three-lines .ensures, c .before .before .found .given .1, ← c .refused-done .ensures)
 
 returns-2 : tie.Need-returns-2
 unfolding workedOf
-returns-2 c = rw (← c .before .before .before .before .before .before .before .before .lecden-slot .ensures, ← c .before .before .before .before .before .before .before .slot .ensures, ← c .before .before .before .before .before .before .three-lines .ensures, c .before .before .before .before .found2 .given .1, ← c .before .before .row-count .ensures, ← c .before .es-rows .ensures, ← c .finish .ensures)
+returns-2 c n row e = rw (← c .before .before .before .before .before .before .lecden-slot .ensures, ← c .before .before .before .before .before .slot .ensures, ← c .before .before .before .before .three-lines .ensures, c .before .before .found2 .given .1, ← e, ← c .finish .ensures)
 
 pub worked-spec : {M : Type 1} → statement M
 worked-spec =
@@ -49,8 +42,6 @@ worked-spec =
     enum-known-found
     refused-done-requires
     enum-known-found-2
-    row-count-requires
-    es-rows-requires
     finish-requires
     returns
     returns-2)

@@ -1,0 +1,75 @@
+use mathlib.Core.Path.{sym, _∙_}
+use Prim.Native.Nat.{_<_}
+use native.Mathlib.Omega.{arith}
+use mir.Facts.{fits-le, fits-lit}
+use Rattle.layer_mufs.proofs.Small.{controlling-small}
+use Rattle.muf.proofs.Lists.{lists-reach}
+use Rattle.muf.specs.Curmuf.{doneOf}
+use borrow.Author.Needs.{needs}
+use Rattle.muf.proofs.searched.Statement.{statement}
+use Rattle.muf.proofs.searched.Tie as tie
+
+in-domain-requires : tie.Need-in-domain-requires
+in-domain-requires c κs = search needs
+
+controlling-requires : tie.Need-controlling-requires
+controlling-requires c κs = search needs
+
+lists-reach-requires : tie.Need-lists-reach-requires
+lists-reach-requires c κs = search needs
+
+mul-lat : tie.Need-mul-lat
+mul-lat c =
+    let h : c .before .before .controlling .result < 3 = rw (c .before .before .controlling .ensures) (controlling-small _) in
+    fits-le {n = 12} (omega arith) (fits-lit tt)
+
+shared-slice-read-lat : tie.Need-shared-slice-read-lat
+shared-slice-read-lat c = lists-reach _ _ _ _ (sym (c .before .before .lists-reach .ensures) ∙ c .before .if2 .taken) .0
+
+mul-clock : tie.Need-mul-clock
+mul-clock c =
+    let b = c .before .before .before .controlling in
+    let h : b .result < 3 = rw (b .ensures) (controlling-small _) in
+    fits-le {n = 12} (omega arith) (fits-lit tt)
+
+shared-slice-read-clock : tie.Need-shared-slice-read-clock
+shared-slice-read-clock c = lists-reach _ _ _ _ (sym (c .before .before .before .lists-reach .ensures) ∙ c .before .before .if2 .taken) .1
+
+worked-requires : tie.Need-worked-requires
+worked-requires c κs = let b = c .before .before .before .before .controlling in rw (b .ensures) (controlling-small _)
+
+returns : tie.Need-returns
+unfolding doneOf
+returns c n row e = rw (← c .before .before .before .before .before .before .before .in-domain .ensures, c .before .before .before .before .before .before .if1 .taken, ← c .before .before .before .before .before .controlling .ensures, ← c .before .before .before .before .lists-reach .ensures, c .before .before .before .if2 .taken, ← c .before .before .before .before .before .controlling .ensures, ← c .worked .ensures n row e)
+
+refused-done-requires : tie.Need-refused-done-requires
+refused-done-requires c κs = search needs
+
+returns-2 : tie.Need-returns-2
+unfolding doneOf
+returns-2 c n row e = rw (← c .before .before .before .before .before .in-domain .ensures, c .before .before .before .before .if1 .taken, ← c .before .before .before .controlling .ensures, ← c .before .before .lists-reach .ensures, c .before .if2 .left, ← c .refused-done .ensures)
+
+refused-done-requires-2 : tie.Need-refused-done-requires-2
+refused-done-requires-2 c κs = search needs
+
+returns-3 : tie.Need-returns-3
+unfolding doneOf
+returns-3 c n row e = rw (← c .before .before .in-domain .ensures, c .before .if1 .left, ← c .refused-done2 .ensures)
+
+pub searched-spec : {M : Type 1} → statement M
+searched-spec =
+    tie.close
+    (tie.spec
+    in-domain-requires
+    controlling-requires
+    lists-reach-requires
+    mul-lat
+    shared-slice-read-lat
+    mul-clock
+    shared-slice-read-clock
+    worked-requires
+    returns
+    refused-done-requires
+    returns-2
+    refused-done-requires-2
+    returns-3)

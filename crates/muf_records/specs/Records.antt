@@ -1,0 +1,52 @@
+-- The circuit MUF over a lent list of Es records: what it answers, and the records after.
+use mathlib.Core.Bool.{Bool, true, false}
+use mathlib.Core.List.{List, []}
+use Prim.Native.Nat.{ℕ}
+use lib.Dec.{ltb}
+use lib.ListN.{length, getD, set}
+use lib.Ieee.{Float, nan}
+use Rattle.layers.specs.State.{at}
+use Rattle.layers.specs.declared.IonoState.{IonoState}
+use Rattle.layers.specs.declared.EsParams.{EsParams}
+use Rattle.layer_mufs.specs.declared.Circuit.{Circuit}
+use Rattle.muf.specs.Sporadic.{nextBy, esRowOf}
+use Rattle.muf.specs.Curmuf.{rowsBy, doneOf}
+use Rattle.muf.specs.declared.EsRow.{EsRow}
+use Rattle.muf.specs.declared.EsStep.{EsStep}
+use Rattle.muf.specs.declared.MufAnswer.{MufAnswer}
+use Rattle.muf.specs.declared.Done.{Done}
+
+-- past the end, where no code reads
+abbrev pub noEs : EsParams
+noEs = record { fs = []; hs = nan }
+
+abbrev pub rowOf : EsParams → EsRow
+rowOf e = record { fs0 = at (e .fs) 0; fs1 = at (e .fs) 1; fs2 = at (e .fs) 2; hs = e .hs }
+
+abbrev pub recordAt : List EsParams → ℕ → EsRow
+recordAt es k = rowOf (getD es k noEs)
+
+-- the rows that there are, at most km
+abbrev pub takenRows : ℕ → ℕ → ℕ
+takenRows there km = rowsBy (ltb there km) there km
+
+unfoldable pub recordsDoneOf : IonoState → List EsParams → List Float → List Float → List Float → Circuit → Done
+recordsDoneOf s es f2d clat clck c = doneOf s (takenRows (length es) (s .km)) (recordAt es) f2d clat clck c
+
+-- row k's turn, where no row before it was refused
+unfoldable pub turnOf : EsStep → ℕ → EsParams → Circuit → EsStep
+turnOf step k e c = nextBy step (λ a. esRowOf a k (rowOf e) c)
+
+-- only the controlling row's lower decile is rewritten
+abbrev pub lowered : EsParams → Float → EsParams
+lowered e lower = record { fs = set (e .fs) 0 lower; hs = e .hs }
+
+abbrev pub recordsBy : Bool → List EsParams → ℕ → Float → List EsParams
+recordsBy true es ksx lower = set es ksx (lowered (getD es ksx noEs) lower)
+recordsBy false es ksx lower = es
+
+abbrev pub recordsMufOf : IonoState → List EsParams → List Float → List Float → List Float → Circuit → MufAnswer
+recordsMufOf s es f2d clat clck c = recordsDoneOf s es f2d clat clck c .answer
+
+abbrev pub recordsAfterOf : IonoState → List EsParams → List Float → List Float → List Float → Circuit → List EsParams
+recordsAfterOf s es f2d clat clck c = let d = recordsDoneOf s es f2d clat clck c in recordsBy (d .rewrites) es (d .ksx) (d .lower)

@@ -1,0 +1,106 @@
+// The circuit MUF over a lent list of Es records.
+ghost use mathlib.Core.Path.{_≡_};
+ghost use Prim.Native.Nat.{_<_};
+ghost use mathlib.Core.Bool.{true};
+ghost use lib.ListN.{length};
+ghost use Rattle.muf.specs.Sporadic.{startOf, esFrom};
+ghost use Rattle.muf_records.specs.Records.{rowOf, recordAt, takenRows, turnOf, lowered, recordsBy, recordsMufOf, recordsAfterOf};
+ghost use Rattle.muf.specs.declared.EsStep.{EsStep};
+use layer_mufs::Circuit;
+use layers::EsParams;
+use layers::IonoState;
+use muf::Done;
+use muf::EsRow;
+use muf::EsStep;
+use muf::MufAnswer;
+
+fn row(e: EsParams) -> EsRow
+    ensures { λ r. ⌜ r ≡ rowOf e ⌝ }
+{
+    let fs = e.fs;
+    EsRow {
+        fs0: fs[0],
+        fs1: fs[1],
+        fs2: fs[2],
+        hs: e.hs,
+    }
+}
+
+// The rows that there are, at most km.
+fn rows_taken(there: usize, km: usize) -> usize
+    ensures { λ r. ⌜ r ≡ takenRows there km ⌝ }
+{
+    if there < km {
+        return there;
+    }
+    km
+}
+
+// No row controls yet.
+fn first() -> EsStep
+    ensures { λ r. ⌜ r ≡ EsStep.Next startOf ⌝ }
+{
+    let a = muf::es_start();
+    EsStep::Next(a)
+}
+
+// Row k's turn, where no row before it was refused.
+fn turn(step: EsStep, k: usize, e: EsParams, c: Circuit) -> EsStep
+    ensures { λ r. ⌜ r ≡ turnOf step k e c ⌝ }
+{
+    match step {
+        EsStep::Refused(r) => EsStep::Refused(r),
+        EsStep::Next(a) => muf::es_row(a, k, row(e), c),
+    }
+}
+
+// The rows in order, at most km of them.
+fn search(es: &[EsParams], km: usize, c: Circuit) -> EsStep
+    ensures { λ r. ⌜ r ≡ esFrom (recordAt (now (es .entry))) c (takenRows (length (now (es .entry))) km) 0 startOf ⌝ }
+{
+    let n = rows_taken(es.len(), km);
+    let mut step = first();
+    let mut k = 0;
+    while k < n {
+        step = turn(step, k, es[k], c);
+        k = k + 1;
+    }
+    step
+}
+
+fn with_lower(e: EsParams, lower: f32) -> EsParams
+    ensures { λ r. ⌜ r ≡ lowered e lower ⌝ }
+{
+    let mut fs = e.fs;
+    fs[0] = lower;
+    EsParams { fs, hs: e.hs }
+}
+
+// Only the controlling row's lower decile is rewritten.
+fn rewrite(es: &mut [EsParams], d: Done) -> MufAnswer
+    requires { ⌜ (d .rewrites ≡ true → d .ksx < length (now es)) ⌝ }
+    ensures { λ r. ⌜ (r ≡ d .answer) × (now (es .exit) ≡ recordsBy (d .rewrites) (now (es .entry)) (d .ksx) (d .lower)) ⌝ }
+{
+    if d.rewrites {
+        let k = d.ksx;
+        es[k] = with_lower(es[k], d.lower);
+    }
+    d.answer
+}
+
+// The MUF hour. Only the controlling Es row's lower decile is rewritten.
+pub fn curmuf_records(
+    s: IonoState,
+    es: &mut [EsParams],
+    f2d: &[f32],
+    clat: &[f32],
+    clck: &[f32],
+    c: Circuit,
+) -> MufAnswer
+    ensures { λ r. ⌜ (r ≡ recordsMufOf s (now (es .entry)) (now (f2d .entry)) (now (clat .entry)) (now (clck .entry)) c)
+        × (now (es .exit) ≡ recordsAfterOf s (now (es .entry)) (now (f2d .entry)) (now (clat .entry)) (now (clck .entry)) c) ⌝ }
+{
+    let step = search(es, s.km, c);
+    let d = muf::searched(s, step, f2d, clat, clck, c);
+    rewrite(es, d)
+}
