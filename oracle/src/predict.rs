@@ -93,6 +93,12 @@ fn controlling(state: &State, call: &Hour) -> (usize, Vec<i32>) {
     (hour[KS] as usize, routing::take_hops())
 }
 
+/// The hop counts of a circuit MUF, before their plus one: E, F2, F1 if there
+/// is one, Es by point.
+pub fn hop_counts(state: &State, call: &Hour) -> Vec<i32> {
+    controlling(state, call).1
+}
+
 /// The slot that a circuit MUF picks: none where it is refused 9, or 10 for
 /// its deciles.
 pub fn picks(state: &State, call: &Hour) -> Option<usize> {

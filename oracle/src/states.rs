@@ -408,7 +408,10 @@ pub fn clock(r: &mut Random) -> f32 {
     match r.below(8) {
         0 => r.wild(),
         1 => {
-            let edge = r.pick(&[-2.2, -3.0, 1.8, 5.8, 17.8, 21.8, 24.0, 25.8]);
+            let edges = [
+                -6.2, -3.0, -2.2, 1.8, 5.8, 9.8, 13.8, 17.8, 21.8, 24.0, 25.8,
+            ];
+            let edge = r.pick(&edges);
             r.beside(edge, 2)
         }
         _ => r.tabled(0.0, 24.0),

@@ -3,7 +3,7 @@ use mathlib.Core.Path.{_≡_, refl, ap, sym, _∙_}
 use mathlib.Core.Bool.{Bool, true, false}
 use mathlib.Core.Logic.{_⊎_, inl, inr}
 use mathlib.Core.List.{List}
-use Prim.Native.Nat.{ℕ, zero, suc, _+_, _*_, _/_, _<_, _≤_}
+use Prim.Native.Nat.{ℕ, zero, suc, _+_, _-_, _*_, _/_, _<_, _≤_}
 use native.Mathlib.Omega.{arith}
 use native.Mathlib.Nat.{div-add-mod'}
 use lib.Dec.{ltb}
@@ -126,3 +126,12 @@ unfolding flatOf
 flat-below s es f2d clat clck c e =
     let h = done-below s (rowsOf (length es) (s .km)) (rowAt es) f2d clat clck c e in
     omega (arith, rows-there (length es) (s .km))
+
+-- of n rows those from k on: row k, then the rest; after the last, none
+pub one-more : (row : ℕ → EsRow) (c : Circuit) (n k : ℕ) (a : EsSearch) → k < n → esFrom row c (n - k) k a ≡ nextBy (esRowOf a k (row k) c) (λ b. esFrom row c (n - (k + 1)) (k + 1) b)
+unfolding esFrom
+one-more row c n k a h = let e : n - k ≡ suc (n - (k + 1)) = omega arith in rw e
+
+pub none-left : (row : ℕ → EsRow) (c : Circuit) (k : ℕ) (a : EsSearch) → esFrom row c 0 k a ≡ EsStep.Next a
+unfolding esFrom
+none-left row c k a = refl

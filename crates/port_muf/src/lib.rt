@@ -1,5 +1,5 @@
-// The F2 deciles for callers in any language: words in, words out. Each function
-// answers 0, or the number of its refusal, and then leaves every lent word as it was.
+// The F2 deciles and the circuit MUF for callers in any language: words in, words out. Each
+// function answers 0, or the number of its refusal, and then leaves every lent word as it was.
 ghost use mathlib.Core.Path.{_≡_};
 ghost use Prim.Native.Nat.{_≤_};
 ghost use lib.ListN.{length};
@@ -8,6 +8,8 @@ ghost use Rattle.port_state.specs.Words.{floatsOf, floatsInto};
 ghost use Rattle.deciles.specs.F2dis.{deviationNumber};
 ghost use Rattle.port_muf.specs.Exports.{deviationValues, f2disLeft};
 use deciles::Deviation;
+
+pub mod hour;
 
 fn floats_576(w: &[u32]) -> [f32; 576]
     requires { ⌜ 576 ≤ length (now w) ⌝ }

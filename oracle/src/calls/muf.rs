@@ -28,8 +28,30 @@ pub fn curmuf(r: &mut Random) -> Call {
         states::any(r)
     };
     let mut hour = states::hour(r);
+    if r.once_in(6) {
+        many_hops(r, &state, &mut hour);
+    }
     hour.numbers = resized(r, &hour.numbers);
     curmuf_call(resized(r, &state), hour, room(r, HOUR))
+}
+
+/// So steep and so far that some layer needs about a thousand hops.
+fn many_hops(r: &mut Random, state: &State, hour: &mut Hour) {
+    let far = 40_000.0;
+    let amind = r.between(75.0, 89.97);
+    let path = |gcdkm: f32| bits(&[gcdkm / 6370.0, gcdkm, amind, 100.0]);
+    hour.numbers = path(far);
+    let counts = predict::hop_counts(state, hour);
+    let hops = r.pick(&counts) as f32;
+    if hops > 1000.0 {
+        let near = far * r.between(998.0, 1002.0) / hops;
+        hour.numbers = path(near);
+    }
+}
+
+/// Of a row only the lower decile is ever written; all else keeps its bits.
+fn lower_deciles(i: usize) -> bool {
+    i % ES_ROW == 0
 }
 
 fn curmuf_call(given: Vec<u32>, hour: Hour, mut out: Vec<u32>) -> Call {
@@ -53,7 +75,7 @@ fn curmuf_call(given: Vec<u32>, hour: Hour, mut out: Vec<u32>) -> Call {
         lent: vec![
             Lent::new("hour", out, &before, part(|w| &w.2), hour_floats),
             Lent::new("state", state, &given, part(|w| &w.0), state_floats),
-            Lent::new("es", es, &hour.es, part(|w| &w.1), all_floats),
+            Lent::new("es", es, &hour.es, part(|w| &w.1), lower_deciles),
         ],
         given: vec![
             ("state", given),

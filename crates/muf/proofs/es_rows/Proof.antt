@@ -1,24 +1,12 @@
 -- What the rows that are left do to the search so far is what all rows do to its start.
-use mathlib.Core.Path.{_≡_, refl, sym, _∙_}
-use Prim.Native.Nat.{ℕ, suc, _≤_, _<_, _+_, _-_}
-use native.Mathlib.Nat.{le-antisymm}
+use mathlib.Core.Path.{_≡_}
+use Prim.Native.Nat.{_≤_, _-_}
 use native.Mathlib.Omega.{arith}
 use borrow.Author.Needs.{needs}
-use Rattle.layer_mufs.specs.declared.Circuit.{Circuit}
-use Rattle.muf.specs.Sporadic.{rowAt, esRowOf, nextBy, esFrom, startOf}
-use Rattle.muf.specs.declared.EsRow.{EsRow}
-use Rattle.muf.specs.declared.EsSearch.{EsSearch}
-use Rattle.muf.specs.declared.EsStep.{EsStep}
+use Rattle.muf.specs.Sporadic.{rowAt, esFrom, startOf}
+use Rattle.muf.proofs.Rows.{one-more, none-left}
 use Rattle.muf.proofs.es_rows.Statement.{statement}
 use Rattle.muf.proofs.es_rows.Tie as tie
-
-one-more : (row : ℕ → EsRow) (c : Circuit) (n k : ℕ) (a : EsSearch) → k < n → esFrom row c (n - k) k a ≡ nextBy (esRowOf a k (row k) c) (λ b. esFrom row c (n - (k + 1)) (k + 1) b)
-unfolding esFrom
-one-more row c n k a h = let e : n - k ≡ suc (n - (k + 1)) = omega arith in rw e
-
-none-left : (row : ℕ → EsRow) (c : Circuit) (k : ℕ) (a : EsSearch) → esFrom row c 0 k a ≡ EsStep.Next a
-unfolding esFrom
-none-left row c k a = refl
 
 abbrev Inv-loop : tie.InvT-loop
 Inv-loop es n c a₀ k₀ a k = (k ≤ n) × (esFrom (rowAt es) c (n - k) k a ≡ esFrom (rowAt es) c n 0 startOf)

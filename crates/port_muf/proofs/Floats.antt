@@ -1,0 +1,66 @@
+-- A list's words as floats: one at a time, all 576 deciles, and a call whose lists are words.
+use mathlib.Core.Path.{_≡_, refl}
+use mathlib.Core.Bool.{true, false}
+use mathlib.Core.List.{List, [], _∷_}
+use Prim.Native.Nat.{ℕ, zero, suc, _*_, _<_}
+use native.Mathlib.Nat.{le-of-suc-le-suc, not-suc-le-zero, le-of-eq}
+use native.Mathlib.Omega.{arith}
+use lib.ListN.{length, getD, length-map}
+use lib.Seq.{take-all}
+use lib.Ieee.{Float, binary32, ofBits}
+use Rattle.refusal.specs.declared.Refusal.{Refusal}
+use Rattle.layers.specs.State.{at}
+use Rattle.layers.specs.declared.IonoState.{IonoState}
+use Rattle.layer_mufs.specs.Controlling.{controllingOf}
+use Rattle.layer_mufs.specs.declared.Circuit.{Circuit}
+use Rattle.muf.specs.Sporadic.{rowAt}
+use Rattle.muf.specs.Curmuf.{doneBy, doneOf, flatOf, inDomain, listsReach, refusedDone, rowsOf, workedOf}
+use Rattle.muf.specs.declared.Done.{Done}
+use Rattle.muf.proofs.Rows.{flat-below}
+use Rattle.muf.proofs.Lists.{deciles-whole, lists-reach}
+use Rattle.port_state.specs.Words.{floatsOf}
+use Rattle.port_muf.specs.Exports.{floats}
+
+pub float-at : (w : List ℕ) (i : ℕ) → i < length w → at (floats w) i ≡ ofBits binary32 (getD w i 0)
+float-at [] i h = absurd (not-suc-le-zero h)
+float-at (x ∷ w) zero h = refl
+float-at (x ∷ w) (suc i) h = float-at w i (le-of-suc-le-suc h)
+
+pub all-of : (w : List ℕ) → length w ≡ 576 → floatsOf w 0 576 ≡ floats w
+unfolding floatsOf
+all-of w h = rw (take-all 576 w (le-of-eq h))
+
+module _ (s : IonoState) (es deciles clat clck : List ℕ) (c : Circuit) where
+  -- the lists by the lengths of their words
+  by-lengths : flatOf s (floats es) (floats deciles) (floats clat) (floats clck) c ≡ doneBy (inDomain c) (listsReach (controllingOf s) (length deciles) (length clat) (length clck)) s (rowsOf (length es) (s .km)) (rowAt (floats es)) (floats deciles) (floats clat) (floats clck) c
+  unfolding flatOf doneOf
+  by-lengths = rw (length-map es (ofBits binary32), length-map deciles (ofBits binary32), length-map clat (ofBits binary32), length-map clck (ofBits binary32))
+
+  pub not-in-domain : inDomain c ≡ false → refusedDone s Refusal.MufInput ≡ flatOf s (floats es) (floats deciles) (floats clat) (floats clck) c
+  not-in-domain p = rw (by-lengths, p)
+
+  pub lists-short : (ks : ℕ) → ks ≡ controllingOf s → inDomain c ≡ true → listsReach ks (length deciles) (length clat) (length clck) ≡ false → refusedDone s Refusal.MufLists ≡ flatOf s (floats es) (floats deciles) (floats clat) (floats clck) c
+  lists-short ks e p q = rw (by-lengths, p, ← e, q)
+
+  pub taken-up : (ks : ℕ) (f2d : List Float) (lat clock : Float) → ks ≡ controllingOf s → inDomain c ≡ true → listsReach ks (length deciles) (length clat) (length clck) ≡ true → f2d ≡ floatsOf deciles 0 576 → lat ≡ ofBits binary32 (getD clat ks 0) → clock ≡ ofBits binary32 (getD clck ks 0) → workedOf s ks (rowsOf (length es) (s .km)) (rowAt (floats es)) f2d lat clock c ≡ flatOf s (floats es) (floats deciles) (floats clat) (floats clck) c
+  taken-up ks f2d lat clock e p q d a t =
+      let r = lists-reach ks (length deciles) (length clat) (length clck) q in
+      rw (
+        by-lengths,
+        p,
+        ← e,
+        q,
+        ← e,
+        d,
+        all-of deciles (deciles-whole ks (length deciles) (length clat) (length clck) q),
+        a,
+        t,
+        ← float-at clat ks (r .0),
+        ← float-at clck ks (r .1),
+      )
+
+  -- the row that is rewritten is there
+  pub row-there : (d : Done) → d ≡ flatOf s (floats es) (floats deciles) (floats clat) (floats clck) c → d .rewrites ≡ true → 4 * d .ksx < length es
+  row-there d e h =
+      let b : 4 * d .ksx < length (floats es) = rw e (flat-below s (floats es) (floats deciles) (floats clat) (floats clck) c (rw (← e) h)) in
+      omega (arith, length-map es (ofBits binary32))

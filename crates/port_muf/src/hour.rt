@@ -1,0 +1,248 @@
+// The circuit MUF on words. Es rows may be any number: each is read when its turn comes.
+ghost use mathlib.Core.Path.{_≡_};
+ghost use mathlib.Core.Bool.{true};
+ghost use Prim.Native.Nat.{_+_, _*_, _<_, _≤_};
+ghost use lib.ListN.{length};
+ghost use denote.Ref.{now};
+ghost use Rattle.port_state.specs.Words.{floatsInto};
+ghost use Rattle.muf.specs.Sporadic.{rowAt, esFrom, startOf};
+ghost use Rattle.muf.specs.Curmuf.{rowsOf, workedOf, flatOf};
+ghost use Rattle.port_muf.specs.Exports.{floats, left, circuitOf, tenInto, lineInto, headInto, hourInto, wordsBy, doneLeft, curmufLeft};
+use layer_mufs::Circuit;
+use layers::IonoState;
+use layers::LayerMuf;
+use muf::Done;
+use muf::EsRow;
+use muf::EsStep;
+use muf::MufHour;
+use muf::ThreeAnswer;
+use refusal::Outcome;
+use refusal::Refusal;
+
+fn word_row(es: &[u32], k: usize) -> EsRow
+    requires { ⌜ 4 * k + 3 < length (now es) ⌝ }
+    ensures { λ r. ⌜ r ≡ rowAt (floats (now (es .entry))) k ⌝ }
+{
+    let lower = 4 * k;
+    let median = 4 * k + 1;
+    let upper = 4 * k + 2;
+    let height = 4 * k + 3;
+    let fs0 = scalar::number(es[lower]);
+    let fs1 = scalar::number(es[median]);
+    let fs2 = scalar::number(es[upper]);
+    let hs = scalar::number(es[height]);
+    EsRow { fs0, fs1, fs2, hs }
+}
+
+// The first n rows, in order.
+fn word_rows(es: &[u32], n: usize, c: Circuit) -> EsStep
+    requires { ⌜ 4 * n ≤ length (now es) ⌝ }
+    ensures { λ r. ⌜ r ≡ esFrom (rowAt (floats (now (es .entry)))) c n 0 startOf ⌝ }
+{
+    let mut a = muf::es_start();
+    for k in 0..n {
+        let row = word_row(es, k);
+        let step = muf::es_row(a, k, row, c);
+        match step {
+            EsStep::Refused(r) => {
+                return EsStep::Refused(r);
+            }
+            EsStep::Next(b) => {
+                a = b;
+            }
+        }
+    }
+    EsStep::Next(a)
+}
+
+// All that an accepted call works out, as `curmuf` does.
+fn worked(
+    s: IonoState,
+    ks: usize,
+    es: &[u32],
+    f2d: &[f32],
+    clat: f32,
+    clck: f32,
+    c: Circuit,
+) -> Done
+    requires { ⌜ ks < 3 ⌝ }
+    ensures { λ r. ⌜ r ≡ workedOf s ks (rowsOf (length (now (es .entry))) (s .km)) (rowAt (floats (now (es .entry)))) (now (f2d .entry)) clat clck c ⌝ }
+{
+    let t = profile::lecden_slot(s, ks);
+    let l = layer_mufs::slot(t, ks);
+    let found = muf::three_lines(t, l, ks, f2d, clat, clck, c);
+    match found {
+        ThreeAnswer::Refused(r) => muf::refused_done(s, r),
+        ThreeAnswer::Found(m) => {
+            let n = muf::row_count(es.len(), s.km);
+            let step = word_rows(es, n, c);
+            muf::finish(s, t, l.fi0, m, ks, step)
+        }
+    }
+}
+
+// The whole call but for what it writes.
+fn called(s: IonoState, es: &[u32], deciles: &[u32], clat: &[u32], clck: &[u32], c: Circuit) -> Done
+    ensures { λ r. ⌜ r ≡ flatOf s (floats (now (es .entry))) (floats (now (deciles .entry))) (floats (now (clat .entry))) (floats (now (clck .entry))) c ⌝ }
+{
+    if muf::in_domain(c) {
+        let ks = layer_mufs::controlling(s);
+        if muf::lists_reach(ks, deciles.len(), clat.len(), clck.len()) {
+            let f2d = super::floats_576(deciles);
+            let lat = scalar::number(clat[ks]);
+            let clock = scalar::number(clck[ks]);
+            return worked(s, ks, es, &f2d, lat, clock, c);
+        }
+        return muf::refused_done(s, Refusal::MufLists);
+    }
+    muf::refused_done(s, Refusal::MufInput)
+}
+
+fn circuit_of(numbers: &[u32]) -> Circuit
+    requires { ⌜ 4 ≤ length (now numbers) ⌝ }
+    ensures { λ r. ⌜ r ≡ circuitOf (now (numbers .entry)) ⌝ }
+{
+    let gcd = scalar::number(numbers[0]);
+    let gcdkm = scalar::number(numbers[1]);
+    let amind = scalar::number(numbers[2]);
+    let ssn = scalar::number(numbers[3]);
+    Circuit {
+        gcd,
+        gcdkm,
+        amind,
+        ssn,
+    }
+}
+
+fn seven_into(x: [f32; 7], out: &mut [u32], from: usize)
+    requires { ⌜ from + 7 ≤ length (now out) ⌝ }
+    ensures { λ r. ⌜ now (out .exit) ≡ floatsInto (now (out .entry)) from x ⌝ }
+{
+    port_state::floats_into(&x, out, from);
+}
+
+fn three_into(x: [f32; 3], out: &mut [u32], from: usize)
+    requires { ⌜ from + 3 ≤ length (now out) ⌝ }
+    ensures { λ r. ⌜ now (out .exit) ≡ floatsInto (now (out .entry)) from x ⌝ }
+{
+    port_state::floats_into(&x, out, from);
+}
+
+// All of a line but its hop count, which stands at word 7.
+fn ten_into(l: LayerMuf, out: &mut [u32], from: usize)
+    requires { ⌜ from + 11 ≤ length (now out) ⌝ }
+    ensures { λ r. ⌜ now (out .exit) ≡ tenInto l from (now (out .entry)) ⌝ }
+{
+    let x = [l.sigl, l.sigu, l.delmuf, l.hpmuf, l.htmuf, l.fvmuf, l.afmuf];
+    let y = [l.yfot, l.ymuf, l.yhpf];
+    let deciles = from + 8;
+    seven_into(x, out, from);
+    three_into(y, out, deciles);
+}
+
+fn line_into(l: LayerMuf, out: &mut [u32], from: usize)
+    requires { ⌜ from + 11 ≤ length (now out) ⌝ }
+    ensures { λ r. ⌜ now (out .exit) ≡ lineInto l from (now (out .entry)) ⌝ }
+{
+    let hops = from + 7;
+    let nhopmf = l.nhopmf;
+    ten_into(l, out, from);
+    out[hops] = port_state::word(nhopmf);
+}
+
+fn head_into(h: MufHour, out: &mut [u32])
+    requires { ⌜ 10 ≤ length (now out) ⌝ }
+    ensures { λ r. ⌜ now (out .exit) ≡ headInto h (now (out .entry)) ⌝ }
+{
+    let x = [
+        h.emuf,
+        h.f1muf,
+        h.f2muf,
+        h.esmuf,
+        h.allmuf,
+        h.fot,
+        h.hpf,
+        h.angmuf,
+    ];
+    let modmuf = h.modmuf;
+    let ks = h.ks;
+    port_state::floats_into(&x, out, 0);
+    out[8] = port_state::word(modmuf);
+    out[9] = (ks % 4294967296) as u32;
+}
+
+fn hour_into(h: MufHour, out: &mut [u32])
+    requires { ⌜ 54 ≤ length (now out) ⌝ }
+    ensures { λ r. ⌜ now (out .exit) ≡ hourInto h (now (out .entry)) ⌝ }
+{
+    let layers = h.layers;
+    let e = layers[0];
+    let f1 = layers[1];
+    let f2 = layers[2];
+    let es = layers[3];
+    head_into(h, out);
+    line_into(e, out, 10);
+    line_into(f1, out, 21);
+    line_into(f2, out, 32);
+    line_into(es, out, 43);
+}
+
+// The row that is rewritten is there.
+fn es_into(rewrites: bool, ksx: usize, lower: f32, es: &mut [u32])
+    requires { ⌜ (rewrites ≡ true → 4 * ksx < length (now es)) ⌝ }
+    ensures { λ r. ⌜ now (es .exit) ≡ wordsBy rewrites (now (es .entry)) ksx lower ⌝ }
+{
+    if rewrites {
+        let at = 4 * ksx;
+        es[at] = scalar::bits(lower);
+        return;
+    }
+}
+
+fn done_into(d: Done, state: &mut [u32], es: &mut [u32], out: &mut [u32]) -> u32
+    requires { ⌜ (153 ≤ length (now state)) × (54 ≤ length (now out)) × (d .rewrites ≡ true → 4 * d .ksx < length (now es)) ⌝ }
+    ensures { λ r. ⌜ left r (now (state .exit)) (now (es .exit)) (now (out .exit)) ≡ doneLeft d (now (state .entry)) (now (es .entry)) (now (out .entry)) ⌝ }
+{
+    let a = d.answer;
+    let o = a.outcome;
+    match o {
+        Outcome::Refused(r) => refusal::number(r),
+        Outcome::Answered => {
+            let s = a.state;
+            let h = a.hour;
+            port_state::state_into(s, state);
+            es_into(d.rewrites, d.ksx, d.lower, es);
+            hour_into(h, out);
+            0
+        }
+    }
+}
+
+// state 153 words; es 4 words a row: fs 3, hs; deciles 576; numbers: gcd, gcdkm, amind, ssn;
+// out 54: the hour's numbers, its mode and controlling slot, four lines of eleven words
+#[no_mangle]
+pub extern "C" fn port_curmuf(
+    state: &mut [u32],
+    es: &mut [u32],
+    deciles: &[u32],
+    clat: &[u32],
+    clck: &[u32],
+    numbers: &[u32],
+    out: &mut [u32],
+) -> u32
+    ensures { λ r. ⌜ left r (now (state .exit)) (now (es .exit)) (now (out .exit)) ≡ curmufLeft (now (state .entry)) (now (es .entry)) (now (deciles .entry)) (now (clat .entry)) (now (clck .entry)) (now (numbers .entry)) (now (out .entry)) ⌝ }
+{
+    if state.len() < 153 {
+        return 1;
+    }
+    if numbers.len() < 4 {
+        return 1;
+    }
+    if out.len() < 54 {
+        return 1;
+    }
+    let s = port_state::state_of(state);
+    let c = circuit_of(numbers);
+    let d = called(s, es, deciles, clat, clck, c);
+    done_into(d, state, es, out)
+}
