@@ -11,8 +11,6 @@ use Rattle.refusal.specs.declared.Refusal.{Refusal}
 use Rattle.refusal.specs.declared.Outcome.{Outcome}
 use Rattle.port_state.specs.Ports.{Ported, refusedWith}
 use Rattle.port_state.specs.State.{stateOf, stateInto}
-use Rattle.layers.specs.declared.IonoState.{IonoState}
-use Rattle.layers.specs.declared.LayerMuf.{LayerMuf}
 use Rattle.ionogram.specs.Angles.{sangOf}
 use Rattle.ionogram.specs.Selmod.{selmodOf}
 use Rattle.ionogram.specs.Fobby.{fobbyOutcome, cellsAfter}

@@ -1,6 +1,6 @@
 // The exported calls. Lengths are checked first; a refused call leaves every word.
 ghost use mathlib.Core.Path.{_≡_};
-ghost use Prim.Native.Nat.{_+_, _*_, _≤_};
+ghost use Prim.Native.Nat.{_*_, _≤_};
 ghost use lib.ListN.{length};
 ghost use denote.Ref.{now};
 ghost use Rattle.ionogram.specs.Fobby.{cellsAfter};

@@ -1,3 +1,4 @@
+-- The four columns one after the other.
 use Rattle.port_ionogram.specs.Layouts.{ionogramInto}
 use borrow.Author.Needs.{needs}
 use Rattle.port_ionogram.proofs.layouts.ionogram_into.Statement.{statement}

@@ -1,3 +1,4 @@
+-- Column by column.
 use Rattle.port_ionogram.specs.Layouts.{ionogramOf}
 use borrow.Author.Needs.{needs}
 use Rattle.port_ionogram.proofs.layouts.ionogram_of.Statement.{statement}

@@ -1,3 +1,4 @@
+-- Field by field.
 use mathlib.Core.Path.{_≡_, _∙_}
 use mathlib.Core.List.{List}
 use Prim.Native.Nat.{ℕ, _+_}
@@ -11,7 +12,6 @@ use borrow.Author.Needs.{needs, sfits-of}
 use Rattle.port_ionogram.proofs.layouts.line_of.Statement.{statement}
 use Rattle.port_ionogram.proofs.layouts.line_of.Tie as tie
 
--- field by field
 line : (w : List ℕ) (i : ℕ) (sigl sigu delmuf hpmuf htmuf fvmuf afmuf : Float) (nhopmf : ℤ) (yfot ymuf yhpf : Float)
     → sigl ≡ number w i → sigu ≡ number w (i + 1) → delmuf ≡ number w (i + 2) → hpmuf ≡ number w (i + 3) → htmuf ≡ number w (i + 4) → fvmuf ≡ number w (i + 5) → afmuf ≡ number w (i + 6)
     → nhopmf ≡ signedOf (word w (i + 7)) → yfot ≡ number w (i + 8) → ymuf ≡ number w (i + 9) → yhpf ≡ number w (i + 10)

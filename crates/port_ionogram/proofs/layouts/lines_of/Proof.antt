@@ -1,3 +1,4 @@
+-- Line by line.
 use Rattle.port_ionogram.specs.Layouts.{linesOf}
 use borrow.Author.Needs.{needs}
 use Rattle.port_ionogram.proofs.layouts.lines_of.Statement.{statement}
