@@ -1,7 +1,7 @@
 //! Our exports beside the Rust's native build on the same realistic states,
 //! in one run: nanoseconds for each call and their ratio.
 //!
-//! bench [STATES] [SEED]: 300 states by default.
+//! bench [STATES] [SEED] [NAME..]: 300 states and all names by default.
 
 use oracle::ours;
 use oracle::random::Random;
@@ -234,14 +234,18 @@ fn main() {
     let hours: Vec<Hourly> = (0..argument(1, 300))
         .map(|_| Hourly::new(&mut random))
         .collect();
+    let named: Vec<String> = std::env::args().skip(3).collect();
+    let chosen = |name: &str| named.is_empty() || named.iter().any(|n| n == name);
     let timed: Vec<Timed> = TIMED
         .into_iter()
-        .filter(|t| ours::all_built(&[t.0]))
+        .filter(|t| chosen(t.0) && ours::all_built(&[t.0]))
         .collect();
     let times = measure(&hours, &timed);
     let times: Vec<(&str, Times)> = timed.iter().map(|t| t.0).zip(times).collect();
     for (name, times) in &times {
         print_times(name, *times);
     }
-    print_shares(&times);
+    if named.is_empty() {
+        print_shares(&times);
+    }
 }
