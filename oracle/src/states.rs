@@ -439,8 +439,27 @@ pub fn spread(r: &mut Random) -> Vec<u32> {
     bits(&[fmuf, ssn, latitude(r), freq, clock(r)])
 }
 
-/// Four layer lines: as an hour leaves them, and wild ones.
+/// Four layer lines: those of an hour, about the same, and wild ones.
 pub fn layers(r: &mut Random) -> Vec<u32> {
+    let mut w = if r.once_in(3) {
+        hour_layers(r)
+    } else {
+        plausible_layers(r)
+    };
+    if r.once_in(3) {
+        spoil(r, &mut w);
+    }
+    w
+}
+
+/// As the Rust's circuit MUF leaves them.
+fn hour_layers(r: &mut Random) -> Vec<u32> {
+    let state = slots(r);
+    let call = plain_hour(r, state[KM] as usize);
+    side::curmuf(&state, &call).2[KS + 1..].to_vec()
+}
+
+fn plausible_layers(r: &mut Random) -> Vec<u32> {
     let mut w = vec![0; LAYERS];
     for l in 0..4 {
         let ht = r.between(90.0, 350.0);
@@ -452,9 +471,6 @@ pub fn layers(r: &mut Random) -> Vec<u32> {
             line[i] = r.between(0.0, 30.0).to_bits();
         }
     }
-    if r.once_in(3) {
-        spoil(r, &mut w);
-    }
     w
 }
 
@@ -465,9 +481,21 @@ pub fn rows(r: &mut Random) -> Vec<u32> {
     match r.below(4) {
         0 => spoil(r, &mut w),
         1 => w.fill_with(|| r.wild().to_bits()),
+        2 => bend_rows(r, &mut w),
         _ => {}
     }
     w
+}
+
+/// Frequencies about the ends of i32 as kHz, heights about the Earth's centre
+/// and its surface.
+fn bend_rows(r: &mut Random, w: &mut [u32]) {
+    for _ in 0..1 + r.below(6) {
+        let fvert = r.pick(&[2147483.6, -2147483.6, 2147.4836, 1e-3, f32::NAN, -0.0]);
+        let htrue = r.pick(&[-6370.0, -12740.0, 0.0, -0.0, 1.0, f32::INFINITY]);
+        w[r.below(30)] = r.beside(fvert, 2).to_bits();
+        w[TRUE + r.below(30)] = r.beside(htrue, 2).to_bits();
+    }
 }
 
 /// A distance and least angle for `sang`.

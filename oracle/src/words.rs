@@ -24,6 +24,8 @@ pub const ES_ROW: usize = 4;
 /// One layer's MUF line, the hop count at place 7.
 pub const LAYER: usize = 11;
 pub const HOPS: usize = 7;
+/// The true height at the layer's MUF.
+pub const HEIGHT: usize = 4;
 /// Four layer lines.
 pub const LAYERS: usize = 4 * LAYER;
 /// An hour: eight numbers, modmuf, ks, four layer lines.
@@ -34,6 +36,8 @@ pub const KS: usize = 9;
 pub const DECILES: usize = 576;
 /// Thirty rows: fvert, hprim, htrue, afac, one after the other.
 pub const ROWS: usize = 120;
+/// Where the true heights begin.
+pub const TRUE: usize = 60;
 /// Reflectrix cells of one angle.
 pub const CELLS: usize = 30;
 

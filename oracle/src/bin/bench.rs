@@ -1,7 +1,7 @@
 //! Our exports beside the Rust's native build on the same realistic states,
 //! in one run: nanoseconds for each call and their ratio.
 //!
-//! bench [STATES] [SEED]: 300 states by default.
+//! bench [STATES] [SEED] [NAME..]: 300 states and all names by default.
 
 use oracle::ours;
 use oracle::random::Random;
@@ -177,24 +177,56 @@ const TIMED: [Timed; 7] = [
     ("port_alosfv", 1, our_alosfv, rust_alosfv),
 ];
 
-/// The best of some rounds, which take turns so that both meet the same
-/// machine.
-fn time(hours: &[Hourly], (name, calls, ours, rust): Timed) {
-    if !ours::all_built(&[name]) {
-        return;
-    }
-    let once = |f: fn(&Hourly)| {
+const ROUNDS: usize = 60;
+
+/// The calls that make up a slot sheet.
+const PARTS: [&str; 4] = ["port_lecden", "port_genion", "port_fobby", "port_alosfv"];
+
+/// Hours timed together: few, so that some round of them runs undisturbed.
+const GROUP: usize = 10;
+
+/// Nanoseconds for each call of ours and of the Rust's.
+type Times = [f64; 2];
+
+/// One round of one group; the best so far is kept.
+fn round(hours: &[Hourly], (_, calls, ours, rust): Timed, best: &mut Times) {
+    for (f, best) in [ours, rust].into_iter().zip(best) {
         let started = Instant::now();
         hours.iter().for_each(f);
-        started.elapsed().as_secs_f64() * 1e9 / (hours.len() * calls) as f64
-    };
-    let (mut best_ours, mut best_rust) = (f64::MAX, f64::MAX);
-    for _ in 0..25 {
-        best_ours = best_ours.min(once(ours));
-        best_rust = best_rust.min(once(rust));
+        let each = started.elapsed().as_secs_f64() * 1e9 / (hours.len() * calls) as f64;
+        *best = best.min(each);
     }
-    let ratio = best_ours / best_rust;
-    println!("{name}: ours {best_ours:.0} ns, the Rust {best_rust:.0} ns, ratio {ratio:.2}");
+}
+
+/// The groups' best rounds, on the average. All that is timed takes turns, so
+/// that each meets the machine's quiet moments.
+fn measure(hours: &[Hourly], timed: &[Timed]) -> Vec<Times> {
+    let groups: Vec<&[Hourly]> = hours.chunks(GROUP).collect();
+    let mut best = vec![vec![[f64::MAX; 2]; groups.len()]; timed.len()];
+    for _ in 0..ROUNDS {
+        for (timed, best) in timed.iter().zip(&mut best) {
+            for (group, best) in groups.iter().zip(best) {
+                round(group, *timed, best);
+            }
+        }
+    }
+    let mean = |b: &[Times], side: usize| b.iter().map(|t| t[side]).sum::<f64>() / b.len() as f64;
+    best.iter().map(|b| [mean(b, 0), mean(b, 1)]).collect()
+}
+
+fn print_times(name: &str, [ours, rust]: Times) {
+    let ratio = ours / rust;
+    println!("{name}: ours {ours:.0} ns, the Rust {rust:.0} ns, ratio {ratio:.2}");
+}
+
+/// What each part takes of all four, in hundredths, ours and the Rust's.
+fn print_shares(times: &[(&str, Times)]) {
+    let parts = || times.iter().filter(|(name, _)| PARTS.contains(name));
+    let sums = [0, 1].map(|side| parts().map(|(_, t)| t[side]).sum::<f64>());
+    for (name, t) in parts() {
+        let [ours, rust] = [0, 1].map(|side| 100.0 * t[side] / sums[side]);
+        println!("of a sheet, {name}: ours {ours:.0} %, the Rust {rust:.0} %");
+    }
 }
 
 fn main() {
@@ -202,7 +234,18 @@ fn main() {
     let hours: Vec<Hourly> = (0..argument(1, 300))
         .map(|_| Hourly::new(&mut random))
         .collect();
-    for timed in TIMED {
-        time(&hours, timed);
+    let named: Vec<String> = std::env::args().skip(3).collect();
+    let chosen = |name: &str| named.is_empty() || named.iter().any(|n| n == name);
+    let timed: Vec<Timed> = TIMED
+        .into_iter()
+        .filter(|t| chosen(t.0) && ours::all_built(&[t.0]))
+        .collect();
+    let times = measure(&hours, &timed);
+    let times: Vec<(&str, Times)> = timed.iter().map(|t| t.0).zip(times).collect();
+    for (name, times) in &times {
+        print_times(name, *times);
+    }
+    if named.is_empty() {
+        print_shares(&times);
     }
 }

@@ -148,10 +148,30 @@ fn first_state(r: &mut Random) -> State {
     }
 }
 
-fn case(r: &mut Random) -> Option<String> {
+/// How many calls of each kind were answered and refused.
+#[derive(Default)]
+struct Counts {
+    mufs: [u64; 2],
+    sheets: [u64; 2],
+}
+
+impl Counts {
+    fn add(&mut self, call: &Call, done: &Done) {
+        let kind = match call {
+            Call::Muf(_) => &mut self.mufs,
+            Call::Sheet { .. } => &mut self.sheets,
+        };
+        kind[usize::from(done.answer != 0)] += 1;
+    }
+}
+
+fn case(r: &mut Random, counts: &mut Counts) -> Option<String> {
     let first = first_state(r);
     let list = calls(r, &first);
     let alone: Vec<Done> = list.iter().map(|c| c.on(&first)).collect();
+    for (call, done) in list.iter().zip(&alone) {
+        counts.add(call, done);
+    }
     let mut state = first;
     for (n, (call, wanted)) in list.iter().zip(&alone).enumerate() {
         let done = call.on(&state);
@@ -176,8 +196,13 @@ fn main() {
     }
     let mut tally = Tally::new("lists");
     let mut random = Random::new(argument(2, 1));
+    let mut counts = Counts::default();
     for _ in 0..argument(1, 100_000) {
-        tally.case(0, case(&mut random));
+        tally.case(0, case(&mut random, &mut counts));
     }
-    finish(&[tally.done()])
+    let verdict = tally.done();
+    let Counts { mufs, sheets } = counts;
+    println!("  MUFs answered {}, refused {}", mufs[0], mufs[1]);
+    println!("  sheets answered {}, refused {}", sheets[0], sheets[1]);
+    finish(&[verdict])
 }

@@ -21,7 +21,21 @@ fn lent_cells(r: &mut Random, nang: u32) -> Vec<u32> {
         2..=4 => exact + r.below(40),
         _ => exact,
     };
+    if r.once_in(2) {
+        return (0..length).map(|_| r.word()).collect();
+    }
     vec![MARK; length]
+}
+
+/// Now and then a layer's height is that of a row, or beside it.
+fn meet_rows(r: &mut Random, layers: &mut [u32], rows: &[u32]) {
+    if r.once_in(2) {
+        return;
+    }
+    for line in layers.chunks_exact_mut(LAYER) {
+        let height = f32::from_bits(rows[TRUE + r.below(30)]);
+        line[HEIGHT] = r.beside(height, 1).to_bits();
+    }
 }
 
 pub fn sang(r: &mut Random) -> Call {
@@ -83,7 +97,8 @@ pub fn fobby(r: &mut Random) -> Call {
 pub fn alosfv(r: &mut Random) -> Call {
     let state = states::any(r);
     let k = number(r);
-    let (rows, layers) = (states::rows(r), states::layers(r));
+    let (rows, mut layers) = (states::rows(r), states::layers(r));
+    meet_rows(r, &mut layers, &rows);
     let (given, ion) = (resized(r, &state), resized(r, &rows));
     let lines = resized(r, &layers);
     let wanted = long_enough(&[(&given, STATE), (&ion, ROWS), (&lines, LAYERS)])
@@ -108,7 +123,11 @@ pub fn sheet(r: &mut Random) -> Call {
         states::any(r)
     };
     let (k, nang) = (number(r), angles(r));
-    let layers = states::layers(r);
+    let mut layers = states::layers(r);
+    if k < 3 {
+        let (_, rows, _) = side::sheet(&state, k as usize, 0, &layers);
+        meet_rows(r, &mut layers, &rows);
+    }
     let (given, lines) = (resized(r, &state), resized(r, &layers));
     let (mut cells, mut out) = (lent_cells(r, nang), room(r, ROWS));
     let wanted = long_enough(&[(&given, STATE), (&lines, LAYERS), (&out, ROWS)])

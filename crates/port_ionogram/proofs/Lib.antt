@@ -1,0 +1,4 @@
+pub mod Cells
+pub mod Ranges
+pub mod Rooms
+pub mod Sheets

@@ -1,0 +1,60 @@
+-- Refused for want of room, or what the answer leaves.
+use mathlib.Core.Path.{refl}
+use borrow.Author.Tests.{lt-ltb, le-ltb}
+use Rattle.port_ionogram.specs.Exports.{portAlosfv}
+use borrow.Author.Needs.{needs}
+use Rattle.port_ionogram.proofs.exports.port_alosfv.Statement.{statement}
+use Rattle.port_ionogram.proofs.exports.port_alosfv.Tie as tie
+
+returns : tie.Need-returns
+unfolding portAlosfv
+returns c = rw (lt-ltb _ _ (c .if1 .taken)) (refl, refl)
+
+returns-2 : tie.Need-returns-2
+unfolding portAlosfv
+returns-2 c = rw (le-ltb _ _ (c .before .if1 .left), lt-ltb _ _ (c .if2 .taken)) (refl, refl)
+
+returns-3 : tie.Need-returns-3
+unfolding portAlosfv
+returns-3 c = rw (le-ltb _ _ (c .before .before .if1 .left), le-ltb _ _ (c .before .if2 .left), lt-ltb _ _ (c .if3 .taken)) (refl, refl)
+
+state-of-requires : tie.Need-state-of-requires
+state-of-requires c κs = search needs
+
+ionogram-of-requires : tie.Need-ionogram-of-requires
+ionogram-of-requires c κs = search needs
+
+lines-of-requires : tie.Need-lines-of-requires
+lines-of-requires c κs = search needs
+
+wide-requires : tie.Need-wide-requires
+wide-requires c κs = search needs
+
+alosfv-requires : tie.Need-alosfv-requires
+alosfv-requires c κs = search needs
+
+rows-into-requires : tie.Need-rows-into-requires
+rows-into-requires c κs = search needs
+
+same-length : tie.Need-same-length
+same-length c = search needs
+
+returns-4 : tie.Need-returns-4
+unfolding portAlosfv
+returns-4 c = rw (le-ltb _ _ (c .before .before .before .before .before .before .before .before .before .before .before .before .if1 .left), le-ltb _ _ (c .before .before .before .before .before .before .before .before .before .before .before .if2 .left), le-ltb _ _ (c .before .before .before .before .before .before .before .before .before .before .if3 .left), ← c .before .before .before .before .before .before .before .before .before .state-of .ensures, ← c .before .before .before .before .before .before .before .ionogram-of .ensures, ← c .before .before .before .before .before .before .lines-of .ensures, ← c .before .before .before .before .before .wide .ensures, ← c .before .before .before .before .alosfv .ensures) (c .before .before .rows-into .ensures)
+
+pub port-alosfv-spec : {M : Type 1} → statement M
+port-alosfv-spec =
+    tie.close
+    (tie.spec
+    returns
+    returns-2
+    returns-3
+    state-of-requires
+    ionogram-of-requires
+    lines-of-requires
+    wide-requires
+    alosfv-requires
+    rows-into-requires
+    same-length
+    returns-4)

@@ -1,0 +1,111 @@
+-- What each export answers, and the words that it leaves. A slice that is shorter than its layout is refused with 1, before all else; then come the refusals of the function itself, and a refused call leaves every word. The cells' length is the function's own refusal, 8.
+use mathlib.Core.Bool.{Bool, true, false, _||_}
+use mathlib.Core.List.{List}
+use Prim.Native.Nat.{ℕ, _*_}
+use lib.Dec.{ltb}
+use lib.IntN.{ℤ}
+use lib.ListN.{length, set}
+use lib.Ieee.{binary32, ofBits}
+use Rattle.refusal.specs.Number.{numberOf}
+use Rattle.refusal.specs.declared.Refusal.{Refusal}
+use Rattle.refusal.specs.declared.Outcome.{Outcome}
+use Rattle.port_state.specs.Ports.{Ported, refusedWith}
+use Rattle.port_state.specs.State.{stateOf, stateInto}
+use Rattle.ionogram.specs.Angles.{sangOf}
+use Rattle.ionogram.specs.Selmod.{selmodOf}
+use Rattle.ionogram.specs.Fobby.{fobbyOutcome, cellsAfter}
+use Rattle.ionogram.specs.declared.Scan.{Scan}
+use Rattle.ionogram.specs.declared.Ionogram.{Ionogram}
+use Rattle.ionogram.specs.declared.IonogramAnswer.{IonogramAnswer}
+use Rattle.sounding.specs.Genion.{genionAnswer}
+use Rattle.losses.specs.Alosfv.{alosfvAnswer}
+use Rattle.hour.specs.Sheet.{slotSheetOf, sheetCellsOf}
+use Rattle.hour.specs.declared.SlotSheet.{SlotSheet}
+use Rattle.port_ionogram.specs.Layouts.{cellsOf, cellsInto, ionogramOf, ionogramInto, linesOf}
+
+-- has the slice fewer words than its layout
+abbrev pub short : List ℕ → ℕ → Bool
+short w n = ltb (length w) n
+
+abbrev pub unlessShort : Bool → List ℕ → Ported → Ported
+unlessShort true w a = refusedWith Refusal.Length w
+unlessShort false w a = a
+
+-- ---- the angle count, the controlling slot
+
+-- the angle count; none beside a refusal
+abbrev pub anglesOf : Scan → ℕ
+anglesOf (Scan.Angles n) = n
+anglesOf (Scan.Refused r) = 0
+
+abbrev pub scanInto : Scan → List ℕ → Ported
+scanInto (Scan.Angles n) out = record { number = 0; words = set out 0 n }
+scanInto (Scan.Refused r) out = refusedWith r out
+
+unfoldable pub portSang : ℕ → ℕ → List ℕ → Ported
+portSang gcdkm amind out = unlessShort (short out 1) out (scanInto (sangOf (ofBits binary32 gcdkm) (ofBits binary32 amind)) out)
+
+unfoldable pub portSelmod : List ℕ → List ℕ → Ported
+portSelmod state out = unlessShort (short state 153 || short out 1) out (record { number = 0; words = set out 0 (selmodOf (stateOf state)) })
+
+-- ---- the rows
+
+abbrev pub rowsBy : Outcome → Ionogram → List ℕ → Ported
+rowsBy Outcome.Answered ion w = record { number = 0; words = ionogramInto ion w }
+rowsBy (Outcome.Refused r) ion w = refusedWith r w
+
+unfoldable pub rowsInto : IonogramAnswer → List ℕ → Ported
+rowsInto a w = rowsBy (a .outcome) (a .ion) w
+
+unfoldable pub portGenion : List ℕ → ℕ → List ℕ → Ported
+portGenion state k out = unlessShort (short state 153 || short out 120) out (rowsInto (genionAnswer (stateOf state) k) out)
+
+unfoldable pub portAlosfv : List ℕ → ℕ → List ℕ → List ℕ → Ported
+portAlosfv state k ion layers =
+    unlessShort (short state 153 || short ion 120 || short layers 44) ion
+    (rowsInto (alosfvAnswer (stateOf state) k (ionogramOf ion) (linesOf layers)) ion)
+
+-- ---- the reflectrix: thirty cells an angle, or as many as are lent
+
+abbrev pub cellsBy : Outcome → List ℤ → List ℕ → Ported
+cellsBy Outcome.Answered c w = record { number = 0; words = cellsInto w c }
+cellsBy (Outcome.Refused r) c w = refusedWith r w
+
+unfoldable pub portFobby : List ℕ → ℕ → List ℕ → Ported
+portFobby ion nang cells =
+    let c = cellsOf cells (30 * nang) in
+    unlessShort (short ion 120) cells (cellsBy (fobbyOutcome nang c) (cellsAfter (ionogramOf ion) nang c) cells)
+
+-- ---- the slot sheet
+
+pub record PortedSheet : Type 0 where
+  pub number : ℕ
+  pub state : List ℕ
+  pub cells : List ℕ
+  pub out : List ℕ
+
+abbrev pub refusedSheet : Refusal → List ℕ → List ℕ → List ℕ → PortedSheet
+refusedSheet r state cells out = record { number = numberOf r; state = state; cells = cells; out = out }
+
+abbrev pub sheetBy : Outcome → SlotSheet → List ℤ → List ℕ → List ℕ → List ℕ → PortedSheet
+sheetBy Outcome.Answered a c state cells out = record { number = 0; state = stateInto (a .state) state; cells = cellsInto cells c; out = ionogramInto (a .ion) out }
+sheetBy (Outcome.Refused r) a c state cells out = refusedSheet r state cells out
+
+abbrev pub sheetInto : SlotSheet → List ℤ → List ℕ → List ℕ → List ℕ → PortedSheet
+sheetInto a c state cells out = sheetBy (a .outcome) a c state cells out
+
+abbrev pub sheetUnlessShort : Bool → List ℕ → List ℕ → List ℕ → PortedSheet → PortedSheet
+sheetUnlessShort true state cells out a = refusedSheet Refusal.Length state cells out
+sheetUnlessShort false state cells out a = a
+
+-- the sheet of the numbers that the words stand for, and its cells
+unfoldable pub sheetOn : List ℕ → ℕ → ℕ → List ℕ → List ℕ → SlotSheet
+sheetOn state k nang layers cells = slotSheetOf (stateOf state) k nang (linesOf layers) (cellsOf cells (30 * nang))
+
+unfoldable pub sheetCellsOn : List ℕ → ℕ → ℕ → List ℕ → List ℤ
+sheetCellsOn state k nang cells = sheetCellsOf (stateOf state) k nang (cellsOf cells (30 * nang))
+
+unfoldable pub portSheet : List ℕ → ℕ → ℕ → List ℕ → List ℕ → List ℕ → PortedSheet
+portSheet state k nang layers cells out =
+    sheetUnlessShort (short state 153 || short layers 44 || short out 120) state cells out
+    (sheetInto (sheetOn state k nang layers cells) (sheetCellsOn state k nang cells) state cells out)
