@@ -1,10 +1,7 @@
-pub mod Terms
-pub mod Sums
-pub mod Waves
+pub mod Kernel
 pub mod Ends
 pub mod Atan
 pub mod Fine
 pub mod AsinEnds
 pub mod SineRoom
 pub mod Asin
-pub mod Literal
