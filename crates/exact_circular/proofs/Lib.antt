@@ -1,4 +1,5 @@
 pub mod Kernel
+pub mod Quads
 pub mod Ends
 pub mod Atan
 pub mod Fine
