@@ -1,5 +1,6 @@
 pub mod Kernel
 pub mod Quads
+pub mod Turns
 pub mod Ends
 pub mod Atan
 pub mod Fine
