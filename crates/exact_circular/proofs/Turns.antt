@@ -172,3 +172,204 @@ module _ (a b : ℕ) (A : a ≤ 5 * 2 ^ 61) (B : b ≤ 5 * 2 ^ 61) (C : a + b �
 
   sum-3 : Within (part 3 (a + b)) whole (part 0 a * part 3 b + part 1 a * part 2 b + part 2 a * part 1 b + part 3 a * part 0 b) W'
   sum-3 = at-sum 3 3 2 1 0 (lit< tt) (lit< tt) (lit< tt) (lit< tt) (joined .low3) (joined .high3)
+
+-- ---- cos² + sin² = 1 at b
+module _ (b : ℕ) (B : b ≤ 5 * 2 ^ 61) where
+  abbrev squares : ℕ
+  squares = part 0 b * part 0 b + part 1 b * part 1 b + part 2 b * part 2 b + part 3 b * part 3 b
+
+  abbrev crossed : ℕ
+  crossed = part 0 b * part 2 b + part 1 b * part 3 b + part 2 b * part 0 b + part 3 b * part 1 b
+
+  cap : (r : ℕ) → r < 4 → part r b ≤ 256 * whole
+  cap r h = up-to-five b r B h
+
+  circle : (squares ≤ whole * whole + crossed + 4096 * (rest * whole)) × (whole * whole + crossed ≤ squares + 4096 * (rest * whole))
+  circle =
+      let p = pythagoras b (2 ^ 61) whole (part 0 b) (part 1 b) (part 2 b) (part 3 b) (part 0 b + rest) (part 1 b + rest) (part 2 b + rest) (part 3 b + rest) (pow-pos 61) (enclosed b B) in
+      let s = small 0 0 (lit≤ tt) (lit≤ tt) (lit≤ tt) in
+      let c₀ = cap 0 (lit< tt) in
+      let c₁ = cap 1 (lit< tt) in
+      let c₂ = cap 2 (lit< tt) in
+      let c₃ = cap 3 (lit< tt) in
+      (go (whole * whole) squares crossed (4096 * (rest * whole)) _ (p .0) (wide whole rest s (part 0 b) (part 2 b) (part 1 b) (part 3 b) (part 2 b) (part 0 b) (part 3 b) (part 1 b) c₀ c₂ c₁ c₃ c₂ c₀ c₃ c₁),
+      le-trans (p .1) (wide whole rest s (part 0 b) (part 0 b) (part 1 b) (part 1 b) (part 2 b) (part 2 b) (part 3 b) (part 3 b) c₀ c₀ c₁ c₁ c₂ c₂ c₃ c₃))
+    where
+      go : (m s c w h : ℕ) → s ≤ m + h → h ≤ c + w → s ≤ m + c + w
+      go m s c w h a e = omega arith
+
+-- ---- plain numbers: r₀ .. r₃ are the classes of the small angle, p₀ .. p₃ those of the turn, x₀ .. x₃ those of the angle; F is `whole`
+-- the distance from xa - xb to r₁ - r₃ is at most D
+pub record Alike (xa xb r₁ r₃ D : ℕ) : Type 0 where
+  pub low : xa + r₃ ≤ xb + r₁ + D
+  pub high : xb + r₁ ≤ xa + r₃ + D
+
+-- four products
+four-le : (w l₀ l₁ l₂ l₃ q₀ q₁ q₂ q₃ s₀ s₁ s₂ s₃ : ℕ) → l₀ ≤ q₀ + w → l₁ ≤ q₁ + w → l₂ ≤ q₂ + w → l₃ ≤ q₃ + w → l₀ * s₀ + l₁ * s₁ + l₂ * s₂ + l₃ * s₃ ≤ q₀ * s₀ + q₁ * s₁ + q₂ * s₂ + q₃ * s₃ + w * (s₀ + s₁ + s₂ + s₃)
+four-le w l₀ l₁ l₂ l₃ q₀ q₁ q₂ q₃ s₀ s₁ s₂ s₃ a b c e = omega (arith, mul-le-mul-right s₀ a, mul-le-mul-right s₁ b, mul-le-mul-right s₂ c, mul-le-mul-right s₃ e)
+
+-- the turn's sine and cosine are δ from 0 and 1, or 0 and -1: a - b is about F, and c - e about 0
+module _ (F δ a b c e r₀ r₁ r₂ r₃ : ℕ) (h : a ≤ b + F + δ) (k : b + F ≤ a + δ) (l : c ≤ e + δ) (m : e ≤ c + δ) where
+  turn-low : a * r₁ + b * r₃ + c * r₀ + e * r₂ + F * r₃ ≤ a * r₃ + b * r₁ + c * r₂ + e * r₀ + F * r₁ + δ * (r₀ + r₁ + r₂ + r₃)
+  turn-low = omega (arith, mul-le-mul-right r₁ h, mul-le-mul-right r₃ k, mul-le-mul-right r₀ l, mul-le-mul-right r₂ m)
+
+  turn-high : a * r₃ + b * r₁ + c * r₂ + e * r₀ + F * r₁ ≤ a * r₁ + b * r₃ + c * r₀ + e * r₂ + F * r₃ + δ * (r₀ + r₁ + r₂ + r₃)
+  turn-high = omega (arith, mul-le-mul-right r₃ h, mul-le-mul-right r₁ k, mul-le-mul-right r₂ l, mul-le-mul-right r₀ m)
+
+-- from cos² + sin² = 1
+circle-low : (xa xb s g m w : ℕ) → s ≤ m + g + w → m + g ≤ s + w → (N : ℕ) → xa * m + (N + xa * g + xb * s) ≤ xb * m + (N + xa * s + xb * g) + (xa + xb) * w
+circle-low xa xb s g m w h k N = omega (arith, mul-le-mul-left xa k, mul-le-mul-left xb h)
+
+-- all that is off, over F²
+module _ (F W δ ρ xa xb r₁ r₃ : ℕ) (P : 0 < F) (R : ρ ≤ 32 * F) (A : xa ≤ 256 * F) (B : xb ≤ 256 * F) where
+  abbrev off : ℕ
+  off = 4194304 * W + 32 * δ
+
+  -- the angle is a turn less the small one: M and M' are products of the sums, Q and Q' of the turn
+  less : (M M' Q Q' : ℕ) → xa * (F * F) + M' ≤ xb * (F * F) + M + (xa + xb) * (4096 * (W * F)) → F * Q' ≤ M' + 4096 * (W * F) * ρ → M ≤ F * Q + 4096 * (W * F) * ρ → Q + F * r₃ ≤ Q' + F * r₁ + δ * ρ
+      → xa + r₃ ≤ xb + r₁ + off
+  less M M' Q Q' a b c e =
+      le-of-mul-le-mul-right {k = F * F}
+      (go (W * F) (mul-le-mul-right F e) (mul-le-mul-left (W * F) R) (mul-le-mul-left (W * F) A) (mul-le-mul-left (W * F) B) (mul-le-mul-left (δ * F) R)) (mul-pos P P)
+    where
+      go : (w : ℕ) → (Q + F * r₃) * F ≤ (Q' + F * r₁ + δ * ρ) * F → W * F * ρ ≤ W * F * (32 * F) → W * F * xa ≤ W * F * (256 * F) → W * F * xb ≤ W * F * (256 * F) → δ * F * ρ ≤ δ * F * (32 * F)
+          → (xa + r₃) * (F * F) ≤ (xb + r₁ + off) * (F * F)
+      go w f g h i j = omega (arith, a, b, c, f, g, h, i, j)
+
+  -- the angle is a turn and the small one
+  more : (Q Q' : ℕ) → xa * F ≤ Q + 4096 * (W * F) → Q' ≤ xb * F + 4096 * (W * F) → Q + F * r₃ ≤ Q' + F * r₁ + δ * ρ → xa + r₃ ≤ xb + r₁ + off
+  more Q Q' a b e = le-of-mul-le-mul-right {k = F} (omega (arith, a, b, e, mul-le-mul-left δ R)) P
+
+  alike : (M M' Q Q' N s g : ℕ) → M ≡ N + xa * s + xb * g → M' ≡ N + xa * g + xb * s → s ≤ F * F + g + 4096 * (W * F) → F * F + g ≤ s + 4096 * (W * F)
+      → F * Q ≤ M + 4096 * (W * F) * ρ → M ≤ F * Q + 4096 * (W * F) * ρ → F * Q' ≤ M' + 4096 * (W * F) * ρ → M' ≤ F * Q' + 4096 * (W * F) * ρ
+      → Q + F * r₃ ≤ Q' + F * r₁ + δ * ρ → Q' + F * r₁ ≤ Q + F * r₃ + δ * ρ → xa + r₃ ≤ xb + r₁ + off
+  alike M M' Q Q' N s g e e' c c' q₁ q₂ q₃ q₄ t t' =
+      less M M' Q Q' (subst₂ (λ (x y : ℕ). xa * (F * F) + y ≤ xb * (F * F) + x + (xa + xb) * (4096 * (W * F))) (sym e) (sym e') (circle-low xa xb s g (F * F) (4096 * (W * F)) c c' N)) q₃ q₂ t
+
+-- ---- the products with the classes of the small angle turned back
+collect : (x₀ x₁ x₂ x₃ a₀ b₀ c₀ e₀ a₁ b₁ c₁ e₁ a₂ b₂ c₂ e₂ a₃ b₃ c₃ e₃ t₀ t₁ t₂ t₃ : ℕ) → (x₀ * a₀ + x₁ * b₀ + x₂ * c₀ + x₃ * e₀) * t₀ + (x₀ * a₁ + x₁ * b₁ + x₂ * c₁ + x₃ * e₁) * t₁ + (x₀ * a₂ + x₁ * b₂ + x₂ * c₂ + x₃ * e₂) * t₂ + (x₀ * a₃ + x₁ * b₃ + x₂ * c₃ + x₃ * e₃) * t₃ ≡ x₀ * (a₀ * t₀ + a₁ * t₁ + a₂ * t₂ + a₃ * t₃) + x₁ * (b₀ * t₀ + b₁ * t₁ + b₂ * t₂ + b₃ * t₃) + x₂ * (c₀ * t₀ + c₁ * t₁ + c₂ * t₂ + c₃ * t₃) + x₃ * (e₀ * t₀ + e₁ * t₁ + e₂ * t₂ + e₃ * t₃)
+collect x₀ x₁ x₂ x₃ a₀ b₀ c₀ e₀ a₁ b₁ c₁ e₁ a₂ b₂ c₂ e₂ a₃ b₃ c₃ e₃ t₀ t₁ t₂ t₃ = ap₂ (λ (u v : ℕ). u + v) (ap₂ (λ (u v : ℕ). u + v) (ap₂ (λ (u v : ℕ). u + v) (column a₀ b₀ c₀ e₀ t₀) (column a₁ b₁ c₁ e₁ t₁)) (column a₂ b₂ c₂ e₂ t₂)) (column a₃ b₃ c₃ e₃ t₃) ∙ rows (a₀ * t₀) (b₀ * t₀) (c₀ * t₀) (e₀ * t₀) (a₁ * t₁) (b₁ * t₁) (c₁ * t₁) (e₁ * t₁) (a₂ * t₂) (b₂ * t₂) (c₂ * t₂) (e₂ * t₂) (a₃ * t₃) (b₃ * t₃) (c₃ * t₃) (e₃ * t₃)
+  where
+    column : (a b c e t : ℕ) → (x₀ * a + x₁ * b + x₂ * c + x₃ * e) * t ≡ x₀ * (a * t) + x₁ * (b * t) + x₂ * (c * t) + x₃ * (e * t)
+    column a b c e t = omega arith
+
+    two : (p q r s p' q' r' s' : ℕ) → x₀ * p + x₁ * q + x₂ * r + x₃ * s + (x₀ * p' + x₁ * q' + x₂ * r' + x₃ * s') ≡ x₀ * (p + p') + x₁ * (q + q') + x₂ * (r + r') + x₃ * (s + s')
+    two p q r s p' q' r' s' = omega arith
+
+    rows : (p₀ q₀ r₀ s₀ p₁ q₁ r₁ s₁ p₂ q₂ r₂ s₂ p₃ q₃ r₃ s₃ : ℕ) → x₀ * p₀ + x₁ * q₀ + x₂ * r₀ + x₃ * s₀ + (x₀ * p₁ + x₁ * q₁ + x₂ * r₁ + x₃ * s₁) + (x₀ * p₂ + x₁ * q₂ + x₂ * r₂ + x₃ * s₂) + (x₀ * p₃ + x₁ * q₃ + x₂ * r₃ + x₃ * s₃) ≡ x₀ * (p₀ + p₁ + p₂ + p₃) + x₁ * (q₀ + q₁ + q₂ + q₃) + x₂ * (r₀ + r₁ + r₂ + r₃) + x₃ * (s₀ + s₁ + s₂ + s₃)
+    rows p₀ q₀ r₀ s₀ p₁ q₁ r₁ s₁ p₂ q₂ r₂ s₂ p₃ q₃ r₃ s₃ = ap (λ (u : ℕ). u + (x₀ * p₂ + x₁ * q₂ + x₂ * r₂ + x₃ * s₂) + (x₀ * p₃ + x₁ * q₃ + x₂ * r₃ + x₃ * s₃)) (two p₀ q₀ r₀ s₀ p₁ q₁ r₁ s₁) ∙ ap (λ (u : ℕ). u + (x₀ * p₃ + x₁ * q₃ + x₂ * r₃ + x₃ * s₃)) (two (p₀ + p₁) (q₀ + q₁) (r₀ + r₁) (s₀ + s₁) p₂ q₂ r₂ s₂) ∙ two (p₀ + p₁ + p₂) (q₀ + q₁ + q₂) (r₀ + r₁ + r₂) (s₀ + s₁ + s₂) p₃ q₃ r₃ s₃
+
+module _ (x₀ x₁ x₂ x₃ r₀ r₁ r₂ r₃ : ℕ) where
+  at-1 : (x₀ * r₀ + x₁ * r₃ + x₂ * r₂ + x₃ * r₁) * r₃ + (x₀ * r₁ + x₁ * r₀ + x₂ * r₃ + x₃ * r₂) * r₀ + (x₀ * r₂ + x₁ * r₁ + x₂ * r₀ + x₃ * r₃) * r₁ + (x₀ * r₃ + x₁ * r₂ + x₂ * r₁ + x₃ * r₀) * r₂ ≡ (x₀ + x₂) * (r₀ * r₃ + r₁ * r₀ + r₂ * r₁ + r₃ * r₂) + x₁ * (r₀ * r₀ + r₁ * r₁ + r₂ * r₂ + r₃ * r₃) + x₃ * (r₀ * r₂ + r₁ * r₃ + r₂ * r₀ + r₃ * r₁)
+  at-1 = collect x₀ x₁ x₂ x₃ r₀ r₃ r₂ r₁ r₁ r₀ r₃ r₂ r₂ r₁ r₀ r₃ r₃ r₂ r₁ r₀ r₃ r₀ r₁ r₂ ∙ ap₂ (λ (u v : ℕ). x₀ * u + x₁ * v + x₂ * (r₂ * r₃ + r₃ * r₀ + r₀ * r₁ + r₁ * r₂) + x₃ * (r₁ * r₃ + r₂ * r₀ + r₃ * r₁ + r₀ * r₂)) i₀ i₁ ∙ ap₂ (λ (u v : ℕ). x₀ * (r₀ * r₃ + r₁ * r₀ + r₂ * r₁ + r₃ * r₂) + x₁ * (r₀ * r₀ + r₁ * r₁ + r₂ * r₂ + r₃ * r₃) + x₂ * u + x₃ * v) i₂ i₃ ∙ turn (r₀ * r₃ + r₁ * r₀ + r₂ * r₁ + r₃ * r₂) (r₀ * r₀ + r₁ * r₁ + r₂ * r₂ + r₃ * r₃) (r₀ * r₂ + r₁ * r₃ + r₂ * r₀ + r₃ * r₁)
+    where
+      i₀ : r₀ * r₃ + r₁ * r₀ + r₂ * r₁ + r₃ * r₂ ≡ r₀ * r₃ + r₁ * r₀ + r₂ * r₁ + r₃ * r₂
+      i₀ = omega arith
+
+      i₁ : r₃ * r₃ + r₀ * r₀ + r₁ * r₁ + r₂ * r₂ ≡ r₀ * r₀ + r₁ * r₁ + r₂ * r₂ + r₃ * r₃
+      i₁ = omega arith
+
+      i₂ : r₂ * r₃ + r₃ * r₀ + r₀ * r₁ + r₁ * r₂ ≡ r₀ * r₃ + r₁ * r₀ + r₂ * r₁ + r₃ * r₂
+      i₂ = omega arith
+
+      i₃ : r₁ * r₃ + r₂ * r₀ + r₃ * r₁ + r₀ * r₂ ≡ r₀ * r₂ + r₁ * r₃ + r₂ * r₀ + r₃ * r₁
+      i₃ = omega arith
+
+      turn : (o s g : ℕ) → x₀ * o + x₁ * s + x₂ * o + x₃ * g ≡ (x₀ + x₂) * o + x₁ * s + x₃ * g
+      turn o s g = omega arith
+
+  at-3 : (x₀ * r₀ + x₁ * r₃ + x₂ * r₂ + x₃ * r₁) * r₁ + (x₀ * r₁ + x₁ * r₀ + x₂ * r₃ + x₃ * r₂) * r₂ + (x₀ * r₂ + x₁ * r₁ + x₂ * r₀ + x₃ * r₃) * r₃ + (x₀ * r₃ + x₁ * r₂ + x₂ * r₁ + x₃ * r₀) * r₀ ≡ (x₀ + x₂) * (r₀ * r₃ + r₁ * r₀ + r₂ * r₁ + r₃ * r₂) + x₁ * (r₀ * r₂ + r₁ * r₃ + r₂ * r₀ + r₃ * r₁) + x₃ * (r₀ * r₀ + r₁ * r₁ + r₂ * r₂ + r₃ * r₃)
+  at-3 = collect x₀ x₁ x₂ x₃ r₀ r₃ r₂ r₁ r₁ r₀ r₃ r₂ r₂ r₁ r₀ r₃ r₃ r₂ r₁ r₀ r₁ r₂ r₃ r₀ ∙ ap₂ (λ (u v : ℕ). x₀ * u + x₁ * v + x₂ * (r₂ * r₁ + r₃ * r₂ + r₀ * r₃ + r₁ * r₀) + x₃ * (r₁ * r₁ + r₂ * r₂ + r₃ * r₃ + r₀ * r₀)) i₀ i₁ ∙ ap₂ (λ (u v : ℕ). x₀ * (r₀ * r₃ + r₁ * r₀ + r₂ * r₁ + r₃ * r₂) + x₁ * (r₀ * r₂ + r₁ * r₃ + r₂ * r₀ + r₃ * r₁) + x₂ * u + x₃ * v) i₂ i₃ ∙ turn (r₀ * r₃ + r₁ * r₀ + r₂ * r₁ + r₃ * r₂) (r₀ * r₂ + r₁ * r₃ + r₂ * r₀ + r₃ * r₁) (r₀ * r₀ + r₁ * r₁ + r₂ * r₂ + r₃ * r₃)
+    where
+      i₀ : r₀ * r₁ + r₁ * r₂ + r₂ * r₃ + r₃ * r₀ ≡ r₀ * r₃ + r₁ * r₀ + r₂ * r₁ + r₃ * r₂
+      i₀ = omega arith
+
+      i₁ : r₃ * r₁ + r₀ * r₂ + r₁ * r₃ + r₂ * r₀ ≡ r₀ * r₂ + r₁ * r₃ + r₂ * r₀ + r₃ * r₁
+      i₁ = omega arith
+
+      i₂ : r₂ * r₁ + r₃ * r₂ + r₀ * r₃ + r₁ * r₀ ≡ r₀ * r₃ + r₁ * r₀ + r₂ * r₁ + r₃ * r₂
+      i₂ = omega arith
+
+      i₃ : r₁ * r₁ + r₂ * r₂ + r₃ * r₃ + r₀ * r₀ ≡ r₀ * r₀ + r₁ * r₁ + r₂ * r₂ + r₃ * r₃
+      i₃ = omega arith
+
+      turn : (o s g : ℕ) → x₀ * o + x₁ * s + x₂ * o + x₃ * g ≡ (x₀ + x₂) * o + x₁ * s + x₃ * g
+      turn o s g = omega arith
+
+  at-0 : (x₀ * r₀ + x₁ * r₃ + x₂ * r₂ + x₃ * r₁) * r₀ + (x₀ * r₁ + x₁ * r₀ + x₂ * r₃ + x₃ * r₂) * r₁ + (x₀ * r₂ + x₁ * r₁ + x₂ * r₀ + x₃ * r₃) * r₂ + (x₀ * r₃ + x₁ * r₂ + x₂ * r₁ + x₃ * r₀) * r₃ ≡ (x₁ + x₃) * (r₀ * r₃ + r₁ * r₀ + r₂ * r₁ + r₃ * r₂) + x₀ * (r₀ * r₀ + r₁ * r₁ + r₂ * r₂ + r₃ * r₃) + x₂ * (r₀ * r₂ + r₁ * r₃ + r₂ * r₀ + r₃ * r₁)
+  at-0 = collect x₀ x₁ x₂ x₃ r₀ r₃ r₂ r₁ r₁ r₀ r₃ r₂ r₂ r₁ r₀ r₃ r₃ r₂ r₁ r₀ r₀ r₁ r₂ r₃ ∙ ap₂ (λ (u v : ℕ). x₀ * u + x₁ * v + x₂ * (r₂ * r₀ + r₃ * r₁ + r₀ * r₂ + r₁ * r₃) + x₃ * (r₁ * r₀ + r₂ * r₁ + r₃ * r₂ + r₀ * r₃)) i₀ i₁ ∙ ap₂ (λ (u v : ℕ). x₀ * (r₀ * r₀ + r₁ * r₁ + r₂ * r₂ + r₃ * r₃) + x₁ * (r₀ * r₃ + r₁ * r₀ + r₂ * r₁ + r₃ * r₂) + x₂ * u + x₃ * v) i₂ i₃ ∙ turn (r₀ * r₃ + r₁ * r₀ + r₂ * r₁ + r₃ * r₂) (r₀ * r₀ + r₁ * r₁ + r₂ * r₂ + r₃ * r₃) (r₀ * r₂ + r₁ * r₃ + r₂ * r₀ + r₃ * r₁)
+    where
+      i₀ : r₀ * r₀ + r₁ * r₁ + r₂ * r₂ + r₃ * r₃ ≡ r₀ * r₀ + r₁ * r₁ + r₂ * r₂ + r₃ * r₃
+      i₀ = omega arith
+
+      i₁ : r₃ * r₀ + r₀ * r₁ + r₁ * r₂ + r₂ * r₃ ≡ r₀ * r₃ + r₁ * r₀ + r₂ * r₁ + r₃ * r₂
+      i₁ = omega arith
+
+      i₂ : r₂ * r₀ + r₃ * r₁ + r₀ * r₂ + r₁ * r₃ ≡ r₀ * r₂ + r₁ * r₃ + r₂ * r₀ + r₃ * r₁
+      i₂ = omega arith
+
+      i₃ : r₁ * r₀ + r₂ * r₁ + r₃ * r₂ + r₀ * r₃ ≡ r₀ * r₃ + r₁ * r₀ + r₂ * r₁ + r₃ * r₂
+      i₃ = omega arith
+
+      turn : (o s g : ℕ) → x₀ * s + x₁ * o + x₂ * g + x₃ * o ≡ (x₁ + x₃) * o + x₀ * s + x₂ * g
+      turn o s g = omega arith
+
+  at-2 : (x₀ * r₀ + x₁ * r₃ + x₂ * r₂ + x₃ * r₁) * r₂ + (x₀ * r₁ + x₁ * r₀ + x₂ * r₃ + x₃ * r₂) * r₃ + (x₀ * r₂ + x₁ * r₁ + x₂ * r₀ + x₃ * r₃) * r₀ + (x₀ * r₃ + x₁ * r₂ + x₂ * r₁ + x₃ * r₀) * r₁ ≡ (x₁ + x₃) * (r₀ * r₃ + r₁ * r₀ + r₂ * r₁ + r₃ * r₂) + x₀ * (r₀ * r₂ + r₁ * r₃ + r₂ * r₀ + r₃ * r₁) + x₂ * (r₀ * r₀ + r₁ * r₁ + r₂ * r₂ + r₃ * r₃)
+  at-2 = collect x₀ x₁ x₂ x₃ r₀ r₃ r₂ r₁ r₁ r₀ r₃ r₂ r₂ r₁ r₀ r₃ r₃ r₂ r₁ r₀ r₂ r₃ r₀ r₁ ∙ ap₂ (λ (u v : ℕ). x₀ * u + x₁ * v + x₂ * (r₂ * r₂ + r₃ * r₃ + r₀ * r₀ + r₁ * r₁) + x₃ * (r₁ * r₂ + r₂ * r₃ + r₃ * r₀ + r₀ * r₁)) i₀ i₁ ∙ ap₂ (λ (u v : ℕ). x₀ * (r₀ * r₂ + r₁ * r₃ + r₂ * r₀ + r₃ * r₁) + x₁ * (r₀ * r₃ + r₁ * r₀ + r₂ * r₁ + r₃ * r₂) + x₂ * u + x₃ * v) i₂ i₃ ∙ turn (r₀ * r₃ + r₁ * r₀ + r₂ * r₁ + r₃ * r₂) (r₀ * r₂ + r₁ * r₃ + r₂ * r₀ + r₃ * r₁) (r₀ * r₀ + r₁ * r₁ + r₂ * r₂ + r₃ * r₃)
+    where
+      i₀ : r₀ * r₂ + r₁ * r₃ + r₂ * r₀ + r₃ * r₁ ≡ r₀ * r₂ + r₁ * r₃ + r₂ * r₀ + r₃ * r₁
+      i₀ = omega arith
+
+      i₁ : r₃ * r₂ + r₀ * r₃ + r₁ * r₀ + r₂ * r₁ ≡ r₀ * r₃ + r₁ * r₀ + r₂ * r₁ + r₃ * r₂
+      i₁ = omega arith
+
+      i₂ : r₂ * r₂ + r₃ * r₃ + r₀ * r₀ + r₁ * r₁ ≡ r₀ * r₀ + r₁ * r₁ + r₂ * r₂ + r₃ * r₃
+      i₂ = omega arith
+
+      i₃ : r₁ * r₂ + r₂ * r₃ + r₃ * r₀ + r₀ * r₁ ≡ r₀ * r₃ + r₁ * r₀ + r₂ * r₁ + r₃ * r₂
+      i₃ = omega arith
+
+      turn : (o s g : ℕ) → x₀ * s + x₁ * o + x₂ * g + x₃ * o ≡ (x₁ + x₃) * o + x₀ * s + x₂ * g
+      turn o s g = omega arith
+
+-- ---- the classes of an angle that is a turn less the small one
+module _ (F W δ x₀ x₁ x₂ x₃ r₀ r₁ r₂ r₃ p₀ p₁ p₂ p₃ : ℕ) (P : 0 < F)
+    (c₀ : x₀ ≤ 256 * F) (c₁ : x₁ ≤ 256 * F) (c₂ : x₂ ≤ 256 * F) (c₃ : x₃ ≤ 256 * F) (ρ : r₀ + r₁ + r₂ + r₃ ≤ 32 * F)
+    (s₀ : Within p₀ F (x₀ * r₀ + x₁ * r₃ + x₂ * r₂ + x₃ * r₁) (4096 * (W * F)))
+    (s₁ : Within p₁ F (x₀ * r₁ + x₁ * r₀ + x₂ * r₃ + x₃ * r₂) (4096 * (W * F)))
+    (s₂ : Within p₂ F (x₀ * r₂ + x₁ * r₁ + x₂ * r₀ + x₃ * r₃) (4096 * (W * F)))
+    (s₃ : Within p₃ F (x₀ * r₃ + x₁ * r₂ + x₂ * r₁ + x₃ * r₀) (4096 * (W * F)))
+    (o : r₀ * r₀ + r₁ * r₁ + r₂ * r₂ + r₃ * r₃ ≤ F * F + (r₀ * r₂ + r₁ * r₃ + r₂ * r₀ + r₃ * r₁) + 4096 * (W * F))
+    (o' : F * F + (r₀ * r₂ + r₁ * r₃ + r₂ * r₀ + r₃ * r₁) ≤ r₀ * r₀ + r₁ * r₁ + r₂ * r₂ + r₃ * r₃ + 4096 * (W * F)) where
+  abbrev l₀ : ℕ
+  l₀ = x₀ * r₀ + x₁ * r₃ + x₂ * r₂ + x₃ * r₁
+
+  abbrev l₁ : ℕ
+  l₁ = x₀ * r₁ + x₁ * r₀ + x₂ * r₃ + x₃ * r₂
+
+  abbrev l₂ : ℕ
+  l₂ = x₀ * r₂ + x₁ * r₁ + x₂ * r₀ + x₃ * r₃
+
+  abbrev l₃ : ℕ
+  l₃ = x₀ * r₃ + x₁ * r₂ + x₂ * r₁ + x₃ * r₀
+
+  abbrev sq : ℕ
+  sq = r₀ * r₀ + r₁ * r₁ + r₂ * r₂ + r₃ * r₃
+
+  abbrev cr : ℕ
+  cr = r₀ * r₂ + r₁ * r₃ + r₂ * r₀ + r₃ * r₁
+
+  abbrev odd : ℕ
+  odd = r₀ * r₃ + r₁ * r₀ + r₂ * r₁ + r₃ * r₂
+
+  over : (t₀ t₁ t₂ t₃ : ℕ) → t₀ + t₁ + t₂ + t₃ ≡ r₀ + r₁ + r₂ + r₃ → F * (p₀ * t₀ + p₁ * t₁ + p₂ * t₂ + p₃ * t₃) ≤ l₀ * t₀ + l₁ * t₁ + l₂ * t₂ + l₃ * t₃ + 4096 * (W * F) * (r₀ + r₁ + r₂ + r₃)
+  over t₀ t₁ t₂ t₃ e = subst (λ (x : ℕ). F * (p₀ * t₀ + p₁ * t₁ + p₂ * t₂ + p₃ * t₃) ≤ l₀ * t₀ + l₁ * t₁ + l₂ * t₂ + l₃ * t₃ + 4096 * (W * F) * x) e (le-trans (le-of-eq (flat p₀ p₁ p₂ p₃)) (four-le (4096 * (W * F)) (p₀ * F) (p₁ * F) (p₂ * F) (p₃ * F) l₀ l₁ l₂ l₃ t₀ t₁ t₂ t₃ (s₀ .high) (s₁ .high) (s₂ .high) (s₃ .high)))
+    where
+      flat : (a b c d : ℕ) → F * (a * t₀ + b * t₁ + c * t₂ + d * t₃) ≡ a * F * t₀ + b * F * t₁ + c * F * t₂ + d * F * t₃
+      flat a b c d = omega arith
+
+  under : (t₀ t₁ t₂ t₃ : ℕ) → t₀ + t₁ + t₂ + t₃ ≡ r₀ + r₁ + r₂ + r₃ → l₀ * t₀ + l₁ * t₁ + l₂ * t₂ + l₃ * t₃ ≤ F * (p₀ * t₀ + p₁ * t₁ + p₂ * t₂ + p₃ * t₃) + 4096 * (W * F) * (r₀ + r₁ + r₂ + r₃)
+  under t₀ t₁ t₂ t₃ e = subst (λ (x : ℕ). l₀ * t₀ + l₁ * t₁ + l₂ * t₂ + l₃ * t₃ ≤ F * (p₀ * t₀ + p₁ * t₁ + p₂ * t₂ + p₃ * t₃) + 4096 * (W * F) * x) e (le-trans (four-le (4096 * (W * F)) l₀ l₁ l₂ l₃ (p₀ * F) (p₁ * F) (p₂ * F) (p₃ * F) t₀ t₁ t₂ t₃ (s₀ .low) (s₁ .low) (s₂ .low) (s₃ .low)) (le-of-eq (ap (λ (x : ℕ). x + 4096 * (W * F) * (t₀ + t₁ + t₂ + t₃)) (sym (flat p₀ p₁ p₂ p₃)))))
+    where
+      flat : (a b c d : ℕ) → F * (a * t₀ + b * t₁ + c * t₂ + d * t₃) ≡ a * F * t₀ + b * F * t₁ + c * F * t₂ + d * F * t₃
+      flat a b c d = omega arith
