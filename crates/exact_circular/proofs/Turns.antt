@@ -240,11 +240,10 @@ module _ (F W δ ρ xa xb r₁ r₃ : ℕ) (P : 0 < F) (R : ρ ≤ 32 * F) (A : 
   more : (Q Q' : ℕ) → xa * F ≤ Q + 4096 * (W * F) → Q' ≤ xb * F + 4096 * (W * F) → Q + F * r₃ ≤ Q' + F * r₁ + δ * ρ → xa + r₃ ≤ xb + r₁ + off
   more Q Q' a b e = le-of-mul-le-mul-right {k = F} (omega (arith, a, b, e, mul-le-mul-left δ R)) P
 
-  alike : (M M' Q Q' N s g : ℕ) → M ≡ N + xa * s + xb * g → M' ≡ N + xa * g + xb * s → s ≤ F * F + g + 4096 * (W * F) → F * F + g ≤ s + 4096 * (W * F)
-      → F * Q ≤ M + 4096 * (W * F) * ρ → M ≤ F * Q + 4096 * (W * F) * ρ → F * Q' ≤ M' + 4096 * (W * F) * ρ → M' ≤ F * Q' + 4096 * (W * F) * ρ
-      → Q + F * r₃ ≤ Q' + F * r₁ + δ * ρ → Q' + F * r₁ ≤ Q + F * r₃ + δ * ρ → xa + r₃ ≤ xb + r₁ + off
-  alike M M' Q Q' N s g e e' c c' q₁ q₂ q₃ q₄ t t' =
-      less M M' Q Q' (subst₂ (λ (x y : ℕ). xa * (F * F) + y ≤ xb * (F * F) + x + (xa + xb) * (4096 * (W * F))) (sym e) (sym e') (circle-low xa xb s g (F * F) (4096 * (W * F)) c c' N)) q₃ q₂ t
+  less-side : (M M' Q Q' N s g : ℕ) → M ≡ N + xa * s + xb * g → M' ≡ N + xa * g + xb * s → s ≤ F * F + g + 4096 * (W * F) → F * F + g ≤ s + 4096 * (W * F)
+      → F * Q' ≤ M' + 4096 * (W * F) * ρ → M ≤ F * Q + 4096 * (W * F) * ρ → Q + F * r₃ ≤ Q' + F * r₁ + δ * ρ → xa + r₃ ≤ xb + r₁ + off
+  less-side M M' Q Q' N s g e e' c c' q q' t =
+      less M M' Q Q' (subst₂ (λ (x y : ℕ). xa * (F * F) + y ≤ xb * (F * F) + x + (xa + xb) * (4096 * (W * F))) (sym e) (sym e') (circle-low xa xb s g (F * F) (4096 * (W * F)) c c' N)) q q' t
 
 -- ---- the products with the classes of the small angle turned back
 collect : (x₀ x₁ x₂ x₃ a₀ b₀ c₀ e₀ a₁ b₁ c₁ e₁ a₂ b₂ c₂ e₂ a₃ b₃ c₃ e₃ t₀ t₁ t₂ t₃ : ℕ) → (x₀ * a₀ + x₁ * b₀ + x₂ * c₀ + x₃ * e₀) * t₀ + (x₀ * a₁ + x₁ * b₁ + x₂ * c₁ + x₃ * e₁) * t₁ + (x₀ * a₂ + x₁ * b₂ + x₂ * c₂ + x₃ * e₂) * t₂ + (x₀ * a₃ + x₁ * b₃ + x₂ * c₃ + x₃ * e₃) * t₃ ≡ x₀ * (a₀ * t₀ + a₁ * t₁ + a₂ * t₂ + a₃ * t₃) + x₁ * (b₀ * t₀ + b₁ * t₁ + b₂ * t₂ + b₃ * t₃) + x₂ * (c₀ * t₀ + c₁ * t₁ + c₂ * t₂ + c₃ * t₃) + x₃ * (e₀ * t₀ + e₁ * t₁ + e₂ * t₂ + e₃ * t₃)
@@ -373,3 +372,80 @@ module _ (F W δ x₀ x₁ x₂ x₃ r₀ r₁ r₂ r₃ p₀ p₁ p₂ p₃ : �
     where
       flat : (a b c d : ℕ) → F * (a * t₀ + b * t₁ + c * t₂ + d * t₃) ≡ a * F * t₀ + b * F * t₁ + c * F * t₂ + d * F * t₃
       flat a b c d = omega arith
+
+  abbrev off' : ℕ
+  off' = 4194304 * W + 32 * δ
+
+  swap : (N a b : ℕ) → N + a + b ≡ N + b + a
+  swap N a b = omega arith
+
+  both : (xa xb : ℕ) → xa ≤ 256 * F → xb ≤ 256 * F → (M M' Q Q' N : ℕ) → M ≡ N + xa * sq + xb * cr → M' ≡ N + xa * cr + xb * sq
+      → F * Q ≤ M + 4096 * (W * F) * (r₀ + r₁ + r₂ + r₃) → M ≤ F * Q + 4096 * (W * F) * (r₀ + r₁ + r₂ + r₃) → F * Q' ≤ M' + 4096 * (W * F) * (r₀ + r₁ + r₂ + r₃) → M' ≤ F * Q' + 4096 * (W * F) * (r₀ + r₁ + r₂ + r₃)
+      → Q + F * r₃ ≤ Q' + F * r₁ + δ * (r₀ + r₁ + r₂ + r₃) → Q' + F * r₁ ≤ Q + F * r₃ + δ * (r₀ + r₁ + r₂ + r₃) → Alike xa xb r₁ r₃ off'
+  both xa xb A B M M' Q Q' N e e' q₁ q₂ q₃ q₄ t t' =
+      record {
+        low = less-side F W δ (r₀ + r₁ + r₂ + r₃) xa xb r₁ r₃ P ρ A B M M' Q Q' N sq cr e e' o o' q₃ q₂ t;
+        high = less-side F W δ (r₀ + r₁ + r₂ + r₃) xb xa r₃ r₁ P ρ B A M' M Q' Q N sq cr (e' ∙ swap N (xa * cr) (xb * sq)) (e ∙ swap N (xa * sq) (xb * cr)) o o' q₁ q₄ t';
+      }
+
+  turned-1 : r₃ + r₀ + r₁ + r₂ ≡ r₀ + r₁ + r₂ + r₃
+  turned-1 = omega arith
+
+  turned-3 : r₁ + r₂ + r₃ + r₀ ≡ r₀ + r₁ + r₂ + r₃
+  turned-3 = omega arith
+
+  turned-2 : r₂ + r₃ + r₀ + r₁ ≡ r₀ + r₁ + r₂ + r₃
+  turned-2 = omega arith
+
+  -- the sine, half a turn less the angle
+  sine-less : p₂ ≤ p₀ + F + δ → p₀ + F ≤ p₂ + δ → p₁ ≤ p₃ + δ → p₃ ≤ p₁ + δ → Alike x₁ x₃ r₁ r₃ off'
+  sine-less h k l m =
+      both x₁ x₃ c₁ c₃ (l₀ * r₃ + l₁ * r₀ + l₂ * r₁ + l₃ * r₂) (l₀ * r₁ + l₁ * r₂ + l₂ * r₃ + l₃ * r₀) (p₀ * r₃ + p₁ * r₀ + p₂ * r₁ + p₃ * r₂) (p₀ * r₁ + p₁ * r₂ + p₂ * r₃ + p₃ * r₀) ((x₀ + x₂) * odd) (at-1 x₀ x₁ x₂ x₃ r₀ r₁ r₂ r₃) (at-3 x₀ x₁ x₂ x₃ r₀ r₁ r₂ r₃)
+      (over r₃ r₀ r₁ r₂ turned-1) (under r₃ r₀ r₁ r₂ turned-1) (over r₁ r₂ r₃ r₀ turned-3) (under r₁ r₂ r₃ r₀ turned-3)
+      (first (turn-low F δ p₂ p₀ p₁ p₃ r₀ r₁ r₂ r₃ h k l m)) (second (turn-high F δ p₂ p₀ p₁ p₃ r₀ r₁ r₂ r₃ h k l m))
+    where
+      first : p₂ * r₁ + p₀ * r₃ + p₁ * r₀ + p₃ * r₂ + F * r₃ ≤ p₂ * r₃ + p₀ * r₁ + p₁ * r₂ + p₃ * r₀ + F * r₁ + δ * (r₀ + r₁ + r₂ + r₃) → p₀ * r₃ + p₁ * r₀ + p₂ * r₁ + p₃ * r₂ + F * r₃ ≤ p₀ * r₁ + p₁ * r₂ + p₂ * r₃ + p₃ * r₀ + F * r₁ + δ * (r₀ + r₁ + r₂ + r₃)
+      first = order (p₂ * r₁) (p₀ * r₃) (p₁ * r₀) (p₃ * r₂) (F * r₃) (p₂ * r₃) (p₀ * r₁) (p₁ * r₂) (p₃ * r₀) (F * r₁) (δ * (r₀ + r₁ + r₂ + r₃))
+        where
+          order : (a b c e f a' b' c' e' f' w : ℕ) → a + b + c + e + f ≤ a' + b' + c' + e' + f' + w → b + c + a + e + f ≤ b' + c' + a' + e' + f' + w
+          order a b c e f a' b' c' e' f' w h = omega arith
+
+      second : p₂ * r₃ + p₀ * r₁ + p₁ * r₂ + p₃ * r₀ + F * r₁ ≤ p₂ * r₁ + p₀ * r₃ + p₁ * r₀ + p₃ * r₂ + F * r₃ + δ * (r₀ + r₁ + r₂ + r₃) → p₀ * r₁ + p₁ * r₂ + p₂ * r₃ + p₃ * r₀ + F * r₁ ≤ p₀ * r₃ + p₁ * r₀ + p₂ * r₁ + p₃ * r₂ + F * r₃ + δ * (r₀ + r₁ + r₂ + r₃)
+      second = order (p₂ * r₃) (p₀ * r₁) (p₁ * r₂) (p₃ * r₀) (F * r₁) (p₂ * r₁) (p₀ * r₃) (p₁ * r₀) (p₃ * r₂) (F * r₃) (δ * (r₀ + r₁ + r₂ + r₃))
+        where
+          order : (a b c e f a' b' c' e' f' w : ℕ) → a + b + c + e + f ≤ a' + b' + c' + e' + f' + w → b + c + a + e + f ≤ b' + c' + a' + e' + f' + w
+          order a b c e f a' b' c' e' f' w h = omega arith
+
+  -- the cosine, a quarter of a turn less the angle
+  cosine-less : p₁ ≤ p₃ + F + δ → p₃ + F ≤ p₁ + δ → p₀ ≤ p₂ + δ → p₂ ≤ p₀ + δ → Alike x₀ x₂ r₁ r₃ off'
+  cosine-less h k l m =
+      both x₀ x₂ c₀ c₂ (l₀ * r₀ + l₁ * r₁ + l₂ * r₂ + l₃ * r₃) (l₀ * r₂ + l₁ * r₃ + l₂ * r₀ + l₃ * r₁) (p₀ * r₀ + p₁ * r₁ + p₂ * r₂ + p₃ * r₃) (p₀ * r₂ + p₁ * r₃ + p₂ * r₀ + p₃ * r₁) ((x₁ + x₃) * odd) (at-0 x₀ x₁ x₂ x₃ r₀ r₁ r₂ r₃) (at-2 x₀ x₁ x₂ x₃ r₀ r₁ r₂ r₃)
+      (over r₀ r₁ r₂ r₃ refl) (under r₀ r₁ r₂ r₃ refl) (over r₂ r₃ r₀ r₁ turned-2) (under r₂ r₃ r₀ r₁ turned-2)
+      (order (p₁ * r₁) (p₃ * r₃) (p₀ * r₀) (p₂ * r₂) (F * r₃) (p₁ * r₃) (p₃ * r₁) (p₀ * r₂) (p₂ * r₀) (F * r₁) (δ * (r₀ + r₁ + r₂ + r₃)) (turn-low F δ p₁ p₃ p₀ p₂ r₀ r₁ r₂ r₃ h k l m))
+      (order (p₁ * r₃) (p₃ * r₁) (p₀ * r₂) (p₂ * r₀) (F * r₁) (p₁ * r₁) (p₃ * r₃) (p₀ * r₀) (p₂ * r₂) (F * r₃) (δ * (r₀ + r₁ + r₂ + r₃)) (turn-high F δ p₁ p₃ p₀ p₂ r₀ r₁ r₂ r₃ h k l m))
+    where
+      order : (a b c e f a' b' c' e' f' w : ℕ) → a + b + c + e + f ≤ a' + b' + c' + e' + f' + w → c + a + e + b + f ≤ c' + a' + e' + b' + f' + w
+      order a b c e f a' b' c' e' f' w h = omega arith
+
+  -- the cosine, three quarters of a turn less the angle
+  cosine-less-three : p₃ ≤ p₁ + F + δ → p₁ + F ≤ p₃ + δ → p₂ ≤ p₀ + δ → p₀ ≤ p₂ + δ → Alike x₂ x₀ r₁ r₃ off'
+  cosine-less-three h k l m =
+      both x₂ x₀ c₂ c₀ (l₀ * r₂ + l₁ * r₃ + l₂ * r₀ + l₃ * r₁) (l₀ * r₀ + l₁ * r₁ + l₂ * r₂ + l₃ * r₃) (p₀ * r₂ + p₁ * r₃ + p₂ * r₀ + p₃ * r₁) (p₀ * r₀ + p₁ * r₁ + p₂ * r₂ + p₃ * r₃) ((x₁ + x₃) * odd)
+      (at-2 x₀ x₁ x₂ x₃ r₀ r₁ r₂ r₃ ∙ swap ((x₁ + x₃) * odd) (x₀ * cr) (x₂ * sq)) (at-0 x₀ x₁ x₂ x₃ r₀ r₁ r₂ r₃ ∙ swap ((x₁ + x₃) * odd) (x₀ * sq) (x₂ * cr))
+      (over r₂ r₃ r₀ r₁ turned-2) (under r₂ r₃ r₀ r₁ turned-2) (over r₀ r₁ r₂ r₃ refl) (under r₀ r₁ r₂ r₃ refl)
+      (order (p₃ * r₁) (p₁ * r₃) (p₂ * r₀) (p₀ * r₂) (F * r₃) (p₃ * r₃) (p₁ * r₁) (p₂ * r₂) (p₀ * r₀) (F * r₁) (δ * (r₀ + r₁ + r₂ + r₃)) (turn-low F δ p₃ p₁ p₂ p₀ r₀ r₁ r₂ r₃ h k l m))
+      (order (p₃ * r₃) (p₁ * r₁) (p₂ * r₂) (p₀ * r₀) (F * r₁) (p₃ * r₁) (p₁ * r₃) (p₂ * r₀) (p₀ * r₂) (F * r₃) (δ * (r₀ + r₁ + r₂ + r₃)) (turn-high F δ p₃ p₁ p₂ p₀ r₀ r₁ r₂ r₃ h k l m))
+    where
+      order : (a b c e f a' b' c' e' f' w : ℕ) → a + b + c + e + f ≤ a' + b' + c' + e' + f' + w → e + b + c + a + f ≤ e' + b' + c' + a' + f' + w
+      order a b c e f a' b' c' e' f' w h = omega arith
+
+-- ---- the classes of an angle that is a turn and the small one: xa and xb are those that the sine or the cosine is the difference of
+module _ (F W δ xa xb a b c e r₀ r₁ r₂ r₃ l l' : ℕ) (P : 0 < F) (A : xa ≤ 256 * F) (B : xb ≤ 256 * F) (ρ : r₀ + r₁ + r₂ + r₃ ≤ 32 * F)
+    (s : Within xa F l (4096 * (W * F))) (s' : Within xb F l' (4096 * (W * F))) (i : l ≡ a * r₁ + b * r₃ + c * r₀ + e * r₂) (i' : l' ≡ a * r₃ + b * r₁ + c * r₂ + e * r₀)
+    (h : a ≤ b + F + δ) (k : b + F ≤ a + δ) (m : c ≤ e + δ) (n : e ≤ c + δ) where
+  angle-more : Alike xa xb r₁ r₃ (4194304 * W + 32 * δ)
+  angle-more =
+      record {
+        low = more F W δ (r₀ + r₁ + r₂ + r₃) xa xb r₁ r₃ P ρ A B l l' (s .high) (s' .low) (subst₂ (λ (x y : ℕ). x + F * r₃ ≤ y + F * r₁ + δ * (r₀ + r₁ + r₂ + r₃)) (sym i) (sym i') (turn-low F δ a b c e r₀ r₁ r₂ r₃ h k m n));
+        high = more F W δ (r₀ + r₁ + r₂ + r₃) xb xa r₃ r₁ P ρ B A l' l (s' .high) (s .low) (subst₂ (λ (x y : ℕ). y + F * r₁ ≤ x + F * r₃ + δ * (r₀ + r₁ + r₂ + r₃)) (sym i) (sym i') (turn-high F δ a b c e r₀ r₁ r₂ r₃ h k m n));
+      }
