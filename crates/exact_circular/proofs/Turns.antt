@@ -19,14 +19,14 @@ unfoldable pub whole : ℕ
 unfolding full
 whole = full (2 ^ 61) 64
 
-unfoldable rest : ℕ
+unfoldable pub rest : ℕ
 rest = (5 * 2 ^ 61) ^ 64
 
 unfoldable pub part : ℕ → ℕ → ℕ
 unfolding num class
 part r y = num (class r) y (2 ^ 61) 64
 
-whole-pos : 0 < whole
+pub whole-pos : 0 < whole
 unfolding whole
 whole-pos = full-pos (2 ^ 61) 64 (pow-pos 61)
 
@@ -449,3 +449,120 @@ module _ (F W δ xa xb a b c e r₀ r₁ r₂ r₃ l l' : ℕ) (P : 0 < F) (A : 
         low = more F W δ (r₀ + r₁ + r₂ + r₃) xa xb r₁ r₃ P ρ A B l l' (s .high) (s' .low) (subst₂ (λ (x y : ℕ). x + F * r₃ ≤ y + F * r₁ + δ * (r₀ + r₁ + r₂ + r₃)) (sym i) (sym i') (turn-low F δ a b c e r₀ r₁ r₂ r₃ h k m n));
         high = more F W δ (r₀ + r₁ + r₂ + r₃) xb xa r₃ r₁ P ρ B A l' l (s' .high) (s .low) (subst₂ (λ (x y : ℕ). y + F * r₁ ≤ x + F * r₃ + δ * (r₀ + r₁ + r₂ + r₃)) (sym i) (sym i') (turn-high F δ a b c e r₀ r₁ r₂ r₃ h k m n));
       }
+
+-- ---- the turns: sine and cosine of each are within 2 ^ -62 of 0, 1 or -1
+unfoldable pub δ : ℕ
+unfolding whole
+δ = whole / 2 ^ 62
+
+abbrev pub Facts : (a b c e : ℕ) → Type 0
+Facts a b c e = (a ≤ b + whole + δ) × (b + whole ≤ a + δ) × (c ≤ e + δ) × (e ≤ c + δ)
+
+half-facts : Facts (part 2 halfTurn) (part 0 halfTurn) (part 1 halfTurn) (part 3 halfTurn)
+unfolding part whole δ num full class
+half-facts = (lit≤ tt, lit≤ tt, lit≤ tt, lit≤ tt)
+
+quarter-facts : Facts (part 1 quarterTurn) (part 3 quarterTurn) (part 0 quarterTurn) (part 2 quarterTurn)
+unfolding part whole δ num full class
+quarter-facts = (lit≤ tt, lit≤ tt, lit≤ tt, lit≤ tt)
+
+three-facts : Facts (part 3 threeQuarters) (part 1 threeQuarters) (part 2 threeQuarters) (part 0 threeQuarters)
+unfolding part whole δ num full class
+three-facts = (lit≤ tt, lit≤ tt, lit≤ tt, lit≤ tt)
+
+-- how far off, over `whole`
+unfoldable pub gap : ℕ
+gap = 4194304 * rest + 32 * δ
+
+pub gap-small : 2 ^ 56 * gap ≤ whole
+unfolding gap δ
+gap-small = go rest (whole / 2 ^ 62) whole rest-small (div-mul-le-self whole (2 ^ 62))
+  where
+    go : (x y z : ℕ) → 2 ^ 100 * x ≤ z → y * 2 ^ 62 ≤ z → 2 ^ 56 * (4194304 * x + 32 * y) ≤ z
+    go x y z a b = omega arith
+
+-- ---- for the angle x / 2 ^ 61 and the small one r / 2 ^ 61
+module _ (x r : ℕ) (X : x ≤ 5 * 2 ^ 61) (R : r ≤ 2 ^ 62) where
+  r-five : r ≤ 5 * 2 ^ 61
+  r-five = le-trans R (lit≤ tt)
+
+  four : part 0 r + part 1 r + part 2 r + part 3 r ≤ 32 * whole
+  four = go (part 0 r) (part 1 r) (part 2 r) (part 3 r) whole (up-to-two r 0 R (lit< tt)) (up-to-two r 1 R (lit< tt)) (up-to-two r 2 R (lit< tt)) (up-to-two r 3 R (lit< tt))
+    where
+      go : (a b c e F : ℕ) → a ≤ 8 * F → b ≤ 8 * F → c ≤ 8 * F → e ≤ 8 * F → a + b + c + e ≤ 32 * F
+      go a b c e F h k l m = omega arith
+
+  abbrev pub AlikeAt : ℕ → ℕ → Type 0
+  AlikeAt s t = Alike (part s x) (part t x) (part 1 r) (part 3 r) gap
+
+  module _ (p : ℕ) (T : p ≤ 5 * 2 ^ 61) (e : x + r ≡ p) where
+    sums-at : (i : ℕ) (l : ℕ) → Within (part i (x + r)) whole l (4096 * (rest * whole)) → Within (part i p) whole l (4096 * (rest * whole))
+    sums-at i l s = subst (λ (y : ℕ). Within (part i y) whole l (4096 * (rest * whole))) e s
+
+    T' : x + r ≤ 5 * 2 ^ 61
+    T' = le-trans (le-of-eq e) T
+
+    sine-turn : Facts (part 2 p) (part 0 p) (part 1 p) (part 3 p) → AlikeAt 1 3
+    unfolding gap
+    sine-turn f =
+        sine-less whole rest δ (part 0 x) (part 1 x) (part 2 x) (part 3 x) (part 0 r) (part 1 r) (part 2 r) (part 3 r) (part 0 p) (part 1 p) (part 2 p) (part 3 p) whole-pos (up-to-five x 0 X (lit< tt)) (up-to-five x 1 X (lit< tt)) (up-to-five x 2 X (lit< tt)) (up-to-five x 3 X (lit< tt)) four
+        (sums-at 0 _ (sum-0 x r X r-five T')) (sums-at 1 _ (sum-1 x r X r-five T')) (sums-at 2 _ (sum-2 x r X r-five T')) (sums-at 3 _ (sum-3 x r X r-five T')) (circle r r-five .0) (circle r r-five .1) (f .0) (f .1) (f .2) (f .3)
+
+    cosine-turn : Facts (part 1 p) (part 3 p) (part 0 p) (part 2 p) → AlikeAt 0 2
+    unfolding gap
+    cosine-turn f =
+        cosine-less whole rest δ (part 0 x) (part 1 x) (part 2 x) (part 3 x) (part 0 r) (part 1 r) (part 2 r) (part 3 r) (part 0 p) (part 1 p) (part 2 p) (part 3 p) whole-pos (up-to-five x 0 X (lit< tt)) (up-to-five x 1 X (lit< tt)) (up-to-five x 2 X (lit< tt)) (up-to-five x 3 X (lit< tt)) four
+        (sums-at 0 _ (sum-0 x r X r-five T')) (sums-at 1 _ (sum-1 x r X r-five T')) (sums-at 2 _ (sum-2 x r X r-five T')) (sums-at 3 _ (sum-3 x r X r-five T')) (circle r r-five .0) (circle r r-five .1) (f .0) (f .1) (f .2) (f .3)
+
+    cosine-turn-back : Facts (part 3 p) (part 1 p) (part 2 p) (part 0 p) → AlikeAt 2 0
+    unfolding gap
+    cosine-turn-back f =
+        cosine-less-three whole rest δ (part 0 x) (part 1 x) (part 2 x) (part 3 x) (part 0 r) (part 1 r) (part 2 r) (part 3 r) (part 0 p) (part 1 p) (part 2 p) (part 3 p) whole-pos (up-to-five x 0 X (lit< tt)) (up-to-five x 1 X (lit< tt)) (up-to-five x 2 X (lit< tt)) (up-to-five x 3 X (lit< tt)) four
+        (sums-at 0 _ (sum-0 x r X r-five T')) (sums-at 1 _ (sum-1 x r X r-five T')) (sums-at 2 _ (sum-2 x r X r-five T')) (sums-at 3 _ (sum-3 x r X r-five T')) (circle r r-five .0) (circle r r-five .1) (f .0) (f .1) (f .2) (f .3)
+
+  -- THE FIVE FOLDS
+  pub sin-below-half : x + r ≡ halfTurn → AlikeAt 1 3
+  sin-below-half e = sine-turn halfTurn (lit≤ tt) e half-facts
+
+  pub cos-below-quarter : x + r ≡ quarterTurn → AlikeAt 0 2
+  cos-below-quarter e = cosine-turn quarterTurn (lit≤ tt) e quarter-facts
+
+  pub cos-below-three : x + r ≡ threeQuarters → AlikeAt 2 0
+  cos-below-three e = cosine-turn-back threeQuarters (lit≤ tt) e three-facts
+
+  module _ (p : ℕ) (T : p ≤ 5 * 2 ^ 61) (e : p + r ≡ x) where
+    add-at : (i : ℕ) (l : ℕ) → Within (part i (p + r)) whole l (4096 * (rest * whole)) → Within (part i x) whole l (4096 * (rest * whole))
+    add-at i l s = subst (λ (y : ℕ). Within (part i y) whole l (4096 * (rest * whole))) e s
+
+    X' : p + r ≤ 5 * 2 ^ 61
+    X' = le-trans (le-of-eq e) X
+
+    sine-past : Facts (part 2 p) (part 0 p) (part 3 p) (part 1 p) → AlikeAt 3 1
+    unfolding gap
+    sine-past f =
+        angle-more whole rest δ (part 3 x) (part 1 x) (part 2 p) (part 0 p) (part 3 p) (part 1 p) (part 0 r) (part 1 r) (part 2 r) (part 3 r) _ _ whole-pos (up-to-five x 3 X (lit< tt)) (up-to-five x 1 X (lit< tt)) four
+        (add-at 3 _ (sum-3 p r T r-five X')) (add-at 1 _ (sum-1 p r T r-five X')) (order (part 0 p * part 3 r) (part 1 p * part 2 r) (part 2 p * part 1 r) (part 3 p * part 0 r)) (order' (part 0 p * part 1 r) (part 1 p * part 0 r) (part 2 p * part 3 r) (part 3 p * part 2 r)) (f .0) (f .1) (f .2) (f .3)
+      where
+        order : (a b c e : ℕ) → a + b + c + e ≡ c + a + e + b
+        order a b c e = omega arith
+
+        order' : (a b c e : ℕ) → a + b + c + e ≡ c + a + e + b
+        order' a b c e = omega arith
+
+    cosine-past : Facts (part 1 p) (part 3 p) (part 2 p) (part 0 p) → AlikeAt 2 0
+    unfolding gap
+    cosine-past f =
+        angle-more whole rest δ (part 2 x) (part 0 x) (part 1 p) (part 3 p) (part 2 p) (part 0 p) (part 0 r) (part 1 r) (part 2 r) (part 3 r) _ _ whole-pos (up-to-five x 2 X (lit< tt)) (up-to-five x 0 X (lit< tt)) four
+        (add-at 2 _ (sum-2 p r T r-five X')) (add-at 0 _ (sum-0 p r T r-five X')) (order (part 0 p * part 2 r) (part 1 p * part 1 r) (part 2 p * part 0 r) (part 3 p * part 3 r)) (order' (part 0 p * part 0 r) (part 1 p * part 3 r) (part 2 p * part 2 r) (part 3 p * part 1 r)) (f .0) (f .1) (f .2) (f .3)
+      where
+        order : (a b c e : ℕ) → a + b + c + e ≡ b + e + c + a
+        order a b c e = omega arith
+
+        order' : (a b c e : ℕ) → a + b + c + e ≡ b + e + c + a
+        order' a b c e = omega arith
+
+  pub sin-above-half : halfTurn + r ≡ x → AlikeAt 3 1
+  sin-above-half e = sine-past halfTurn (lit≤ tt) e (half-facts .0, half-facts .1, half-facts .3, half-facts .2)
+
+  pub cos-above-quarter : quarterTurn + r ≡ x → AlikeAt 2 0
+  cos-above-quarter e = cosine-past quarterTurn (lit≤ tt) e (quarter-facts .0, quarter-facts .1, quarter-facts .3, quarter-facts .2)
