@@ -2,6 +2,7 @@ pub mod Kernel
 pub mod Quads
 pub mod Turns
 pub mod Folds
+pub mod Sums
 pub mod Ends
 pub mod Atan
 pub mod Fine
