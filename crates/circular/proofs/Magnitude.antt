@@ -34,3 +34,32 @@ scaled-pos a = mul-pos (go a) (pow-pos (a / 2 ^ 23 - 115))
 
 pub mag-le : (a : ℕ) → a ≤ 0x4080_0000 → magOf a ≤ 2 ^ 63
 mag-le a h = mul-le-mul-right (2 ^ 26) (scaled-le a h)
+
+-- at least 2 ^ -12
+pub mag-ge : (a : ℕ) → 2 ^ 49 ≤ magOf a
+mag-ge a = mul-le-mul-right (2 ^ 26) (le-trans (le-of-eq refl) (mul-le-mul (m-ge a) (pow-pos (a / 2 ^ 23 - 115))))
+  where
+    m-ge : (a : ℕ) → 2 ^ 23 ≤ 2 ^ 23 + a % 2 ^ 23
+    m-ge a = omega arith
+
+-- below 1, or a multiple of 2 ^ -23
+pub grain : (a : ℕ) → (magOf a < 2 ^ 61) ⊎ ((k : ℕ) × (magOf a ≡ k * 2 ^ 38))
+grain a = split (a / 2 ^ 23 - 115) 12 (λ h. inl (below h)) (λ h. inr ((2 ^ 23 + a % 2 ^ 23) * 2 ^ (a / 2 ^ 23 - 115 - 12), multiple h))
+  where
+    below : a / 2 ^ 23 - 115 < 12 → magOf a < 2 ^ 61
+    below h = go ((2 ^ 23 + a % 2 ^ 23) * 2 ^ (a / 2 ^ 23 - 115)) (le-trans (mul-le-mul (top a) (pow-mono {i = a / 2 ^ 23 - 115} {j = 11} (omega arith))) (lit≤ tt))
+      where
+        top : (a : ℕ) → 2 ^ 23 + a % 2 ^ 23 ≤ 2 ^ 24 - 1
+        top a = omega arith
+
+        go : (x : ℕ) → x ≤ (2 ^ 24 - 1) * 2 ^ 11 → x * 2 ^ 26 < 2 ^ 61
+        go x l = omega arith
+
+    multiple : 12 ≤ a / 2 ^ 23 - 115 → magOf a ≡ (2 ^ 23 + a % 2 ^ 23) * 2 ^ (a / 2 ^ 23 - 115 - 12) * 2 ^ 38
+    multiple h = go (2 ^ 23 + a % 2 ^ 23) (2 ^ (a / 2 ^ 23 - 115 - 12)) (2 ^ (a / 2 ^ 23 - 115)) (ap (λ (x : ℕ). 2 ^ x) (sym (back (a / 2 ^ 23 - 115) h)) ∙ pow-add 2 (a / 2 ^ 23 - 115 - 12) 12)
+      where
+        back : (e : ℕ) → 12 ≤ e → e - 12 + 12 ≡ e
+        back e l = omega arith
+
+        go : (m x y : ℕ) → y ≡ x * 2 ^ 12 → m * y * 2 ^ 26 ≡ m * x * 2 ^ 38
+        go m x y e = omega (arith, ap (λ (t : ℕ). m * t) e)

@@ -3,9 +3,11 @@ pub mod Quads
 pub mod Turns
 pub mod Folds
 pub mod Sums
+pub mod Waves
 pub mod Ends
 pub mod Atan
 pub mod Fine
 pub mod AsinEnds
 pub mod SineRoom
 pub mod Asin
+pub mod Literal
