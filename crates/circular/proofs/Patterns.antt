@@ -11,7 +11,8 @@ use borrow.Author.Tests.{le-ltb, lt-ltb, le-leb, lt-leb}
 use Rattle.series.specs.Series.{Kind, sine, cosine}
 use Rattle.fixed.specs.Fixed.{pick, mant, pattern}
 use Rattle.fixed.proofs.Round.{rounded, pattern-lt}
-use Rattle.circular.specs.SinCos.{times, added, taken, squareOf, ratioOf, sineAt, quarterTurn, halfTurn, threeQuarters, waveAt, magOf, atSmall, waveBits}
+use Rattle.series.proofs.Cases.{split}
+use Rattle.circular.specs.SinCos.{times, added, taken, squareOf, ratioOf, sineAt, quarterTurn, halfTurn, threeQuarters, sinFold, cosFold, sinSign, cosSign, waveAt, magOf, atSmall, waveBits}
 
 -- ---- the three cases of the definition
 abbrev foldedBits : Kind → ℕ → ℕ
@@ -30,24 +31,81 @@ unfolding waveBits
 outside-bits w b h = ap₂ (λ (x y : Bool). pick x (atSmall w b) (pick y (foldedBits w b) 0x7fc0_0000)) (le-ltb _ _ (le-trans (lit≤ tt) (le-of-lt h))) (lt-leb _ _ h)
 
 -- ---- the folds
-module _ (t X : ℕ) where
-  pub sin-direct : X ≤ quarterTurn → waveAt sine t X ≡ t * 2 ^ 31 + sineAt X
-  sin-direct h = ap (λ (x : Bool). pick x (t * 2 ^ 31 + sineAt X) (pick (leb X halfTurn) (t * 2 ^ 31 + sineAt (halfTurn - X)) ((1 - t) * 2 ^ 31 + sineAt (X - halfTurn)))) (le-leb _ _ h)
+module _ (X : ℕ) where
+  pub sin-kept : X ≤ quarterTurn → sinFold X ≡ X
+  sin-kept h = ap (λ (x : Bool). pick x X (pick (leb X halfTurn) (halfTurn - X) (X - halfTurn))) (le-leb _ _ h)
 
-  pub sin-below : quarterTurn < X → X ≤ halfTurn → waveAt sine t X ≡ t * 2 ^ 31 + sineAt (halfTurn - X)
-  sin-below h k = ap₂ (λ (x y : Bool). pick x (t * 2 ^ 31 + sineAt X) (pick y (t * 2 ^ 31 + sineAt (halfTurn - X)) ((1 - t) * 2 ^ 31 + sineAt (X - halfTurn)))) (lt-leb _ _ h) (le-leb _ _ k)
+  pub sin-left : quarterTurn < X → X ≤ halfTurn → sinFold X ≡ halfTurn - X
+  sin-left h k = ap₂ (λ (x y : Bool). pick x X (pick y (halfTurn - X) (X - halfTurn))) (lt-leb _ _ h) (le-leb _ _ k)
 
-  pub sin-above : halfTurn < X → waveAt sine t X ≡ (1 - t) * 2 ^ 31 + sineAt (X - halfTurn)
-  sin-above h = ap₂ (λ (x y : Bool). pick x (t * 2 ^ 31 + sineAt X) (pick y (t * 2 ^ 31 + sineAt (halfTurn - X)) ((1 - t) * 2 ^ 31 + sineAt (X - halfTurn)))) (lt-leb _ _ (le-trans (lit≤ tt) h)) (lt-leb _ _ h)
+  pub sin-past : halfTurn < X → sinFold X ≡ X - halfTurn
+  sin-past h = ap₂ (λ (x y : Bool). pick x X (pick y (halfTurn - X) (X - halfTurn))) (lt-leb _ _ (le-trans (lit≤ tt) h)) (lt-leb _ _ h)
 
-  pub cos-below : X ≤ quarterTurn → waveAt cosine t X ≡ sineAt (quarterTurn - X)
-  cos-below h = ap (λ (x : Bool). pick x (sineAt (quarterTurn - X)) (pick (leb X halfTurn) (2 ^ 31 + sineAt (X - quarterTurn)) (2 ^ 31 + sineAt (threeQuarters - X)))) (le-leb _ _ h)
+  pub cos-left : X ≤ quarterTurn → cosFold X ≡ quarterTurn - X
+  cos-left h = ap (λ (x : Bool). pick x (quarterTurn - X) (pick (leb X halfTurn) (X - quarterTurn) (threeQuarters - X))) (le-leb _ _ h)
 
-  pub cos-above : quarterTurn < X → X ≤ halfTurn → waveAt cosine t X ≡ 2 ^ 31 + sineAt (X - quarterTurn)
-  cos-above h k = ap₂ (λ (x y : Bool). pick x (sineAt (quarterTurn - X)) (pick y (2 ^ 31 + sineAt (X - quarterTurn)) (2 ^ 31 + sineAt (threeQuarters - X)))) (lt-leb _ _ h) (le-leb _ _ k)
+  pub cos-past : quarterTurn < X → X ≤ halfTurn → cosFold X ≡ X - quarterTurn
+  cos-past h k = ap₂ (λ (x y : Bool). pick x (quarterTurn - X) (pick y (X - quarterTurn) (threeQuarters - X))) (lt-leb _ _ h) (le-leb _ _ k)
 
-  pub cos-beyond : halfTurn < X → waveAt cosine t X ≡ 2 ^ 31 + sineAt (threeQuarters - X)
-  cos-beyond h = ap₂ (λ (x y : Bool). pick x (sineAt (quarterTurn - X)) (pick y (2 ^ 31 + sineAt (X - quarterTurn)) (2 ^ 31 + sineAt (threeQuarters - X)))) (lt-leb _ _ (le-trans (lit≤ tt) h)) (lt-leb _ _ h)
+  pub cos-last : halfTurn < X → cosFold X ≡ threeQuarters - X
+  cos-last h = ap₂ (λ (x y : Bool). pick x (quarterTurn - X) (pick y (X - quarterTurn) (threeQuarters - X))) (lt-leb _ _ (le-trans (lit≤ tt) h)) (lt-leb _ _ h)
+
+  -- a multiple of 2 ^ 26 is no turn, so the angle is not 0; and it is below 2
+  abbrev Angle : ℕ → Type 0
+  Angle r = (0 < r) × (r < 2 ^ 62)
+
+  pub sin-angle : 0 < X → X % 2 ^ 26 ≡ 0 → X ≤ 2 ^ 63 → Angle (sinFold X)
+  sin-angle p m h =
+      split quarterTurn X
+      (λ k. split halfTurn X (λ j. subst Angle (sym (sin-past j)) (omega arith, omega arith)) (λ j. subst Angle (sym (sin-left k j)) (omega arith, omega arith)))
+      (λ k. subst Angle (sym (sin-kept k)) (p, omega arith))
+
+  pub cos-angle : X % 2 ^ 26 ≡ 0 → X ≤ 2 ^ 63 → Angle (cosFold X)
+  cos-angle m h =
+      split quarterTurn X
+      (λ k. split halfTurn X (λ j. subst Angle (sym (cos-last j)) (omega arith, omega arith)) (λ j. subst Angle (sym (cos-past k j)) (omega arith, omega arith)))
+      (λ k. subst Angle (sym (cos-left k)) (omega arith, omega arith))
+
+  pub sin-sign-kept : (t : ℕ) → X ≤ halfTurn → sinSign t X ≡ t
+  sin-sign-kept t h = ap (λ (x : Bool). pick x t (1 - t)) (le-leb _ _ h)
+
+  pub sin-sign-turned : (t : ℕ) → halfTurn < X → sinSign t X ≡ 1 - t
+  sin-sign-turned t h = ap (λ (x : Bool). pick x t (1 - t)) (lt-leb _ _ h)
+
+  pub cos-sign-plus : X ≤ quarterTurn → cosSign X ≡ 0
+  cos-sign-plus h = ap (λ (x : Bool). pick x 0 1) (le-leb _ _ h)
+
+  pub cos-sign-minus : quarterTurn < X → cosSign X ≡ 1
+  cos-sign-minus h = ap (λ (x : Bool). pick x 0 1) (lt-leb _ _ h)
+
+  pub sin-sign-le : (t : ℕ) → t ≤ 1 → sinSign t X ≤ 1
+  sin-sign-le t h = split halfTurn X (λ k. le-trans (le-of-eq (sin-sign-turned t k)) (omega arith)) (λ k. le-trans (le-of-eq (sin-sign-kept t k)) h)
+
+  pub cos-sign-le : cosSign X ≤ 1
+  cos-sign-le = split quarterTurn X (λ k. le-of-eq (cos-sign-minus k)) (λ k. le-trans (le-of-eq (cos-sign-plus k)) (lit≤ tt))
+
+  -- the answers
+  module _ (t : ℕ) where
+    answer : (s r s' r' : ℕ) → s ≡ s' → r ≡ r' → s * 2 ^ 31 + sineAt r ≡ s' * 2 ^ 31 + sineAt r'
+    answer s r s' r' e g = ap₂ (λ (x y : ℕ). x * 2 ^ 31 + sineAt y) e g
+
+    pub sin-direct : X ≤ quarterTurn → waveAt sine t X ≡ t * 2 ^ 31 + sineAt X
+    sin-direct h = answer (sinSign t X) (sinFold X) t X (sin-sign-kept t (le-trans h (lit≤ tt))) (sin-kept h)
+
+    pub sin-below : quarterTurn < X → X ≤ halfTurn → waveAt sine t X ≡ t * 2 ^ 31 + sineAt (halfTurn - X)
+    sin-below h k = answer (sinSign t X) (sinFold X) t (halfTurn - X) (sin-sign-kept t k) (sin-left h k)
+
+    pub sin-above : halfTurn < X → waveAt sine t X ≡ (1 - t) * 2 ^ 31 + sineAt (X - halfTurn)
+    sin-above h = answer (sinSign t X) (sinFold X) (1 - t) (X - halfTurn) (sin-sign-turned t h) (sin-past h)
+
+    pub cos-below : X ≤ quarterTurn → waveAt cosine t X ≡ 0 * 2 ^ 31 + sineAt (quarterTurn - X)
+    cos-below h = answer (cosSign X) (cosFold X) 0 (quarterTurn - X) (cos-sign-plus h) (cos-left h)
+
+    pub cos-above : quarterTurn < X → X ≤ halfTurn → waveAt cosine t X ≡ 1 * 2 ^ 31 + sineAt (X - quarterTurn)
+    cos-above h k = answer (cosSign X) (cosFold X) 1 (X - quarterTurn) (cos-sign-minus h) (cos-past h k)
+
+    pub cos-beyond : halfTurn < X → waveAt cosine t X ≡ 1 * 2 ^ 31 + sineAt (threeQuarters - X)
+    cos-beyond h = answer (cosSign X) (cosFold X) 1 (threeQuarters - X) (cos-sign-minus (le-trans (lit≤ tt) h)) (cos-last h)
 
 -- ---- products of fractions
 pub times-le : (u v : ℕ) → u < 2 ^ 32 → times u v ≤ v

@@ -42,10 +42,23 @@ halfTurn = 7244019458077122842
 abbrev pub threeQuarters : ℕ
 threeQuarters = 10866029187115684264
 
--- at |x| = X / 2 ^ 61, t being 1 where x is negative: sin x = sin (π - x) = - sin (x - π); cos x = sin (π / 2 - x) = - sin (x - π / 2) = - sin (3 π / 2 - x)
+-- the angle onto which |x| = X / 2 ^ 61 is folded: sin x = sin (π - x) = - sin (x - π), and cos x = sin (π / 2 - x) = - sin (x - π / 2) = - sin (3 π / 2 - x)
+abbrev pub sinFold : ℕ → ℕ
+sinFold X = pick (leb X quarterTurn) X (pick (leb X halfTurn) (halfTurn - X) (X - halfTurn))
+
+abbrev pub cosFold : ℕ → ℕ
+cosFold X = pick (leb X quarterTurn) (quarterTurn - X) (pick (leb X halfTurn) (X - quarterTurn) (threeQuarters - X))
+
+-- the sign, t being 1 where x is negative: the sine's is turned from π on; the cosine does not look at x's, and is negative from π / 2 on
+abbrev pub sinSign : (t X : ℕ) → ℕ
+sinSign t X = pick (leb X halfTurn) t (1 - t)
+
+abbrev pub cosSign : ℕ → ℕ
+cosSign X = pick (leb X quarterTurn) 0 1
+
 abbrev pub waveAt : Kind → (t X : ℕ) → ℕ
-waveAt sine t X = pick (leb X quarterTurn) (t * 2 ^ 31 + sineAt X) (pick (leb X halfTurn) (t * 2 ^ 31 + sineAt (halfTurn - X)) ((1 - t) * 2 ^ 31 + sineAt (X - halfTurn)))
-waveAt cosine t X = pick (leb X quarterTurn) (sineAt (quarterTurn - X)) (pick (leb X halfTurn) (2 ^ 31 + sineAt (X - quarterTurn)) (2 ^ 31 + sineAt (threeQuarters - X)))
+waveAt sine t X = sinSign t X * 2 ^ 31 + sineAt (sinFold X)
+waveAt cosine t X = cosSign X * 2 ^ 31 + sineAt (cosFold X)
 
 -- |x| in units of 2 ^ -61; a is the pattern of |x|, from 2 ^ -12 to 4
 abbrev pub magOf : ℕ → ℕ

@@ -3,7 +3,7 @@ ghost use mathlib.Core.Path.{_≡_};
 ghost use lib.Count.{leadingZeros};
 ghost use Prim.Native.Nat.{_+_, _-_, _*_, _/_, _%_, _^_, _<_, _≤_};
 ghost use Rattle.series.specs.Series.{sine, cosine};
-ghost use Rattle.circular.specs.SinCos.{times, added, taken, ratioOf, sineAt, quarterTurn, halfTurn, threeQuarters, waveAt, waveBits};
+ghost use Rattle.circular.specs.SinCos.{times, added, taken, ratioOf, sineAt, sinFold, cosFold, sinSign, cosSign, waveBits};
 use fixed::pack;
 use fixed::scaled;
 
@@ -58,32 +58,52 @@ fn sine_at(r: u64) -> u32
     pack(digits(r) * ratio(r)) - (u64::leading_zeros(r) + 5) * 8388608
 }
 
-// the sine at x / 2^61 up to 4, with the sign t
-fn sin_folded(x: u64, t: u32) -> u32
-    requires { ⌜ (0 < x) × (x % 2 ^ 26 ≡ 0) × (x ≤ 2 ^ 63) × (t ≤ 1) ⌝ }
-    ensures { λ r. ⌜ r ≡ waveAt sine t x ⌝ }
+// the angle onto which x / 2^61, up to 4, is folded for its sine
+fn sin_fold(x: u64) -> u64
+    requires { ⌜ x ≤ 2 ^ 63 ⌝ }
+    ensures { λ r. ⌜ r ≡ sinFold x ⌝ }
 {
     if x <= 3622009729038561421 {
-        return t * 2147483648 + sine_at(x);
+        return x;
     }
     if x <= 7244019458077122842 {
-        return t * 2147483648 + sine_at(7244019458077122842 - x);
+        return 7244019458077122842 - x;
     }
-    (1 - t) * 2147483648 + sine_at(x - 7244019458077122842)
+    x - 7244019458077122842
 }
 
-// the cosine there
-fn cos_folded(x: u64) -> u32
-    requires { ⌜ (x % 2 ^ 26 ≡ 0) × (x ≤ 2 ^ 63) ⌝ }
-    ensures { λ r. ⌜ r ≡ waveAt cosine 0 x ⌝ }
+// and for its cosine
+fn cos_fold(x: u64) -> u64
+    requires { ⌜ x ≤ 2 ^ 63 ⌝ }
+    ensures { λ r. ⌜ r ≡ cosFold x ⌝ }
 {
     if x <= 3622009729038561421 {
-        return sine_at(3622009729038561421 - x);
+        return 3622009729038561421 - x;
     }
     if x <= 7244019458077122842 {
-        return 2147483648 + sine_at(x - 3622009729038561421);
+        return x - 3622009729038561421;
     }
-    2147483648 + sine_at(10866029187115684264 - x)
+    10866029187115684264 - x
+}
+
+// the sign of the sine, 1 for minus, where t is that of x
+fn sin_sign(t: u32, x: u64) -> u32
+    requires { ⌜ t ≤ 1 ⌝ }
+    ensures { λ r. ⌜ r ≡ sinSign t x ⌝ }
+{
+    if x <= 7244019458077122842 {
+        return t;
+    }
+    1 - t
+}
+
+fn cos_sign(x: u64) -> u32
+    ensures { λ r. ⌜ r ≡ cosSign x ⌝ }
+{
+    if x <= 3622009729038561421 {
+        return 0;
+    }
+    1
 }
 
 // from the bit pattern of x to that of its sine
@@ -97,7 +117,8 @@ pub fn sin_bits(b: u32) -> u32
     if 0x40800000 < a {
         return 0x7fc00000;
     }
-    sin_folded(scaled(a, 115) * 67108864, b / 2147483648)
+    let x = scaled(a, 115) * 67108864;
+    sin_sign(b / 2147483648, x) * 2147483648 + sine_at(sin_fold(x))
 }
 
 // the same for the cosine
@@ -111,5 +132,6 @@ pub fn cos_bits(b: u32) -> u32
     if 0x40800000 < a {
         return 0x7fc00000;
     }
-    cos_folded(scaled(a, 115) * 67108864)
+    let x = scaled(a, 115) * 67108864;
+    cos_sign(x) * 2147483648 + sine_at(cos_fold(x))
 }

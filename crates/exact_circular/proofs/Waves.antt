@@ -172,7 +172,7 @@ module _ (b : ℕ) (h : b % 2 ^ 31 ≤ 0x4080_0000) where
         r = X;
         least = le-trans (lit≤ tt) (mag-ge (b % 2 ^ 31));
         most = m;
-        bits = sin-direct (b / 2 ^ 31) X l;
+        bits = sin-direct X (b / 2 ^ 31) l;
         near = wider-limit Ksin X (2 ^ 61) X (2 ^ 61) 9 (2 ^ 93) (ratioOf X * X) 0 (20 * X) (20 * X + 2 ^ 37 + 2 ^ 30) (wide (20 * X)) (later Ksin X (2 ^ 61) X (2 ^ 61) 4 9 (2 ^ 93) (ratioOf X * X) 0 (20 * X) (lit≤ tt) (kernel X m));
       }
     where
@@ -189,7 +189,7 @@ module _ (b : ℕ) (h : b % 2 ^ 31 ≤ 0x4080_0000) where
         r = halfTurn - X;
         least = below-half X X-grain l;
         most = m;
-        bits = sin-below (b / 2 ^ 31) X k l;
+        bits = sin-below X (b / 2 ^ 31) k l;
         near = fold-plus sine X (halfTurn - X) X-le m (sin-below-half X (halfTurn - X) X-five (le-of-lt m) (rest-of X halfTurn l));
       }
     where
@@ -203,15 +203,12 @@ module _ (b : ℕ) (h : b % 2 ^ 31 ≤ 0x4080_0000) where
         r = X - halfTurn;
         least = above-half X X-grain k;
         most = m;
-        bits = sin-above (b / 2 ^ 31) X k;
+        bits = sin-above X (b / 2 ^ 31) k;
         near = fold-minus sine X (X - halfTurn) X-le m (sin-above-half X (X - halfTurn) X-five (le-of-lt m) (past-of X halfTurn k));
       }
     where
       go : (X : ℕ) → X ≤ 2 ^ 63 → X - halfTurn < 2 ^ 62
       go X k = omega arith
-
-  no-sign : (x : ℕ) → x ≡ 0 * 2 ^ 31 + x
-  no-sign x = omega arith
 
   cosine-below : X ≤ quarterTurn → Folded cosine b true
   cosine-below l =
@@ -220,7 +217,7 @@ module _ (b : ℕ) (h : b % 2 ^ 31 ≤ 0x4080_0000) where
         r = quarterTurn - X;
         least = below-quarter X X-grain l;
         most = m;
-        bits = cos-below (b / 2 ^ 31) X l ∙ no-sign (sineAt (quarterTurn - X));
+        bits = cos-below X (b / 2 ^ 31) l;
         near = fold-plus cosine X (quarterTurn - X) X-le m (cos-below-quarter X (quarterTurn - X) X-five (le-of-lt m) (rest-of X quarterTurn l));
       }
     where
@@ -234,7 +231,7 @@ module _ (b : ℕ) (h : b % 2 ^ 31 ≤ 0x4080_0000) where
         r = X - quarterTurn;
         least = above-quarter X X-grain k;
         most = m;
-        bits = cos-above (b / 2 ^ 31) X k l;
+        bits = cos-above X (b / 2 ^ 31) k l;
         near = fold-minus cosine X (X - quarterTurn) X-le m (cos-above-quarter X (X - quarterTurn) X-five (le-of-lt m) (past-of X quarterTurn k));
       }
     where
@@ -248,7 +245,7 @@ module _ (b : ℕ) (h : b % 2 ^ 31 ≤ 0x4080_0000) where
         r = threeQuarters - X;
         least = away X X-le;
         most = m;
-        bits = cos-beyond (b / 2 ^ 31) X k;
+        bits = cos-beyond X (b / 2 ^ 31) k;
         near = fold-minus cosine X (threeQuarters - X) X-le m (cos-below-three X (threeQuarters - X) X-five (le-of-lt m) (rest-of X threeQuarters (le-trans X-le (lit≤ tt))));
       }
     where
