@@ -12,7 +12,7 @@ use Rattle.series.specs.Series.{Kind, sine, cosine}
 use Rattle.fixed.specs.Fixed.{pick, mant, pattern}
 use Rattle.fixed.proofs.Round.{rounded, pattern-lt}
 use Rattle.series.proofs.Cases.{split}
-use Rattle.circular.specs.SinCos.{times, added, taken, squareOf, ratioOf, sineAt, quarterTurn, halfTurn, threeQuarters, sinFold, cosFold, sinSign, cosSign, waveAt, magOf, atSmall, waveBits}
+use Rattle.circular.specs.SinCos.{times, added, taken, squareOf, ratioOf, sineAt, quarterTurn, halfTurn, threeQuarters, apart, sinFold, cosFold, sinSign, cosSign, waveAt, magOf, atSmall, waveBits}
 
 -- ---- the three cases of the definition
 abbrev foldedBits : Kind → ℕ → ℕ
@@ -30,25 +30,39 @@ pub outside-bits : (w : Kind) (b : ℕ) → 0x4080_0000 < b % 2 ^ 31 → waveBit
 unfolding waveBits
 outside-bits w b h = ap₂ (λ (x y : Bool). pick x (atSmall w b) (pick y (foldedBits w b) 0x7fc0_0000)) (le-ltb _ _ (le-trans (lit≤ tt) (le-of-lt h))) (lt-leb _ _ h)
 
+-- ---- distances
+pub apart-under : (u v : ℕ) → u ≤ v → apart u v ≡ v - u
+apart-under u v h = omega arith
+
+pub apart-over : (u v : ℕ) → v ≤ u → apart u v ≡ u - v
+apart-over u v h = omega arith
+
+-- the larger less the smaller
+pub chosen : (u v : ℕ) → (pick (leb u v) u v ≤ pick (leb u v) v u) × (pick (leb u v) v u - pick (leb u v) u v ≡ apart u v)
+chosen u v =
+    split v u
+    (λ l. let e = lt-leb u v l in (subst (λ (t : Bool). pick t u v ≤ pick t v u) (sym e) (le-of-lt l), ap (λ (t : Bool). pick t v u - pick t u v) e ∙ sym (apart-over u v (le-of-lt l))))
+    (λ l. let e = le-leb u v l in (subst (λ (t : Bool). pick t u v ≤ pick t v u) (sym e) l, ap (λ (t : Bool). pick t v u - pick t u v) e ∙ sym (apart-under u v l)))
+
 -- ---- the folds
 module _ (X : ℕ) where
   pub sin-kept : X ≤ quarterTurn → sinFold X ≡ X
-  sin-kept h = ap (λ (x : Bool). pick x X (pick (leb X halfTurn) (halfTurn - X) (X - halfTurn))) (le-leb _ _ h)
+  sin-kept h = ap (λ (x : Bool). pick x X (apart X halfTurn)) (le-leb _ _ h)
 
   pub sin-left : quarterTurn < X → X ≤ halfTurn → sinFold X ≡ halfTurn - X
-  sin-left h k = ap₂ (λ (x y : Bool). pick x X (pick y (halfTurn - X) (X - halfTurn))) (lt-leb _ _ h) (le-leb _ _ k)
+  sin-left h k = ap (λ (x : Bool). pick x X (apart X halfTurn)) (lt-leb _ _ h) ∙ apart-under X halfTurn k
 
   pub sin-past : halfTurn < X → sinFold X ≡ X - halfTurn
-  sin-past h = ap₂ (λ (x y : Bool). pick x X (pick y (halfTurn - X) (X - halfTurn))) (lt-leb _ _ (le-trans (lit≤ tt) h)) (lt-leb _ _ h)
+  sin-past h = ap (λ (x : Bool). pick x X (apart X halfTurn)) (lt-leb _ _ (le-trans (lit≤ tt) h)) ∙ apart-over X halfTurn (le-of-lt h)
 
   pub cos-left : X ≤ quarterTurn → cosFold X ≡ quarterTurn - X
-  cos-left h = ap (λ (x : Bool). pick x (quarterTurn - X) (pick (leb X halfTurn) (X - quarterTurn) (threeQuarters - X))) (le-leb _ _ h)
+  cos-left h = ap (λ (x : Bool). pick x (apart X quarterTurn) (threeQuarters - X)) (le-leb _ _ (le-trans h (lit≤ tt))) ∙ apart-under X quarterTurn h
 
   pub cos-past : quarterTurn < X → X ≤ halfTurn → cosFold X ≡ X - quarterTurn
-  cos-past h k = ap₂ (λ (x y : Bool). pick x (quarterTurn - X) (pick y (X - quarterTurn) (threeQuarters - X))) (lt-leb _ _ h) (le-leb _ _ k)
+  cos-past h k = ap (λ (x : Bool). pick x (apart X quarterTurn) (threeQuarters - X)) (le-leb _ _ k) ∙ apart-over X quarterTurn (le-of-lt h)
 
   pub cos-last : halfTurn < X → cosFold X ≡ threeQuarters - X
-  cos-last h = ap₂ (λ (x y : Bool). pick x (quarterTurn - X) (pick y (X - quarterTurn) (threeQuarters - X))) (lt-leb _ _ (le-trans (lit≤ tt) h)) (lt-leb _ _ h)
+  cos-last h = ap (λ (x : Bool). pick x (apart X quarterTurn) (threeQuarters - X)) (lt-leb _ _ h)
 
   -- a multiple of 2 ^ 26 is no turn, so the angle is not 0; and it is below 2
   abbrev Angle : ℕ → Type 0

@@ -42,12 +42,16 @@ halfTurn = 7244019458077122842
 abbrev pub threeQuarters : ℕ
 threeQuarters = 10866029187115684264
 
+-- the distance of two numbers
+abbrev pub apart : ℕ → ℕ → ℕ
+apart u v = u - v + (v - u)
+
 -- the angle onto which |x| = X / 2 ^ 61 is folded: sin x = sin (π - x) = - sin (x - π), and cos x = sin (π / 2 - x) = - sin (x - π / 2) = - sin (3 π / 2 - x)
 abbrev pub sinFold : ℕ → ℕ
-sinFold X = pick (leb X quarterTurn) X (pick (leb X halfTurn) (halfTurn - X) (X - halfTurn))
+sinFold X = pick (leb X quarterTurn) X (apart X halfTurn)
 
 abbrev pub cosFold : ℕ → ℕ
-cosFold X = pick (leb X quarterTurn) (quarterTurn - X) (pick (leb X halfTurn) (X - quarterTurn) (threeQuarters - X))
+cosFold X = pick (leb X halfTurn) (apart X quarterTurn) (threeQuarters - X)
 
 -- the sign, t being 1 where x is negative: the sine's is turned from π on; the cosine does not look at x's, and is negative from π / 2 on
 abbrev pub sinSign : (t X : ℕ) → ℕ

@@ -3,7 +3,9 @@ ghost use mathlib.Core.Path.{_≡_};
 ghost use lib.Count.{leadingZeros};
 ghost use Prim.Native.Nat.{_+_, _-_, _*_, _/_, _%_, _^_, _<_, _≤_};
 ghost use Rattle.series.specs.Series.{sine, cosine};
-ghost use Rattle.circular.specs.SinCos.{times, added, taken, ratioOf, sineAt, sinFold, cosFold, sinSign, cosSign, waveBits};
+ghost use Rattle.circular.specs.SinCos.{times, added, taken, ratioOf, sineAt, apart, sinFold, cosFold, sinSign, cosSign, waveBits};
+ghost use Rattle.fixed.specs.Fixed.{pick};
+ghost use lib.Dec.{leb};
 use fixed::pack;
 use fixed::scaled;
 
@@ -58,18 +60,28 @@ fn sine_at(r: u64) -> u32
     pack(digits(r) * ratio(r)) - (u64::leading_zeros(r) + 5) * 8388608
 }
 
+// a up to the limit, b beyond. Both are there already, so this compiles to no branch, which random angles would mispredict.
+fn choose(x: u64, limit: u64, a: u64, b: u64) -> u64
+    ensures { λ r. ⌜ r ≡ pick (leb x limit) a b ⌝ }
+{
+    if x <= limit {
+        return a;
+    }
+    b
+}
+
+// the distance of two numbers
+fn distance(x: u64, y: u64) -> u64
+    ensures { λ r. ⌜ r ≡ apart x y ⌝ }
+{
+    choose(x, y, y, x) - choose(x, y, x, y)
+}
+
 // the angle onto which x / 2^61, up to 4, is folded for its sine
 fn sin_fold(x: u64) -> u64
-    requires { ⌜ x ≤ 2 ^ 63 ⌝ }
     ensures { λ r. ⌜ r ≡ sinFold x ⌝ }
 {
-    if x <= 3622009729038561421 {
-        return x;
-    }
-    if x <= 7244019458077122842 {
-        return 7244019458077122842 - x;
-    }
-    x - 7244019458077122842
+    choose(x, 3622009729038561421, x, distance(x, 7244019458077122842))
 }
 
 // and for its cosine
@@ -77,13 +89,7 @@ fn cos_fold(x: u64) -> u64
     requires { ⌜ x ≤ 2 ^ 63 ⌝ }
     ensures { λ r. ⌜ r ≡ cosFold x ⌝ }
 {
-    if x <= 3622009729038561421 {
-        return 3622009729038561421 - x;
-    }
-    if x <= 7244019458077122842 {
-        return x - 3622009729038561421;
-    }
-    10866029187115684264 - x
+    choose(x, 7244019458077122842, distance(x, 3622009729038561421), 10866029187115684264 - x)
 }
 
 // the sign of the sine, 1 for minus, where t is that of x
@@ -91,10 +97,11 @@ fn sin_sign(t: u32, x: u64) -> u32
     requires { ⌜ t ≤ 1 ⌝ }
     ensures { λ r. ⌜ r ≡ sinSign t x ⌝ }
 {
+    let other = 1 - t;
     if x <= 7244019458077122842 {
         return t;
     }
-    1 - t
+    other
 }
 
 fn cos_sign(x: u64) -> u32

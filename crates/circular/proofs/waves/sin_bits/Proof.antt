@@ -38,7 +38,7 @@ mul-result : tie.Need-mul-result
 mul-result c = omega (arith, sign-le c)
 
 sin-fold-requires : tie.Need-sin-fold-requires
-sin-fold-requires c κs = omega (arith, scaled-at (c .before) .1)
+sin-fold-requires c κs = search needs
 
 angle : (c : tie.After-sin-fold) → (0 < c .sin-fold .result) × (c .sin-fold .result < 2 ^ 62)
 angle c =
