@@ -1,10 +1,10 @@
 -- The magnitude of a float from 2 ^ -12 to 4, as a whole number of units 2 ^ -61: at most 2 ^ 63, and a multiple of 2 ^ 26; from 1 on a multiple of 2 ^ 38.
-use mathlib.Core.Path.{_≡_, refl, sym, ap, ap₂, _∙_, subst}
+use mathlib.Core.Path.{_≡_, refl, sym, ap, _∙_}
 use mathlib.Core.Logic.{_⊎_, inl, inr}
-use Prim.Native.Nat.{ℕ, zero, suc, _+_, _-_, _*_, _/_, _%_, _^_, _≤_, _<_}
-use native.Mathlib.Nat.{le-trans, le-of-eq, le-refl, mul-assoc, mul-pos, mul-le-mul, mul-le-mul-right}
+use Prim.Native.Nat.{ℕ, _+_, _-_, _*_, _/_, _%_, _^_, _≤_, _<_}
+use native.Mathlib.Nat.{le-trans, le-of-eq, mul-pos, mul-le-mul, mul-le-mul-right}
 use native.Mathlib.Omega.{arith}
-use lib.Dec.{lit<, lit≤}
+use lib.Dec.{lit≤}
 use lib.Pow.{pow-pos, pow-mono, pow-add}
 use Rattle.series.proofs.Cases.{split}
 use Rattle.fixed.specs.Fixed.{scaledOf}

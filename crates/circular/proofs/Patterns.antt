@@ -1,10 +1,10 @@
 -- What the code of sine and cosine asks of plain numbers: the cases of the definition, and that the digits, the ratio and the pattern fit.
-use mathlib.Core.Path.{_≡_, refl, sym, ap, ap₂, _∙_, subst}
-use mathlib.Core.Bool.{Bool, true, false}
-use Prim.Native.Nat.{ℕ, zero, suc, _+_, _-_, _*_, _/_, _%_, _^_, _≤_, _<_}
-use native.Mathlib.Nat.{le-trans, le-of-eq, le-of-lt, le-refl, lt-of-lt-of-le, mul-le-mul, mul-le-mul-left, mul-le-mul-right, mul-lt-mul-of-pos-right}
+use mathlib.Core.Path.{_≡_, sym, ap, ap₂, _∙_, subst}
+use mathlib.Core.Bool.{Bool}
+use Prim.Native.Nat.{ℕ, suc, _+_, _-_, _*_, _/_, _%_, _^_, _≤_, _<_}
+use native.Mathlib.Nat.{le-trans, le-of-eq, le-of-lt, lt-of-lt-of-le, mul-le-mul, mul-le-mul-right, mul-lt-mul-of-pos-right}
 use native.Mathlib.Omega.{arith}
-use lib.Dec.{leb, ltb, lit<, lit≤}
+use lib.Dec.{leb, lit≤}
 use lib.Pow.{pow-pos, pow-add, shr-mono}
 use lib.Count.{leadingZeros, leading-top}
 use borrow.Author.Tests.{le-ltb, lt-ltb, le-leb, lt-leb}
@@ -125,6 +125,9 @@ module _ (X : ℕ) where
 pub times-le : (u v : ℕ) → u < 2 ^ 32 → times u v ≤ v
 times-le u v h = omega (arith, mul-le-mul-right v (le-of-lt h))
 
+pub product-le : (r u v : ℕ) → u < 2 ^ 32 → r ≡ times u v → r ≤ v
+product-le r u v h e = le-trans (le-of-eq e) (times-le u v h)
+
 pub times-lt : (u v : ℕ) → u < 2 ^ 32 → v < 2 ^ 32 → times u v < 2 ^ 32
 times-lt u v h k = let l = times-le u v h in omega arith
 
@@ -132,16 +135,6 @@ pub square-lt : (r : ℕ) → r < 2 ^ 62 → r / 2 ^ 30 < 2 ^ 32
 square-lt r h = omega arith
 
 -- ---- the terms
-pub added-lt : (w : ℕ) → w < 2 ^ 32 → added w < 2 ^ 33
-added-lt w h =
-    let a = times-le w 2825 h in
-    let b = times-le w (3029959 + times w 2825) h in
-    let c = times-le w (572662306 + times w (3029959 + times w 2825)) h in
-    go (times w 2825) (times w (3029959 + times w 2825)) (times w (572662306 + times w (3029959 + times w 2825))) a b c
-  where
-    go : (x y z : ℕ) → x ≤ 2825 → y ≤ 3029959 + x → z ≤ 572662306 + y → 2 ^ 32 + z < 2 ^ 33
-    go x y z a b c = omega arith
-
 pub taken-le : (w : ℕ) → w < 2 ^ 32 → taken w ≤ 2917961030
 taken-le w h = go (times w 53) (times w (110180 + times w 53)) (times w (54539267 + times w (110180 + times w 53))) (times-le w 53 h) (times-le w (110180 + times w 53) h) (times-le w (54539267 + times w (110180 + times w 53)) h)
   where

@@ -89,7 +89,12 @@ fn cos_fold(x: u64) -> u64
     requires { ⌜ x ≤ 2 ^ 63 ⌝ }
     ensures { λ r. ⌜ r ≡ cosFold x ⌝ }
 {
-    choose(x, 7244019458077122842, distance(x, 3622009729038561421), 10866029187115684264 - x)
+    choose(
+        x,
+        7244019458077122842,
+        distance(x, 3622009729038561421),
+        10866029187115684264 - x,
+    )
 }
 
 // the sign of the sine, 1 for minus, where t is that of x

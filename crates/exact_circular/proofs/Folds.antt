@@ -1,18 +1,17 @@
 -- From the sine at the small angle r / 2 ^ 61 to the sine or the cosine at the angle x / 2 ^ 61 that was folded onto it: every partial sum with 18 terms or more at x is as close as those at r, but for 2 ^ -55.
-use mathlib.Core.Path.{_≡_, refl, sym, ap, ap₂, _∙_, subst, subst₂}
-use Prim.Native.Nat.{ℕ, zero, suc, _+_, _-_, _*_, _/_, _%_, _^_, _≤_, _<_}
-use native.Mathlib.Nat.{le-trans, le-of-eq, le-of-lt, le-refl, mul-pos, mul-comm, mul-le-mul, mul-le-mul-left, mul-le-mul-right, le-of-mul-le-mul-right, pow-le-pow-left}
+use mathlib.Core.Path.{_≡_, ap}
+use Prim.Native.Nat.{ℕ, zero, suc, _+_, _-_, _*_, _/_, _^_, _≤_, _<_}
+use native.Mathlib.Nat.{le-trans, le-refl, mul-pos, mul-le-mul, mul-le-mul-left, mul-le-mul-right, le-of-mul-le-mul-right, pow-le-pow-left}
 use native.Mathlib.Omega.{arith}
 use lib.Dec.{lit<, lit≤}
 use lib.Pow.{pow-pos}
-use Rattle.series.specs.Series.{Sums, grow, sums, Close, Limit, Ksin, Kcos, Kind, sine, cosine, shift, top, bottom, Kat, full, num, class}
+use Rattle.series.specs.Series.{sums, Close, Limit, Ksin, Kcos, Kind, sine, cosine, shift, top, bottom, Kat, full}
 use Rattle.series.proofs.Addition.{full-pos}
-use Rattle.series.proofs.Alternating.{Low, High, limit}
-use Rattle.exact.specs.Enclosure.{Below, Above}
+use Rattle.series.proofs.Alternating.{limit}
 use Rattle.exact.proofs.Enclosure.{sine-nested, cosine-nested}
 use Rattle.circular.specs.SinCos.{ratioOf}
 use Rattle.exact_circular.proofs.Kernel.{kernel}
-use Rattle.exact_circular.proofs.Quads.{quad, SinSame, sin-same, CosSame, cos-same}
+use Rattle.exact_circular.proofs.Quads.{quad, sin-same, cos-same}
 use Rattle.exact_circular.proofs.Turns.{whole, whole-pos, part, gap, gap-small, Alike}
 
 pub den-pos : (K : ℕ → ℕ) → ((k : ℕ) → 0 < K k) → (n d a b : ℕ) → 0 < d → 0 < b → (j : ℕ) → 0 < sums K n d a b j .den

@@ -1,15 +1,15 @@
 -- The ratio sin x / x that the program computes for x = r / 2 ^ 61 below 2 is within 20 units of 2 ^ -32 of the partial sums with 8 and with 9 terms: each step of the two nested sums cuts off at most a unit,
 -- and errs by a few more for what its factors lack.
-use mathlib.Core.Path.{_≡_, refl, sym, ap, ap₂, _∙_, subst, subst₂}
-use Prim.Native.Nat.{ℕ, zero, suc, _+_, _-_, _*_, _/_, _%_, _^_, _≤_, _<_}
-use native.Mathlib.Nat.{le-trans, le-of-eq, le-of-lt, le-refl, mul-pos, mul-assoc, mul-comm, mul-le-mul, mul-le-mul-left, mul-le-mul-right, le-of-mul-le-mul-right, div-mul-le-self, lt-div-mul-add}
+use mathlib.Core.Path.{_≡_, refl, ap, ap₂, _∙_}
+use Prim.Native.Nat.{ℕ, _+_, _-_, _*_, _/_, _^_, _≤_, _<_}
+use native.Mathlib.Nat.{le-trans, le-of-eq, le-of-lt, mul-comm, mul-le-mul, mul-le-mul-left, mul-le-mul-right, le-of-mul-le-mul-right, div-mul-le-self, lt-div-mul-add}
 use native.Mathlib.Omega.{arith}
 use lib.Dec.{lit<, lit≤}
 use lib.Pow.{pow-pos}
-use Rattle.series.specs.Series.{Sums, grow, sums, Limit, Ksin}
+use Rattle.series.specs.Series.{sums, Limit, Ksin}
 use Rattle.series.proofs.Alternating.{Low, High, limit}
 use Rattle.circular.specs.SinCos.{times, added, taken, squareOf, ratioOf}
-use Rattle.circular.proofs.Patterns.{times-lt, times-le, square-lt, taken-le, Ratio, ratio-in}
+use Rattle.circular.proofs.Patterns.{times-lt, times-le, square-lt, taken-le, ratio-in}
 
 -- ---- one step of a nested sum, in units of 1 / b: A / b stands for N / D, w / b for X / (b * G), and c / b for g / (D * b * G)
 step-low : (b c A w G X D N g : ℕ) → w * G ≤ X → A * D ≤ b * N → c * (D * (b * G)) ≤ b * g → (c + w * A / b) * (D * (b * G)) ≤ b * (g + X * N)
@@ -257,9 +257,6 @@ abbrev unit² : ℕ
 unit² = unit * unit
 
 module _ (r : ℕ) (h : r < 2 ^ 62) where
-  q : ℕ
-  q = r / 2 ^ 30
-
   q-lt : r / 2 ^ 30 < 2 ^ 32
   q-lt = square-lt r h
 

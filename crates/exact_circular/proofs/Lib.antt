@@ -2,7 +2,7 @@ pub mod Kernel
 pub mod Quads
 pub mod Turns
 pub mod Folds
-pub mod Sums
+pub mod Rounding
 pub mod Waves
 pub mod Ends
 pub mod Atan

@@ -1,8 +1,8 @@
 -- The literal form for sine and cosine: the partial sum of 18 terms and the one of 19 enclose every later one, and each is less than one unit in the last place from the answer.
-use mathlib.Core.Path.{_≡_, refl, sym, ap, _∙_, subst, subst₂}
-use mathlib.Core.Bool.{Bool, true, false}
-use mathlib.Core.Logic.{inl, inr}
-use Prim.Native.Nat.{ℕ, zero, suc, _+_, _*_, _-_, _%_, _^_, _≤_, _<_}
+use mathlib.Core.Path.{_≡_, refl, sym, ap, _∙_, subst}
+use mathlib.Core.Bool.{Bool}
+use mathlib.Core.Logic.{inr}
+use Prim.Native.Nat.{ℕ, _*_, _-_, _%_, _^_, _≤_, _<_}
 use native.Mathlib.Nat.{le-trans, le-of-eq, le-refl, mul-le-mul-right, le-of-mul-le-mul-right}
 use native.Mathlib.Omega.{arith}
 use lib.Dec.{T, leb, lit<, lit≤}
@@ -11,9 +11,9 @@ use lib.Ieee.{Float, nan, inf, fin, binary32, up, down, size, ofBits, toBits, fi
 use lib.Ieee.Fits.{down-pos}
 use lib.Ieee.Bits.{ofBits-toBits}
 use lib.Ieee.Exact.{HasValue}
-use Rattle.series.specs.Series.{sums, Ksin, Kcos, Kind, sine, cosine}
+use Rattle.series.specs.Series.{Ksin, Kcos, sine, cosine}
 use Rattle.series.proofs.Cases.{split}
-use Rattle.fixed.proofs.Sizes.{Size, finite-value, size-le}
+use Rattle.fixed.proofs.Sizes.{finite-value, size-le}
 use Rattle.exact.specs.Unit.{steps}
 use Rattle.exact.specs.Near.{NearSin, NearCos}
 use Rattle.exact.specs.Enclosure.{LiteralSin, LiteralCos}

@@ -1,8 +1,8 @@
 -- Sine and cosine at an angle a quarter, half or three quarters of a turn less or more: the addition theorems and cos² + sin² = 1, on partial sums with 64 terms.
 -- All angles are y / 2 ^ 61 up to 5. part r y over `whole` is the class r at y, short by at most `rest` over `whole`, which is less than 2 ^ -100.
 use mathlib.Core.Path.{_≡_, refl, sym, ap, ap₂, _∙_, subst, subst₂}
-use Prim.Native.Nat.{ℕ, zero, suc, _+_, _-_, _*_, _/_, _%_, _^_, _≤_, _<_}
-use native.Mathlib.Nat.{le-trans, le-of-eq, le-of-lt, le-refl, add-le-add, mul-pos, mul-assoc, mul-comm, mul-le-mul, mul-le-mul-left, mul-le-mul-right, le-of-mul-le-mul-right, pow-le-pow-left, div-mul-le-self}
+use Prim.Native.Nat.{ℕ, zero, suc, _+_, _-_, _*_, _/_, _^_, _≤_, _<_}
+use native.Mathlib.Nat.{le-trans, le-of-eq, le-refl, add-le-add, mul-pos, mul-comm, mul-le-mul-left, mul-le-mul-right, le-of-mul-le-mul-right, pow-le-pow-left, div-mul-le-self}
 use native.Mathlib.Omega.{arith}
 use lib.Dec.{lit<, lit≤}
 use lib.Pow.{pow-pos}
@@ -191,9 +191,10 @@ module _ (b : ℕ) (B : b ≤ 5 * 2 ^ 61) where
       let c₀ = cap 0 (lit< tt) in
       let c₁ = cap 1 (lit< tt) in
       let c₂ = cap 2 (lit< tt) in
-      let c₃ = cap 3 (lit< tt) in
-      (go (whole * whole) squares crossed (4096 * (rest * whole)) _ (p .0) (wide whole rest s (part 0 b) (part 2 b) (part 1 b) (part 3 b) (part 2 b) (part 0 b) (part 3 b) (part 1 b) c₀ c₂ c₁ c₃ c₂ c₀ c₃ c₁),
-      le-trans (p .1) (wide whole rest s (part 0 b) (part 0 b) (part 1 b) (part 1 b) (part 2 b) (part 2 b) (part 3 b) (part 3 b) c₀ c₀ c₁ c₁ c₂ c₂ c₃ c₃))
+      let c₃ = cap 3 (lit< tt) in (
+        go (whole * whole) squares crossed (4096 * (rest * whole)) _ (p .0) (wide whole rest s (part 0 b) (part 2 b) (part 1 b) (part 3 b) (part 2 b) (part 0 b) (part 3 b) (part 1 b) c₀ c₂ c₁ c₃ c₂ c₀ c₃ c₁),
+        le-trans (p .1) (wide whole rest s (part 0 b) (part 0 b) (part 1 b) (part 1 b) (part 2 b) (part 2 b) (part 3 b) (part 3 b) c₀ c₀ c₁ c₁ c₂ c₂ c₃ c₃),
+      )
     where
       go : (m s c w h : ℕ) → s ≤ m + h → h ≤ c + w → s ≤ m + c + w
       go m s c w h a e = omega arith
@@ -402,19 +403,11 @@ module _ (F W δ x₀ x₁ x₂ x₃ r₀ r₁ r₂ r₃ p₀ p₁ p₂ p₃ : �
   sine-less h k l m =
       both x₁ x₃ c₁ c₃ (l₀ * r₃ + l₁ * r₀ + l₂ * r₁ + l₃ * r₂) (l₀ * r₁ + l₁ * r₂ + l₂ * r₃ + l₃ * r₀) (p₀ * r₃ + p₁ * r₀ + p₂ * r₁ + p₃ * r₂) (p₀ * r₁ + p₁ * r₂ + p₂ * r₃ + p₃ * r₀) ((x₀ + x₂) * odd) (at-1 x₀ x₁ x₂ x₃ r₀ r₁ r₂ r₃) (at-3 x₀ x₁ x₂ x₃ r₀ r₁ r₂ r₃)
       (over r₃ r₀ r₁ r₂ turned-1) (under r₃ r₀ r₁ r₂ turned-1) (over r₁ r₂ r₃ r₀ turned-3) (under r₁ r₂ r₃ r₀ turned-3)
-      (first (turn-low F δ p₂ p₀ p₁ p₃ r₀ r₁ r₂ r₃ h k l m)) (second (turn-high F δ p₂ p₀ p₁ p₃ r₀ r₁ r₂ r₃ h k l m))
+      (order (p₂ * r₁) (p₀ * r₃) (p₁ * r₀) (p₃ * r₂) (F * r₃) (p₂ * r₃) (p₀ * r₁) (p₁ * r₂) (p₃ * r₀) (F * r₁) (δ * (r₀ + r₁ + r₂ + r₃)) (turn-low F δ p₂ p₀ p₁ p₃ r₀ r₁ r₂ r₃ h k l m))
+      (order (p₂ * r₃) (p₀ * r₁) (p₁ * r₂) (p₃ * r₀) (F * r₁) (p₂ * r₁) (p₀ * r₃) (p₁ * r₀) (p₃ * r₂) (F * r₃) (δ * (r₀ + r₁ + r₂ + r₃)) (turn-high F δ p₂ p₀ p₁ p₃ r₀ r₁ r₂ r₃ h k l m))
     where
-      first : p₂ * r₁ + p₀ * r₃ + p₁ * r₀ + p₃ * r₂ + F * r₃ ≤ p₂ * r₃ + p₀ * r₁ + p₁ * r₂ + p₃ * r₀ + F * r₁ + δ * (r₀ + r₁ + r₂ + r₃) → p₀ * r₃ + p₁ * r₀ + p₂ * r₁ + p₃ * r₂ + F * r₃ ≤ p₀ * r₁ + p₁ * r₂ + p₂ * r₃ + p₃ * r₀ + F * r₁ + δ * (r₀ + r₁ + r₂ + r₃)
-      first = order (p₂ * r₁) (p₀ * r₃) (p₁ * r₀) (p₃ * r₂) (F * r₃) (p₂ * r₃) (p₀ * r₁) (p₁ * r₂) (p₃ * r₀) (F * r₁) (δ * (r₀ + r₁ + r₂ + r₃))
-        where
-          order : (a b c e f a' b' c' e' f' w : ℕ) → a + b + c + e + f ≤ a' + b' + c' + e' + f' + w → b + c + a + e + f ≤ b' + c' + a' + e' + f' + w
-          order a b c e f a' b' c' e' f' w h = omega arith
-
-      second : p₂ * r₃ + p₀ * r₁ + p₁ * r₂ + p₃ * r₀ + F * r₁ ≤ p₂ * r₁ + p₀ * r₃ + p₁ * r₀ + p₃ * r₂ + F * r₃ + δ * (r₀ + r₁ + r₂ + r₃) → p₀ * r₁ + p₁ * r₂ + p₂ * r₃ + p₃ * r₀ + F * r₁ ≤ p₀ * r₃ + p₁ * r₀ + p₂ * r₁ + p₃ * r₂ + F * r₃ + δ * (r₀ + r₁ + r₂ + r₃)
-      second = order (p₂ * r₃) (p₀ * r₁) (p₁ * r₂) (p₃ * r₀) (F * r₁) (p₂ * r₁) (p₀ * r₃) (p₁ * r₀) (p₃ * r₂) (F * r₃) (δ * (r₀ + r₁ + r₂ + r₃))
-        where
-          order : (a b c e f a' b' c' e' f' w : ℕ) → a + b + c + e + f ≤ a' + b' + c' + e' + f' + w → b + c + a + e + f ≤ b' + c' + a' + e' + f' + w
-          order a b c e f a' b' c' e' f' w h = omega arith
+      order : (a b c e f a' b' c' e' f' w : ℕ) → a + b + c + e + f ≤ a' + b' + c' + e' + f' + w → b + c + a + e + f ≤ b' + c' + a' + e' + f' + w
+      order a b c e f a' b' c' e' f' w h = omega arith
 
   -- the cosine, a quarter of a turn less the angle
   cosine-less : p₁ ≤ p₃ + F + δ → p₃ + F ≤ p₁ + δ → p₀ ≤ p₂ + δ → p₂ ≤ p₀ + δ → Alike x₀ x₂ r₁ r₃ off'
@@ -541,25 +534,19 @@ module _ (x r : ℕ) (X : x ≤ 5 * 2 ^ 61) (R : r ≤ 2 ^ 62) where
     unfolding gap
     sine-past f =
         angle-more whole rest δ (part 3 x) (part 1 x) (part 2 p) (part 0 p) (part 3 p) (part 1 p) (part 0 r) (part 1 r) (part 2 r) (part 3 r) _ _ whole-pos (up-to-five x 3 X (lit< tt)) (up-to-five x 1 X (lit< tt)) four
-        (add-at 3 _ (sum-3 p r T r-five X')) (add-at 1 _ (sum-1 p r T r-five X')) (order (part 0 p * part 3 r) (part 1 p * part 2 r) (part 2 p * part 1 r) (part 3 p * part 0 r)) (order' (part 0 p * part 1 r) (part 1 p * part 0 r) (part 2 p * part 3 r) (part 3 p * part 2 r)) (f .0) (f .1) (f .2) (f .3)
+        (add-at 3 _ (sum-3 p r T r-five X')) (add-at 1 _ (sum-1 p r T r-five X')) (order (part 0 p * part 3 r) (part 1 p * part 2 r) (part 2 p * part 1 r) (part 3 p * part 0 r)) (order (part 0 p * part 1 r) (part 1 p * part 0 r) (part 2 p * part 3 r) (part 3 p * part 2 r)) (f .0) (f .1) (f .2) (f .3)
       where
         order : (a b c e : ℕ) → a + b + c + e ≡ c + a + e + b
         order a b c e = omega arith
-
-        order' : (a b c e : ℕ) → a + b + c + e ≡ c + a + e + b
-        order' a b c e = omega arith
 
     cosine-past : Facts (part 1 p) (part 3 p) (part 2 p) (part 0 p) → AlikeAt 2 0
     unfolding gap
     cosine-past f =
         angle-more whole rest δ (part 2 x) (part 0 x) (part 1 p) (part 3 p) (part 2 p) (part 0 p) (part 0 r) (part 1 r) (part 2 r) (part 3 r) _ _ whole-pos (up-to-five x 2 X (lit< tt)) (up-to-five x 0 X (lit< tt)) four
-        (add-at 2 _ (sum-2 p r T r-five X')) (add-at 0 _ (sum-0 p r T r-five X')) (order (part 0 p * part 2 r) (part 1 p * part 1 r) (part 2 p * part 0 r) (part 3 p * part 3 r)) (order' (part 0 p * part 0 r) (part 1 p * part 3 r) (part 2 p * part 2 r) (part 3 p * part 1 r)) (f .0) (f .1) (f .2) (f .3)
+        (add-at 2 _ (sum-2 p r T r-five X')) (add-at 0 _ (sum-0 p r T r-five X')) (order (part 0 p * part 2 r) (part 1 p * part 1 r) (part 2 p * part 0 r) (part 3 p * part 3 r)) (order (part 0 p * part 0 r) (part 1 p * part 3 r) (part 2 p * part 2 r) (part 3 p * part 1 r)) (f .0) (f .1) (f .2) (f .3)
       where
         order : (a b c e : ℕ) → a + b + c + e ≡ b + e + c + a
         order a b c e = omega arith
-
-        order' : (a b c e : ℕ) → a + b + c + e ≡ b + e + c + a
-        order' a b c e = omega arith
 
   pub sin-above-half : halfTurn + r ≡ x → AlikeAt 3 1
   sin-above-half e = sine-past halfTurn (lit≤ tt) e (half-facts .0, half-facts .1, half-facts .3, half-facts .2)

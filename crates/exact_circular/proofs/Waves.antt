@@ -1,33 +1,33 @@
 -- `sinOf x` and `cosOf x` are less than one unit of their last place from the sine and the cosine of x.
 use mathlib.Core.Path.{_≡_, refl, sym, ap, ap₂, _∙_, subst, subst₂}
 use mathlib.Core.Bool.{Bool, true, false, not, cond, Bool·beq}
-use Prim.Native.Nat.{ℕ, zero, suc, _+_, _-_, _*_, _/_, _%_, _^_, _≤_, _<_}
-use native.Mathlib.Nat.{lt-of-not-le, not-le-of-lt, le-trans, le-of-eq, le-of-lt, le-refl, lt-of-lt-of-le, mul-assoc, mul-comm, mul-right-comm, mul-le-mul, mul-le-mul-left, mul-le-mul-right, le-mul-of-pos-right, le-of-mul-le-mul-right, eq-of-mul-eq-mul-right}
+use Prim.Native.Nat.{ℕ, suc, _+_, _-_, _*_, _/_, _%_, _^_, _≤_, _<_}
+use native.Mathlib.Nat.{lt-of-not-le, not-le-of-lt, le-trans, le-of-eq, le-of-lt, lt-of-lt-of-le, mul-assoc, mul-comm, mul-right-comm, mul-le-mul, mul-le-mul-left, mul-le-mul-right, le-mul-of-pos-right, le-of-mul-le-mul-right, eq-of-mul-eq-mul-right}
 use native.Mathlib.Omega.{arith}
 use mathlib.Core.Logic.{_⊎_, inl, inr}
 use lib.Dec.{T, eqb, leb, lit<, lit≤}
 use lib.IntN.{ℤ, pos}
-use lib.Pow.{pow-pos, pow-mono, pow-add}
+use lib.Pow.{pow-pos, pow-add}
 use lib.Count.{leadingZeros}
 use borrow.Author.Tests.{le-leb, lt-leb}
 use lib.Ieee.{Float, nan, inf, fin, binary32, up, down, size, ofBits, toBits, fits}
 use lib.Ieee.Fits.{down-pos}
 use lib.Ieee.Bits.{ofBits-toBits, toBits-lt}
 use lib.Ieee.Exact.{HasValue}
-use Rattle.series.specs.Series.{Sums, grow, sums, Limit, Ksin, Kcos, Kind, sine, cosine, shift, top, bottom, Kat}
+use Rattle.series.specs.Series.{sums, Limit, Ksin, Kcos, Kind, sine, cosine, shift, top, bottom, Kat}
 use Rattle.circular.specs.SinCos.{ratioOf, sineAt, quarterTurn, halfTurn, threeQuarters, magOf, atSmall, waveAt, waveBits, sinOf, cosOf}
-use Rattle.fixed.specs.Fixed.{mant, pattern}
+use Rattle.fixed.specs.Fixed.{mant}
 use Rattle.exact.specs.Unit.{steps, ulp}
 use Rattle.exact.specs.Near.{NearSin, NearCos}
 use Rattle.series.proofs.Alternating.{Low, High, limit}
-use Rattle.fixed.proofs.Round.{rounded, pattern-lt}
+use Rattle.fixed.proofs.Round.{rounded}
 use Rattle.exact_circular.proofs.Kernel.{kernel}
 use Rattle.exact_circular.proofs.Turns.{sin-below-half, sin-above-half, cos-below-quarter, cos-above-quarter, cos-below-three}
 use Rattle.exact_circular.proofs.Folds.{fold-plus, fold-minus}
-use Rattle.exact_circular.proofs.Sums.{exponent, rounds}
+use Rattle.exact_circular.proofs.Rounding.{exponent, rounds}
 use Rattle.series.proofs.WaveFraction.{same-limit, wider-limit, later}
 use Rattle.fixed.proofs.Values.{value, v-small, ulp-ge, ulps, bits-255, sign-plus}
-use Rattle.fixed.proofs.Sizes.{Size, finite-value, size-lt}
+use Rattle.fixed.proofs.Sizes.{finite-value, size-lt}
 use Rattle.exact.proofs.Unit.{steps-is}
 use Rattle.series.proofs.Cases.{split}
 use Rattle.circular.proofs.Magnitude.{mag-le, mag-ge, grain}

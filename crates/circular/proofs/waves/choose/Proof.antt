@@ -1,8 +1,6 @@
 -- `circular::waves::choose` meets its contract.
-use mathlib.Core.Path.{_≡_, sym, ap}
+use mathlib.Core.Path.{sym, ap}
 use mathlib.Core.Bool.{Bool}
-use Prim.Native.Nat.{ℕ}
-use borrow.Author.Needs.{needs}
 use borrow.Author.Tests.{le-leb, lt-leb}
 use Rattle.fixed.specs.Fixed.{pick}
 use Rattle.circular.proofs.waves.choose.Statement.{statement}

@@ -1,6 +1,5 @@
 -- `circular::waves::cos_sign` meets its contract.
 use mathlib.Core.Path.{sym}
-use borrow.Author.Needs.{needs}
 use Rattle.circular.proofs.Patterns.{cos-sign-plus, cos-sign-minus}
 use Rattle.circular.proofs.waves.cos_sign.Statement.{statement}
 use Rattle.circular.proofs.waves.cos_sign.Tie as tie

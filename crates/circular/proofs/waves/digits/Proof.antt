@@ -1,10 +1,9 @@
 -- `circular::waves::digits` meets its contract: nothing is shifted out.
-use mathlib.Core.Path.{_≡_, ap}
-use Prim.Native.Nat.{ℕ, _*_, _/_, _^_, _≤_, _<_}
+use mathlib.Core.Path.{ap}
+use Prim.Native.Nat.{ℕ, _/_, _^_, _≤_}
 use native.Mathlib.Nat.{mod-eq-of-lt}
 use native.Mathlib.Omega.{arith}
 use lib.Count.{leadingZeros}
-use borrow.Author.Needs.{needs}
 use Rattle.circular.proofs.Patterns.{Top, top-of}
 use Rattle.circular.proofs.waves.digits.Statement.{statement}
 use Rattle.circular.proofs.waves.digits.Tie as tie

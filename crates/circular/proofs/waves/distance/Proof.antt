@@ -1,5 +1,5 @@
 -- `circular::waves::distance` meets its contract: the larger less the smaller.
-use mathlib.Core.Path.{_≡_, sym, ap₂, _∙_, subst₂}
+use mathlib.Core.Path.{sym, ap₂, _∙_, subst₂}
 use Prim.Native.Nat.{ℕ, _-_, _≤_}
 use borrow.Author.Needs.{needs}
 use Rattle.circular.proofs.Patterns.{chosen}

@@ -1,18 +1,12 @@
 -- `circular::waves::plus` meets its contract: a product by a number below 2 ^ 32 is at most the other factor.
 use mathlib.Core.Path.{_≡_, ap, _∙_}
-use Prim.Native.Nat.{ℕ, _+_, _*_, _^_, _<_, _≤_}
+use Prim.Native.Nat.{ℕ, _+_, _^_, _<_, _≤_}
 use native.Mathlib.Omega.{arith}
 use borrow.Author.Needs.{needs}
 use Rattle.circular.specs.SinCos.{times}
-use Rattle.circular.proofs.Patterns.{times-le}
+use Rattle.circular.proofs.Patterns.{product-le}
 use Rattle.circular.proofs.waves.plus.Statement.{statement}
 use Rattle.circular.proofs.waves.plus.Tie as tie
-
-product-le : (r u v : ℕ) → u < 2 ^ 32 → r ≡ times u v → r ≤ v
-product-le r u v h e = go (times u v) e (times-le u v h)
-  where
-    go : (x : ℕ) → r ≡ x → x ≤ v → r ≤ v
-    go x e h = omega arith
 
 first : (c : tie.After-product) → c .product .result ≤ 2825
 first c = product-le (c .product .result) (c .before .args .w) 2825 (c .before .pre) (c .product .ensures)

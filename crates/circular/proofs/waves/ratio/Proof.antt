@@ -1,12 +1,11 @@
 -- `circular::waves::ratio` meets its contract: the terms taken off are less than those added.
-use mathlib.Core.Path.{_≡_, refl, sym, ap, ap₂, _∙_, subst, subst₂}
-use Prim.Native.Nat.{ℕ, _+_, _-_, _*_, _/_, _^_, _<_, _≤_}
-use native.Mathlib.Nat.{le-trans, le-of-eq, lt-of-le-of-lt}
-use native.Mathlib.Omega.{arith}
+use mathlib.Core.Path.{_≡_, sym, ap, ap₂, _∙_, subst, subst₂}
+use Prim.Native.Nat.{ℕ, _-_, _/_, _^_, _<_, _≤_}
+use native.Mathlib.Nat.{lt-of-le-of-lt}
 use borrow.Author.Needs.{needs}
 use lib.Dec.{lit<}
 use Rattle.circular.specs.SinCos.{times, added, taken, squareOf, ratioOf}
-use Rattle.circular.proofs.Patterns.{times-lt, square-lt, taken-le, Ratio, ratio-in}
+use Rattle.circular.proofs.Patterns.{times-lt, square-lt, taken-le, ratio-in}
 use Rattle.circular.proofs.waves.ratio.Statement.{statement}
 use Rattle.circular.proofs.waves.ratio.Tie as tie
 

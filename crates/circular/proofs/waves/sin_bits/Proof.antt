@@ -1,12 +1,11 @@
 -- `circular::waves::sin_bits` meets its contract.
-use mathlib.Core.Path.{_≡_, refl, sym, ap, ap₂, _∙_, subst}
+use mathlib.Core.Path.{sym, ap, ap₂, _∙_, subst}
 use Prim.Native.Nat.{ℕ, _+_, _-_, _*_, _/_, _%_, _^_, _<_, _≤_}
 use native.Mathlib.Nat.{le-trans, le-of-eq}
 use native.Mathlib.Omega.{arith}
 use borrow.Author.Needs.{needs}
 use Rattle.series.specs.Series.{sine}
-use Rattle.fixed.specs.Fixed.{scaledOf}
-use Rattle.circular.specs.SinCos.{sineAt, sinFold, sinSign, waveAt}
+use Rattle.circular.specs.SinCos.{sineAt, waveAt}
 use Rattle.circular.proofs.Patterns.{small-bits, large-bits, outside-bits, sin-angle, sin-sign-le, sine-at-lt}
 use Rattle.circular.proofs.Magnitude.{scaled-le, scaled-pos}
 use Rattle.circular.proofs.waves.sin_bits.Statement.{statement}

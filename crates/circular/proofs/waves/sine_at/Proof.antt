@@ -1,14 +1,12 @@
 -- `circular::waves::sine_at` meets its contract: digits and ratio make a product of 64 bits, and its pattern's exponent is larger than what is taken off it.
-use mathlib.Core.Path.{_≡_, refl, sym, ap, ap₂, _∙_, subst, subst₂}
+use mathlib.Core.Path.{_≡_, sym, ap, ap₂, _∙_, subst}
 use Prim.Native.Nat.{ℕ, _+_, _-_, _*_, _/_, _^_, _<_, _≤_}
 use native.Mathlib.Omega.{arith}
 use lib.Count.{leadingZeros}
-use mir.Syntax.{w64}
-use mir.Val.{Fits}
 use borrow.Author.Needs.{needs}
 use Rattle.fixed.specs.Fixed.{pattern}
 use Rattle.circular.specs.SinCos.{ratioOf, sineAt}
-use Rattle.circular.proofs.Patterns.{Top, top-of, Packed, packed}
+use Rattle.circular.proofs.Patterns.{top-of, Packed, packed}
 use Rattle.circular.proofs.waves.sine_at.Statement.{statement}
 use Rattle.circular.proofs.waves.sine_at.Tie as tie
 

@@ -1,18 +1,18 @@
 -- The product that the program packs, rounded, is less than 15 / 16 of a unit of its last place from every partial sum that is within 20 r + 2 ^ 37 + 2 ^ 30 of r times the ratio: 32 of 64 parts are for the rounding,
 -- 21 for the ratio, 5 for the fold and one for the digits of r that are cut off.
-use mathlib.Core.Path.{_≡_, refl, sym, ap, ap₂, _∙_, subst, subst₂}
+use mathlib.Core.Path.{_≡_, refl, sym, ap, _∙_, subst, subst₂}
 use mathlib.Core.Bool.{Bool, true, false, cond}
-use Prim.Native.Nat.{ℕ, zero, suc, _+_, _-_, _*_, _/_, _%_, _^_, _≤_, _<_}
-use native.Mathlib.Nat.{le-trans, le-of-eq, le-of-lt, le-refl, lt-of-le-of-lt, lt-of-lt-of-le, lt-of-not-le, not-le-of-lt, mul-assoc, mul-comm, mul-le-mul, mul-le-mul-left, mul-le-mul-right, le-of-mul-le-mul-right, mul-lt-mul-of-pos-right}
+use Prim.Native.Nat.{ℕ, _+_, _-_, _*_, _/_, _%_, _^_, _≤_, _<_}
+use native.Mathlib.Nat.{le-trans, le-of-eq, le-of-lt, lt-of-lt-of-le, lt-of-not-le, not-le-of-lt, mul-assoc, mul-le-mul, mul-le-mul-left, mul-le-mul-right, le-of-mul-le-mul-right}
 use native.Mathlib.Omega.{arith}
 use lib.Dec.{lit<, lit≤}
 use lib.Pow.{pow-pos, pow-mono, pow-add}
 use lib.Count.{leadingZeros}
 use Rattle.series.specs.Series.{Close, Limit, sums}
-use Rattle.fixed.specs.Fixed.{mant, pattern}
+use Rattle.fixed.specs.Fixed.{mant}
 use Rattle.fixed.proofs.Round.{Rounded, rounded}
 use Rattle.circular.specs.SinCos.{ratioOf}
-use Rattle.circular.proofs.Patterns.{Top, top-of, Ratio, ratio-in, Packed, packed}
+use Rattle.circular.proofs.Patterns.{Top, top-of, ratio-in, Packed, packed}
 
 -- ---- closeness in a finer unit, to a number that is X off
 close-plus : (m a u f v x u' p q c : ℕ) → v ≤ a * f + x → a * f ≤ v + x → u * f + x ≤ u' → Close m a 0 u p q c → Close (m * f) v 0 u' p q c
