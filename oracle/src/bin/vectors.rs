@@ -32,7 +32,7 @@ fn length(bytes: &[u8]) -> [u8; 2] {
 fn main() -> std::io::Result<()> {
     let (answered, refused) = (argument(1, 320), argument(2, 12));
     let mut random = Random::new(argument(3, 1));
-    let mut kept: BTreeMap<u32, usize> = BTreeMap::new();
+    let mut kept: BTreeMap<u32, u64> = BTreeMap::new();
     let mut out = std::io::stdout().lock();
     for _ in 0..200_000 {
         let file = files::any_hour(&mut random);
