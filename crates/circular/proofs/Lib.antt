@@ -1,4 +1,3 @@
-pub mod Far
 pub mod Magnitude
 pub mod Patterns
 pub mod Tangent

@@ -1,57 +1,121 @@
-// The power series of sine and cosine, term by term in units of 2^-56.
+// Sine and cosine: the angle folded onto 0 to half pi, and eight terms of the sine's series there in units of 2^-32.
 ghost use mathlib.Core.Path.{_≡_};
+ghost use lib.Count.{leadingZeros};
 ghost use Prim.Native.Nat.{_+_, _-_, _*_, _/_, _%_, _^_, _<_, _≤_};
-ghost use mathlib.Core.Logic.{_⊎_};
-ghost use Rattle.series.specs.Series.{sine, cosine, Kat};
-ghost use Rattle.circular.specs.SinCos.{step, run, signed, waveBits};
-use fixed::high_product;
+ghost use Rattle.series.specs.Series.{sine, cosine};
+ghost use Rattle.circular.specs.SinCos.{times, added, taken, ratioOf, sineAt, apart, sinFold, cosFold, sinSign, cosSign, waveBits};
+ghost use Rattle.fixed.specs.Fixed.{pick};
+ghost use lib.Dec.{leb};
 use fixed::pack;
 use fixed::scaled;
 
-// the sum of the terms that are added, and of those that are taken off
-pub struct Sums {
-    pub p: u64,
-    pub q: u64,
+// the product of two fractions in units of 2^-32
+fn product(u: u64, v: u64) -> u64
+    requires { ⌜ (u < 2 ^ 32) × (v < 2 ^ 32) ⌝ }
+    ensures { λ r. ⌜ r ≡ times u v ⌝ }
+{
+    u * v / 4294967296
 }
 
-// t * x * x / k, the next term of the series, with z for x * x in units of 2^-59
-fn next(t: u64, z: u64, k: u64) -> u64
-    requires { ⌜ (0 < k) × (t < 2 ^ 60) × (z ≤ 2 ^ 63) ⌝ }
-    ensures { λ r. ⌜ r ≡ step z k t ⌝ }
+// the terms that are added, with w for (x / 2)^4
+fn plus(w: u64) -> u64
+    requires { ⌜ w < 2 ^ 32 ⌝ }
+    ensures { λ r. ⌜ r ≡ added w ⌝ }
 {
-    high_product(t, z) * 32 / k
+    4294967296 + product(w, 572662306 + product(w, 3029959 + product(w, 2825)))
 }
 
-// nine pairs of terms at x / 2^35, from the term `first` on: of the sine's series (o = 1), or of the cosine's (o = 0)
-fn nine_pairs(x: u64, first: u64, o: u64) -> Sums
-    requires { ⌜ (x ≤ 2 ^ 37) × (o ≤ 1) × (first ≤ 2 ^ 56 + o * 2 ^ 58) ⌝ }
-    ensures { λ r. ⌜ (r .p ≡ run (Kat o) (x * x / 2 ^ 12 * 2) first 9 .p) × (r .q ≡ run (Kat o) (x * x / 2 ^ 12 * 2) first 9 .q) ⌝ }
+// the terms that are taken off, without a factor (x / 2)^2
+fn minus(w: u64) -> u64
+    requires { ⌜ w < 2 ^ 32 ⌝ }
+    ensures { λ r. ⌜ r ≡ taken w ⌝ }
 {
-    let w = x * 67108864;
-    let z = high_product(w, w) * 2;
-    let mut t = first;
-    let mut p = 0u64;
-    let mut q = 0u64;
-    let mut j = 0u64;
-    while j < 9 {
-        let y = next(t, z, (4 * j + (o + 1)) * (4 * j + (o + 2)));
-        p += t;
-        q += y;
-        t = next(y, z, (4 * j + (o + 3)) * (4 * j + (o + 4)));
-        j += 1;
+    2863311530 + product(w, 54539267 + product(w, 110180 + product(w, 53)))
+}
+
+// sin x / x in units of 2^-32, for x = r / 2^61 below 2
+fn ratio(r: u64) -> u64
+    requires { ⌜ r < 2 ^ 62 ⌝ }
+    ensures { λ s. ⌜ s ≡ ratioOf r ⌝ }
+{
+    let q = r / 1073741824;
+    let y = product(q, q);
+    let w = product(y, y);
+    plus(w) - product(y, minus(w))
+}
+
+// the first 32 digits of r
+fn digits(r: u64) -> u64
+    requires { ⌜ 0 < r ⌝ }
+    ensures { λ m. ⌜ m ≡ r * 2 ^ leadingZeros 64 r / 2 ^ 32 ⌝ }
+{
+    (r << u64::leading_zeros(r)) >> 32
+}
+
+// the bit pattern of sin x
+fn sine_at(r: u64) -> u32
+    requires { ⌜ (0 < r) × (r < 2 ^ 62) ⌝ }
+    ensures { λ p. ⌜ p ≡ sineAt r ⌝ }
+{
+    pack(digits(r) * ratio(r)) - (u64::leading_zeros(r) + 5) * 8388608
+}
+
+// a up to the limit, b beyond. Both are there already, so this compiles to no branch, which random angles would mispredict.
+fn choose(x: u64, limit: u64, a: u64, b: u64) -> u64
+    ensures { λ r. ⌜ r ≡ pick (leb x limit) a b ⌝ }
+{
+    if x <= limit {
+        return a;
     }
-    Sums { p, q }
+    b
 }
 
-// the difference of two sums as a bit pattern, with the sign t, or with the other sign where it is negative
-fn difference(p: u64, q: u64, t: u32) -> u32
-    requires { ⌜ (p < 2 ^ 64) × (q < 2 ^ 64) × (t ≤ 1) × ((q + 2 ^ 30 ≤ p) ⊎ (p + 2 ^ 30 ≤ q)) ⌝ }
-    ensures { λ r. ⌜ r ≡ signed t p q ⌝ }
+// the distance of two numbers
+fn distance(x: u64, y: u64) -> u64
+    ensures { λ r. ⌜ r ≡ apart x y ⌝ }
 {
-    if q <= p {
-        return t * 2147483648 + pack(p - q);
+    choose(x, y, y, x) - choose(x, y, x, y)
+}
+
+// the angle onto which x / 2^61, up to 4, is folded for its sine
+fn sin_fold(x: u64) -> u64
+    ensures { λ r. ⌜ r ≡ sinFold x ⌝ }
+{
+    choose(x, 3622009729038561421, x, distance(x, 7244019458077122842))
+}
+
+// and for its cosine
+fn cos_fold(x: u64) -> u64
+    requires { ⌜ x ≤ 2 ^ 63 ⌝ }
+    ensures { λ r. ⌜ r ≡ cosFold x ⌝ }
+{
+    choose(
+        x,
+        7244019458077122842,
+        distance(x, 3622009729038561421),
+        10866029187115684264 - x,
+    )
+}
+
+// the sign of the sine, 1 for minus, where t is that of x
+fn sin_sign(t: u32, x: u64) -> u32
+    requires { ⌜ t ≤ 1 ⌝ }
+    ensures { λ r. ⌜ r ≡ sinSign t x ⌝ }
+{
+    let other = 1 - t;
+    if x <= 7244019458077122842 {
+        return t;
     }
-    (1 - t) * 2147483648 + pack(q - p)
+    other
+}
+
+fn cos_sign(x: u64) -> u32
+    ensures { λ r. ⌜ r ≡ cosSign x ⌝ }
+{
+    if x <= 3622009729038561421 {
+        return 0;
+    }
+    1
 }
 
 // from the bit pattern of x to that of its sine
@@ -65,9 +129,8 @@ pub fn sin_bits(b: u32) -> u32
     if 0x40800000 < a {
         return 0x7fc00000;
     }
-    let x = scaled(a, 115);
-    let s = nine_pairs(x, x * 2097152, 1);
-    difference(s.p, s.q, b / 2147483648)
+    let x = scaled(a, 115) * 67108864;
+    sin_sign(b / 2147483648, x) * 2147483648 + sine_at(sin_fold(x))
 }
 
 // the same for the cosine
@@ -81,6 +144,6 @@ pub fn cos_bits(b: u32) -> u32
     if 0x40800000 < a {
         return 0x7fc00000;
     }
-    let s = nine_pairs(scaled(a, 115), 72057594037927936, 0);
-    difference(s.p, s.q, 0)
+    let x = scaled(a, 115) * 67108864;
+    cos_sign(x) * 2147483648 + sine_at(cos_fold(x))
 }

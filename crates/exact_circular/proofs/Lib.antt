@@ -1,5 +1,8 @@
-pub mod Terms
-pub mod Sums
+pub mod Kernel
+pub mod Quads
+pub mod Turns
+pub mod Folds
+pub mod Rounding
 pub mod Waves
 pub mod Ends
 pub mod Atan

@@ -1,9 +1,9 @@
 -- The literal form for sine and cosine: the partial sum of 18 terms and the one of 19 enclose every later one, and each is less than one unit in the last place from the answer.
-use mathlib.Core.Path.{_≡_, refl, sym, ap, _∙_, subst, subst₂}
-use mathlib.Core.Bool.{Bool, true, false}
-use mathlib.Core.Logic.{inl, inr}
-use Prim.Native.Nat.{ℕ, zero, suc, _+_, _*_, _-_, _%_, _^_, _≤_, _<_}
-use native.Mathlib.Nat.{le-trans, le-of-eq, le-refl, mul-pos, mul-le-mul-right, le-of-mul-le-mul-right}
+use mathlib.Core.Path.{_≡_, refl, sym, ap, _∙_, subst}
+use mathlib.Core.Bool.{Bool}
+use mathlib.Core.Logic.{inr}
+use Prim.Native.Nat.{ℕ, _*_, _-_, _%_, _^_, _≤_, _<_}
+use native.Mathlib.Nat.{le-trans, le-of-eq, le-refl, mul-le-mul-right, le-of-mul-le-mul-right}
 use native.Mathlib.Omega.{arith}
 use lib.Dec.{T, leb, lit<, lit≤}
 use lib.Pow.{pow-pos}
@@ -11,27 +11,17 @@ use lib.Ieee.{Float, nan, inf, fin, binary32, up, down, size, ofBits, toBits, fi
 use lib.Ieee.Fits.{down-pos}
 use lib.Ieee.Bits.{ofBits-toBits}
 use lib.Ieee.Exact.{HasValue}
-use Rattle.series.specs.Series.{sums, Ksin, Kcos, Kind, sine, cosine}
+use Rattle.series.specs.Series.{Ksin, Kcos, sine, cosine}
 use Rattle.series.proofs.Cases.{split}
-use Rattle.fixed.proofs.Sizes.{Size, finite-value, size-le}
+use Rattle.fixed.proofs.Sizes.{finite-value, size-le}
 use Rattle.exact.specs.Unit.{steps}
 use Rattle.exact.specs.Near.{NearSin, NearCos}
 use Rattle.exact.specs.Enclosure.{LiteralSin, LiteralCos}
 use Rattle.exact.proofs.Enclosure.{sine-nested, cosine-nested, less}
 use Rattle.circular.specs.SinCos.{waveBits, sinOf, cosOf}
 use Rattle.circular.proofs.Patterns.{outside-bits}
+use Rattle.exact_circular.proofs.Folds.{den-pos, sin-pos, cos-pos}
 use Rattle.exact_circular.proofs.Waves.{sin-near, cos-near}
-
-den-pos : (K : ℕ → ℕ) → ((k : ℕ) → 0 < K k) → (n d a b : ℕ) → 0 < d → 0 < b → (j : ℕ) → 0 < sums K n d a b j .den
-unfolding sums
-den-pos K P n d a b D B zero = B
-den-pos K P n d a b D B (suc j) = mul-pos (den-pos K P n d a b D B j) (mul-pos (mul-pos (mul-pos D D) (P (2 * j))) (mul-pos (mul-pos D D) (P (2 * j + 1))))
-
-sin-pos : (k : ℕ) → 0 < Ksin k
-sin-pos k = omega arith
-
-cos-pos : (k : ℕ) → 0 < Kcos k
-cos-pos k = omega arith
 
 -- up to 4 in size
 abbrev UpTo4 : Float → Type 0

@@ -1,34 +1,37 @@
 -- `sinOf x` and `cosOf x` are less than one unit of their last place from the sine and the cosine of x.
 use mathlib.Core.Path.{_≡_, refl, sym, ap, ap₂, _∙_, subst, subst₂}
 use mathlib.Core.Bool.{Bool, true, false, not, cond, Bool·beq}
-use Prim.Native.Nat.{ℕ, zero, suc, _+_, _-_, _*_, _/_, _%_, _^_, _≤_, _<_}
-use native.Mathlib.Nat.{lt-of-not-le, not-le-of-lt, le-trans, le-of-eq, le-refl, mul-assoc, mul-comm, mul-right-comm, mul-le-mul, mul-le-mul-left, mul-le-mul-right, le-mul-of-pos-right, le-of-mul-le-mul-right, eq-of-mul-eq-mul-right}
+use Prim.Native.Nat.{ℕ, suc, _+_, _-_, _*_, _/_, _%_, _^_, _≤_, _<_}
+use native.Mathlib.Nat.{lt-of-not-le, not-le-of-lt, le-trans, le-of-eq, le-of-lt, lt-of-lt-of-le, mul-assoc, mul-comm, mul-right-comm, mul-le-mul, mul-le-mul-left, mul-le-mul-right, le-mul-of-pos-right, le-of-mul-le-mul-right, eq-of-mul-eq-mul-right}
 use native.Mathlib.Omega.{arith}
-use mathlib.Core.Logic.{inl, inr}
+use mathlib.Core.Logic.{_⊎_, inl, inr}
 use lib.Dec.{T, eqb, leb, lit<, lit≤}
 use lib.IntN.{ℤ, pos}
-use lib.Pow.{pow-pos, pow-mono, pow-add}
+use lib.Pow.{pow-pos, pow-add}
 use lib.Count.{leadingZeros}
 use borrow.Author.Tests.{le-leb, lt-leb}
 use lib.Ieee.{Float, nan, inf, fin, binary32, up, down, size, ofBits, toBits, fits}
 use lib.Ieee.Fits.{down-pos}
 use lib.Ieee.Bits.{ofBits-toBits, toBits-lt}
 use lib.Ieee.Exact.{HasValue}
-use Rattle.series.specs.Series.{Sums, grow, sums, Limit, Ksin, Kcos, Kind, sine, cosine, shift, top, bottom, Kat}
-use Rattle.circular.specs.SinCos.{accOf, magOf, atSmall, signOf, waveBits, sinOf, cosOf}
-use Rattle.fixed.specs.Fixed.{mant, pattern}
+use Rattle.series.specs.Series.{sums, Limit, Ksin, Kcos, Kind, sine, cosine, shift, top, bottom, Kat}
+use Rattle.circular.specs.SinCos.{ratioOf, sineAt, quarterTurn, halfTurn, threeQuarters, magOf, atSmall, waveAt, waveBits, sinOf, cosOf}
+use Rattle.fixed.specs.Fixed.{mant}
 use Rattle.exact.specs.Unit.{steps, ulp}
 use Rattle.exact.specs.Near.{NearSin, NearCos}
 use Rattle.series.proofs.Alternating.{Low, High, limit}
-use Rattle.fixed.proofs.Round.{rounded, place, pattern-lt}
-use Rattle.exact_circular.proofs.Sums.{wave-plus, wave-minus}
+use Rattle.fixed.proofs.Round.{rounded}
+use Rattle.exact_circular.proofs.Kernel.{kernel}
+use Rattle.exact_circular.proofs.Turns.{sin-below-half, sin-above-half, cos-below-quarter, cos-above-quarter, cos-below-three}
+use Rattle.exact_circular.proofs.Folds.{fold-plus, fold-minus}
+use Rattle.exact_circular.proofs.Rounding.{exponent, rounds}
 use Rattle.series.proofs.WaveFraction.{same-limit, wider-limit, later}
-use Rattle.fixed.proofs.Values.{value, v-small, ulp-ge, ulps, bits-255, sign-plus, packed-value}
-use Rattle.fixed.proofs.Sizes.{Size, finite-value, size-lt}
+use Rattle.fixed.proofs.Values.{value, v-small, ulp-ge, ulps, bits-255, sign-plus}
+use Rattle.fixed.proofs.Sizes.{finite-value, size-lt}
 use Rattle.exact.proofs.Unit.{steps-is}
 use Rattle.series.proofs.Cases.{split}
-use Rattle.circular.proofs.Magnitude.{mag-le}
-use Rattle.circular.proofs.Patterns.{Case, plus, minus, case, small-bits, outside-bits}
+use Rattle.circular.proofs.Magnitude.{mag-le, mag-ge, grain}
+use Rattle.circular.proofs.Patterns.{top-of, packed, sine-at-lt, sin-direct, sin-below, sin-above, cos-below, cos-above, cos-beyond, small-bits, large-bits, outside-bits}
 
 -- ---- one statement for both: the sign of r (t) is taken as it stands, or turned where x's sign s turns a sine
 abbrev agrees : Kind → Bool → Bool → Bool
@@ -62,13 +65,13 @@ is-cos (fin s m e) (fin true n f) h = h
 is-cos (fin s m e) (fin false n f) h = h
 
 -- ---- from values to nearness
-cross : (m X : ℕ) (e : ℤ) → m * up e * 2 ^ 149 ≡ X * 2 ^ 114 * down e → m * up e * 2 ^ 35 ≡ X * down e
+cross : (m X : ℕ) (e : ℤ) → m * up e * 2 ^ 149 ≡ X * 2 ^ 88 * down e → m * up e * 2 ^ 61 ≡ X * down e
 cross m X e h =
-    eq-of-mul-eq-mul-right (2 ^ 114) (pow-pos 114) (m * up e * 2 ^ 35) (X * down e) (mul-assoc (m * up e) (2 ^ 35) (2 ^ 114) ∙ h ∙ mul-right-comm X (2 ^ 114) (down e))
+    eq-of-mul-eq-mul-right (2 ^ 88) (pow-pos 88) (m * up e * 2 ^ 61) (X * down e) (mul-assoc (m * up e) (2 ^ 61) (2 ^ 88) ∙ h ∙ mul-right-comm X (2 ^ 88) (down e))
 
 module _ (w : Kind) (s t g : Bool) (G : agrees w s t ≡ g) (X v u : ℕ) (U : u ≤ 2 ^ (size v - 24)) where
-  near-at : (x r : Float) → HasValue x s (X * 2 ^ 114) (2 ^ 149) → HasValue r t v (2 ^ 149)
-      → Limit (Kat (shift w)) X (2 ^ 35) (top w X) (bottom w (2 ^ 35)) 9 (16 * 2 ^ 149) (16 * cond g v 0) (16 * cond g 0 v) (15 * u) → NearWave w x r
+  near-at : (x r : Float) → HasValue x s (X * 2 ^ 88) (2 ^ 149) → HasValue r t v (2 ^ 149)
+      → Limit (Kat (shift w)) X (2 ^ 61) (top w X) (bottom w (2 ^ 61)) 9 (16 * 2 ^ 149) (16 * cond g v 0) (16 * cond g 0 v) (15 * u) → NearWave w x r
   near-at nan r h k L = absurd h
   near-at (inf a) r h k L = absurd h
   near-at (fin a m e) nan h k L = absurd k
@@ -78,7 +81,7 @@ module _ (w : Kind) (s t g : Bool) (G : agrees w s t ≡ g) (X v u : ℕ) (U : u
       let q : agrees w a b ≡ g = ap₂ (λ (y z : Bool). agrees w y z) (h .0) (k .0) ∙ G in
       subst₂ (λ (y : Bool) (z : ℕ). Limit (Kat (shift w)) (m * up e) (down e) (top w (m * up e)) (bottom w (down e)) 9 (16 * 2 ^ 149) (16 * cond y z 0) (16 * cond y 0 z) (15 * 2 ^ (size z - 24))) (sym q) (sym st)
       (wider-limit (Kat (shift w)) (m * up e) (down e) (top w (m * up e)) (bottom w (down e)) 9 (16 * 2 ^ 149) (16 * cond g v 0) (16 * cond g 0 v) (15 * u) (15 * 2 ^ (size v - 24)) (mul-le-mul-left 15 U)
-      (same-limit w (Kat (shift w)) X (2 ^ 35) (m * up e) (down e) (pow-pos 35) (cross m X e (h .1)) 9 (16 * 2 ^ 149) (16 * cond g v 0) (16 * cond g 0 v) (15 * u) L))
+      (same-limit w (Kat (shift w)) X (2 ^ 61) (m * up e) (down e) (pow-pos 61) (cross m X e (h .1)) 9 (16 * 2 ^ 149) (16 * cond g v 0) (16 * cond g 0 v) (15 * u) L))
 
 -- ---- from 2 ^ -12 to 4
 beq-same : (s : Bool) → Bool·beq s s ≡ true
@@ -89,37 +92,204 @@ beq-not : (s : Bool) → Bool·beq s (not s) ≡ false
 beq-not true = refl
 beq-not false = refl
 
+-- the sine has the sign of x or the other one; the cosine does not look at it
+abbrev signOf : Kind → ℕ → ℕ
+signOf sine b = b / 2 ^ 31
+signOf cosine b = 0
+
+abbrev signAt : Bool → ℕ → ℕ
+signAt true t = t
+signAt false t = 1 - t
+
 sign-minus : (b p : ℕ) → b < 2 ^ 32 → p < 255 * 2 ^ 23 → leb (2 ^ 31) ((1 - b / 2 ^ 31) * 2 ^ 31 + p) ≡ not (leb (2 ^ 31) b)
 sign-minus b p B h = split b (2 ^ 31) (λ l. le-leb (2 ^ 31) ((1 - b / 2 ^ 31) * 2 ^ 31 + p) (omega arith) ∙ sym (ap not (lt-leb (2 ^ 31) b l))) (λ l. lt-leb (2 ^ 31) ((1 - b / 2 ^ 31) * 2 ^ 31 + p) (omega arith) ∙ sym (ap not (le-leb (2 ^ 31) b l)))
 
-kept : (w : Kind) (b p : ℕ) → p < 255 * 2 ^ 23 → agrees w (leb (2 ^ 31) b) (leb (2 ^ 31) (signOf w b * 2 ^ 31 + p)) ≡ true
-kept sine b p h = ap (λ (y : Bool). Bool·beq (leb (2 ^ 31) b) y) (sign-plus b p h) ∙ beq-same (leb (2 ^ 31) b)
-kept cosine b p h = ap not (lt-leb (2 ^ 31) (0 * 2 ^ 31 + p) (omega arith))
+sign-agrees : (w : Kind) (g : Bool) (b p : ℕ) → b < 2 ^ 32 → p < 255 * 2 ^ 23 → agrees w (leb (2 ^ 31) b) (leb (2 ^ 31) (signAt g (signOf w b) * 2 ^ 31 + p)) ≡ g
+sign-agrees sine true b p B h = ap (λ (y : Bool). Bool·beq (leb (2 ^ 31) b) y) (sign-plus b p h) ∙ beq-same (leb (2 ^ 31) b)
+sign-agrees cosine true b p B h = ap not (lt-leb (2 ^ 31) (0 * 2 ^ 31 + p) (omega arith))
+sign-agrees sine false b p B h = ap (λ (y : Bool). Bool·beq (leb (2 ^ 31) b) y) (sign-minus b p B h) ∙ beq-not (leb (2 ^ 31) b)
+sign-agrees cosine false b p B h = ap not (le-leb (2 ^ 31) ((1 - 0) * 2 ^ 31 + p) (omega arith))
 
-turned : (w : Kind) (b p : ℕ) → b < 2 ^ 32 → p < 255 * 2 ^ 23 → agrees w (leb (2 ^ 31) b) (leb (2 ^ 31) ((1 - signOf w b) * 2 ^ 31 + p)) ≡ false
-turned sine b p B h = ap (λ (y : Bool). Bool·beq (leb (2 ^ 31) b) y) (sign-minus b p B h) ∙ beq-not (leb (2 ^ 31) b)
-turned cosine b p B h = ap not (le-leb (2 ^ 31) ((1 - 0) * 2 ^ 31 + p) (omega arith))
-
-x-value : (b : ℕ) → 0x3980_0000 ≤ b % 2 ^ 31 → b % 2 ^ 31 ≤ 0x4080_0000 → HasValue (ofBits binary32 b) (leb (2 ^ 31) b) (magOf (b % 2 ^ 31) * 2 ^ 114) (2 ^ 149)
+x-value : (b : ℕ) → 0x3980_0000 ≤ b % 2 ^ 31 → b % 2 ^ 31 ≤ 0x4080_0000 → HasValue (ofBits binary32 b) (leb (2 ^ 31) b) (magOf (b % 2 ^ 31) * 2 ^ 88) (2 ^ 149)
 x-value b l h =
     let a = b % 2 ^ 31 in
     let m = 2 ^ 23 + a % 2 ^ 23 in
     let e = a / 2 ^ 23 - 115 in
-    subst (λ (x : ℕ). HasValue (ofBits binary32 b) (leb (2 ^ 31) b) x (2 ^ 149)) (ap (λ (x : ℕ). m * x) (pow-add 2 e 114) ∙ sym (mul-assoc m (2 ^ e) (2 ^ 114)))
+    subst (λ (x : ℕ). HasValue (ofBits binary32 b) (leb (2 ^ 31) b) x (2 ^ 149)) (ap (λ (x : ℕ). m * x) (pow-add 2 e 114) ∙ sym (mul-assoc m (2 ^ e) (2 ^ 114)) ∙ sym (mul-assoc (m * 2 ^ e) (2 ^ 26) (2 ^ 88)))
     (value b (e + 114) m (omega arith) (omega arith) (omega arith) (omega arith))
 
-near-large : (w : Kind) (b : ℕ) → b < 2 ^ 32 → 0x3980_0000 ≤ b % 2 ^ 31 → b % 2 ^ 31 ≤ 0x4080_0000 → NearWave w (ofBits binary32 b) (ofBits binary32 (waveBits w b))
-near-large w b B l h = go (case w b l h)
+-- the angle r that |x| is folded onto, with the answer's bits, and how near the sums at |x| are
+pub record Folded (w : Kind) (b : ℕ) (g : Bool) : Type 0 where
+  pub r : ℕ
+  pub least : 2 ^ 36 ≤ r
+  pub most : r < 2 ^ 62
+  pub bits : waveAt w (b / 2 ^ 31) (magOf (b % 2 ^ 31)) ≡ signAt g (signOf w b) * 2 ^ 31 + sineAt r
+  pub near : Limit (Kat (shift w)) (magOf (b % 2 ^ 31)) (2 ^ 61) (top w (magOf (b % 2 ^ 31))) (bottom w (2 ^ 61)) 9 (2 ^ 93) (cond g (ratioOf r * r) 0) (cond g 0 (ratioOf r * r)) (20 * r + 2 ^ 37 + 2 ^ 30)
+
+abbrev Grain : ℕ → Type 0
+Grain X = (X < 2 ^ 61) ⊎ ((k : ℕ) × (X ≡ k * 2 ^ 38))
+
+-- no float is nearer than 2 ^ -25 to a turn
+below-quarter : (X : ℕ) → Grain X → X ≤ quarterTurn → 2 ^ 36 ≤ quarterTurn - X
+below-quarter X (inl h) l = omega arith
+below-quarter X (inr (k, e)) l = omega arith
+
+above-quarter : (X : ℕ) → Grain X → quarterTurn < X → 2 ^ 36 ≤ X - quarterTurn
+above-quarter X (inl h) l = omega arith
+above-quarter X (inr (k, e)) l = omega arith
+
+below-half : (X : ℕ) → Grain X → X ≤ halfTurn → 2 ^ 36 ≤ halfTurn - X
+below-half X (inl h) l = omega arith
+below-half X (inr (k, e)) l = omega arith
+
+above-half : (X : ℕ) → Grain X → halfTurn < X → 2 ^ 36 ≤ X - halfTurn
+above-half X (inl h) l = omega arith
+above-half X (inr (k, e)) l = omega arith
+
+module _ (b : ℕ) (h : b % 2 ^ 31 ≤ 0x4080_0000) where
+  abbrev X : ℕ
+  X = magOf (b % 2 ^ 31)
+
+  X-le : magOf (b % 2 ^ 31) ≤ 2 ^ 63
+  X-le = mag-le (b % 2 ^ 31) h
+
+  X-five : magOf (b % 2 ^ 31) ≤ 5 * 2 ^ 61
+  X-five = le-trans X-le (lit≤ tt)
+
+  X-grain : Grain (magOf (b % 2 ^ 31))
+  X-grain = grain (b % 2 ^ 31)
+
+  rest-of : (X T : ℕ) → X ≤ T → X + (T - X) ≡ T
+  rest-of X T l = omega arith
+
+  past-of : (X T : ℕ) → T < X → T + (X - T) ≡ X
+  past-of X T l = omega arith
+
+  direct : X ≤ quarterTurn → Folded sine b true
+  direct l =
+      let m : X < 2 ^ 62 = le-trans (lt-suc X quarterTurn l) (lit≤ tt) in
+      record {
+        r = X;
+        least = le-trans (lit≤ tt) (mag-ge (b % 2 ^ 31));
+        most = m;
+        bits = sin-direct X (b / 2 ^ 31) l;
+        near = wider-limit Ksin X (2 ^ 61) X (2 ^ 61) 9 (2 ^ 93) (ratioOf X * X) 0 (20 * X) (20 * X + 2 ^ 37 + 2 ^ 30) (wide (20 * X)) (later Ksin X (2 ^ 61) X (2 ^ 61) 4 9 (2 ^ 93) (ratioOf X * X) 0 (20 * X) (lit≤ tt) (kernel X m));
+      }
+    where
+      lt-suc : (x y : ℕ) → x ≤ y → x < suc y
+      lt-suc x y l = omega arith
+
+      wide : (y : ℕ) → y ≤ y + 2 ^ 37 + 2 ^ 30
+      wide y = omega arith
+
+  sine-below : quarterTurn < X → X ≤ halfTurn → Folded sine b true
+  sine-below k l =
+      let m : halfTurn - X < 2 ^ 62 = go X k in
+      record {
+        r = halfTurn - X;
+        least = below-half X X-grain l;
+        most = m;
+        bits = sin-below X (b / 2 ^ 31) k l;
+        near = fold-plus sine X (halfTurn - X) X-le m (sin-below-half X (halfTurn - X) X-five (le-of-lt m) (rest-of X halfTurn l));
+      }
+    where
+      go : (X : ℕ) → quarterTurn < X → halfTurn - X < 2 ^ 62
+      go X k = omega arith
+
+  sine-above : halfTurn < X → Folded sine b false
+  sine-above k =
+      let m : X - halfTurn < 2 ^ 62 = go X X-le in
+      record {
+        r = X - halfTurn;
+        least = above-half X X-grain k;
+        most = m;
+        bits = sin-above X (b / 2 ^ 31) k;
+        near = fold-minus sine X (X - halfTurn) X-le m (sin-above-half X (X - halfTurn) X-five (le-of-lt m) (past-of X halfTurn k));
+      }
+    where
+      go : (X : ℕ) → X ≤ 2 ^ 63 → X - halfTurn < 2 ^ 62
+      go X k = omega arith
+
+  cosine-below : X ≤ quarterTurn → Folded cosine b true
+  cosine-below l =
+      let m : quarterTurn - X < 2 ^ 62 = go X in
+      record {
+        r = quarterTurn - X;
+        least = below-quarter X X-grain l;
+        most = m;
+        bits = cos-below X (b / 2 ^ 31) l;
+        near = fold-plus cosine X (quarterTurn - X) X-le m (cos-below-quarter X (quarterTurn - X) X-five (le-of-lt m) (rest-of X quarterTurn l));
+      }
+    where
+      go : (X : ℕ) → quarterTurn - X < 2 ^ 62
+      go X = omega arith
+
+  cosine-above : quarterTurn < X → X ≤ halfTurn → Folded cosine b false
+  cosine-above k l =
+      let m : X - quarterTurn < 2 ^ 62 = go X l in
+      record {
+        r = X - quarterTurn;
+        least = above-quarter X X-grain k;
+        most = m;
+        bits = cos-above X (b / 2 ^ 31) k l;
+        near = fold-minus cosine X (X - quarterTurn) X-le m (cos-above-quarter X (X - quarterTurn) X-five (le-of-lt m) (past-of X quarterTurn k));
+      }
+    where
+      go : (X : ℕ) → X ≤ halfTurn → X - quarterTurn < 2 ^ 62
+      go X k = omega arith
+
+  cosine-beyond : halfTurn < X → Folded cosine b false
+  cosine-beyond k =
+      let m : threeQuarters - X < 2 ^ 62 = go X k in
+      record {
+        r = threeQuarters - X;
+        least = away X X-le;
+        most = m;
+        bits = cos-beyond X (b / 2 ^ 31) k;
+        near = fold-minus cosine X (threeQuarters - X) X-le m (cos-below-three X (threeQuarters - X) X-five (le-of-lt m) (rest-of X threeQuarters (le-trans X-le (lit≤ tt))));
+      }
+    where
+      go : (X : ℕ) → halfTurn < X → threeQuarters - X < 2 ^ 62
+      go X k = omega arith
+
+      away : (X : ℕ) → X ≤ 2 ^ 63 → 2 ^ 36 ≤ threeQuarters - X
+      away X k = omega arith
+
+-- the answer's value
+sine-value : (c t r : ℕ) → c ≡ t * 2 ^ 31 + sineAt r → (l : 2 ^ 36 ≤ r) → (m : r < 2 ^ 62) → HasValue (ofBits binary32 c) (leb (2 ^ 31) (t * 2 ^ 31 + sineAt r)) (mant (r * 2 ^ leadingZeros 64 r / 2 ^ 32 * ratioOf r) * 2 ^ exponent r l m) (2 ^ 149)
+unfolding sineAt
+sine-value c t r e l m =
+    let p = r * 2 ^ leadingZeros 64 r / 2 ^ 32 * ratioOf r in
+    let z = packed r (lt-of-lt-of-le (lit< tt) l) m in
+    let R = rounded p (z .big) (z .fits) in
+    subst (λ (x : ℕ). HasValue (ofBits binary32 x) (leb (2 ^ 31) (t * 2 ^ 31 + sineAt r)) (mant p * 2 ^ exponent r l m) (2 ^ 149)) (sym e)
+    (value (t * 2 ^ 31 + sineAt r) (exponent r l m) (mant p) (rest t (leadingZeros 64 p) (leadingZeros 64 r) (mant p) (R .few) (top-of r (lt-of-lt-of-le (lit< tt) l) (le-trans m (lit≤ tt)) .few) (R .most)) (R .least) (R .most) (fine (leadingZeros 64 p) (leadingZeros 64 r)))
   where
-    go : Case w b → NearWave w (ofBits binary32 b) (ofBits binary32 (waveBits w b))
-    go (plus s e big f i) =
-        near-at w (leb (2 ^ 31) b) (leb (2 ^ 31) (signOf w b * 2 ^ 31 + pattern s)) true (kept w b (pattern s) (pattern-lt s big f)) (magOf (b % 2 ^ 31)) (mant s * place s) (place s) (ulp-ge (mant s) (133 - leadingZeros 64 s) (rounded s big f .least))
-        (ofBits binary32 b) (ofBits binary32 (waveBits w b)) (x-value b l h) (packed-value (waveBits w b) s (signOf w b) i big f)
-        (wave-plus w (magOf (b % 2 ^ 31)) s (mag-le (b % 2 ^ 31) h) big f e)
-    go (minus s e big f i) =
-        near-at w (leb (2 ^ 31) b) (leb (2 ^ 31) ((1 - signOf w b) * 2 ^ 31 + pattern s)) false (turned w b (pattern s) B (pattern-lt s big f)) (magOf (b % 2 ^ 31)) (mant s * place s) (place s) (ulp-ge (mant s) (133 - leadingZeros 64 s) (rounded s big f .least))
-        (ofBits binary32 b) (ofBits binary32 (waveBits w b)) (x-value b l h) (packed-value (waveBits w b) s (1 - signOf w b) i big f)
-        (wave-minus w (magOf (b % 2 ^ 31)) s (mag-le (b % 2 ^ 31) h) big f e)
+    rest : (t z k m : ℕ) → z ≤ 33 → k ≤ 63 → m ≤ 2 ^ 24 → (t * 2 ^ 31 + ((133 - z) * 2 ^ 23 + m - (k + 5) * 2 ^ 23)) % 2 ^ 31 ≡ (133 - z - (k + 5)) * 2 ^ 23 + m
+    rest t z k m f h u = omega arith
+
+    fine : (z k : ℕ) → 133 - z - (k + 5) < 253
+    fine z k = omega arith
+
+near-folded : (w : Kind) (b : ℕ) (g : Bool) → b < 2 ^ 32 → 0x3980_0000 ≤ b % 2 ^ 31 → b % 2 ^ 31 ≤ 0x4080_0000 → Folded w b g → NearWave w (ofBits binary32 b) (ofBits binary32 (waveBits w b))
+near-folded w b g B l h F =
+    let r = F .r in
+    let p = r * 2 ^ leadingZeros 64 r / 2 ^ 32 * ratioOf r in
+    let z = packed r (lt-of-lt-of-le (lit< tt) (F .least)) (F .most) in
+    let c = signAt g (signOf w b) in
+    near-at w (leb (2 ^ 31) b) (leb (2 ^ 31) (c * 2 ^ 31 + sineAt r)) g (sign-agrees w g b (sineAt r) B (sine-at-lt r (lt-of-lt-of-le (lit< tt) (F .least)) (F .most))) (magOf (b % 2 ^ 31)) (mant p * 2 ^ exponent r (F .least) (F .most)) (2 ^ exponent r (F .least) (F .most)) (ulp-ge (mant p) (exponent r (F .least) (F .most)) (rounded p (z .big) (z .fits) .least))
+    (ofBits binary32 b) (ofBits binary32 (waveBits w b)) (x-value b l h) (sine-value (waveBits w b) c r (large-bits w b l h ∙ F .bits) (F .least) (F .most))
+    (rounds r (F .least) (F .most) g (Kat (shift w)) (magOf (b % 2 ^ 31)) (2 ^ 61) (top w (magOf (b % 2 ^ 31))) (bottom w (2 ^ 61)) 9 (F .near))
+
+near-large : (w : Kind) (b : ℕ) → b < 2 ^ 32 → 0x3980_0000 ≤ b % 2 ^ 31 → b % 2 ^ 31 ≤ 0x4080_0000 → NearWave w (ofBits binary32 b) (ofBits binary32 (waveBits w b))
+near-large sine b B l h =
+    split quarterTurn (magOf (b % 2 ^ 31))
+    (λ k. split halfTurn (magOf (b % 2 ^ 31)) (λ j. near-folded sine b false B l h (sine-above b h j)) (λ j. near-folded sine b true B l h (sine-below b h k j)))
+    (λ k. near-folded sine b true B l h (direct b h k))
+near-large cosine b B l h =
+    split quarterTurn (magOf (b % 2 ^ 31))
+    (λ k. split halfTurn (magOf (b % 2 ^ 31)) (λ j. near-folded cosine b false B l h (cosine-beyond b h j)) (λ j. near-folded cosine b false B l h (cosine-above b h k j)))
+    (λ k. near-folded cosine b true B l h (cosine-below b h k))
 
 -- ---- below 2 ^ -12 the sine is x itself, but for x³ / 6, and the cosine 1, but for x² / 2. v is |x| in units of 2 ^ -149
 -- |x|² is at most 2 ^ -24

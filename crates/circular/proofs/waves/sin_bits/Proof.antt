@@ -1,12 +1,13 @@
--- `circular::waves::sin_bits` meets its contract: the two sums fit, and no float up to 4 brings them closer than 2 ^ 30.
-use mathlib.Core.Path.{_≡_, sym, ap, ap₂, _∙_, subst}
+-- `circular::waves::sin_bits` meets its contract.
+use mathlib.Core.Path.{sym, ap, ap₂, _∙_, subst}
 use Prim.Native.Nat.{ℕ, _+_, _-_, _*_, _/_, _%_, _^_, _<_, _≤_}
+use native.Mathlib.Nat.{le-trans, le-of-eq}
 use native.Mathlib.Omega.{arith}
 use borrow.Author.Needs.{needs}
-use Rattle.series.specs.Series.{sine, Kat}
-use Rattle.circular.specs.SinCos.{run, accOf, magOf, signed}
-use Rattle.circular.proofs.Patterns.{At, at, small-bits, large-bits, outside-bits}
-use Rattle.circular.proofs.Magnitude.{mag-le}
+use Rattle.series.specs.Series.{sine}
+use Rattle.circular.specs.SinCos.{sineAt, waveAt}
+use Rattle.circular.proofs.Patterns.{small-bits, large-bits, outside-bits, sin-angle, sin-sign-le, sine-at-lt}
+use Rattle.circular.proofs.Magnitude.{scaled-le, scaled-pos}
 use Rattle.circular.proofs.waves.sin_bits.Statement.{statement}
 use Rattle.circular.proofs.waves.sin_bits.Tie as tie
 
@@ -19,31 +20,48 @@ returns-2 c = sym (outside-bits sine (c .before .before .args .b) (c .if2 .taken
 scaled-requires : tie.Need-scaled-requires
 scaled-requires c κs = omega (arith, c .before .if1 .left, c .if2 .left)
 
--- the magnitude is at most 4
-mag-at : (c : tie.After-scaled) → c .scaled .result ≤ 2 ^ 37
-mag-at c = subst (λ (x : ℕ). x ≤ 2 ^ 37) (sym (c .scaled .ensures)) (mag-le (c .before .before .before .args .b % 2 ^ 31) (c .before .if2 .left))
+-- the magnitude is positive, and at most 4
+scaled-at : (c : tie.After-scaled) → (0 < c .scaled .result) × (c .scaled .result ≤ 2 ^ 37)
+scaled-at c = subst (λ (x : ℕ). (0 < x) × (x ≤ 2 ^ 37)) (sym (c .scaled .ensures)) (scaled-pos (c .before .before .before .args .b % 2 ^ 31), scaled-le (c .before .before .before .args .b % 2 ^ 31) (c .before .if2 .left))
 
-mul-nine-pairs : tie.Need-mul-nine-pairs
-mul-nine-pairs c = let h = mag-at c in omega arith
+mul-x : tie.Need-mul-x
+mul-x c = omega (arith, scaled-at c .1)
 
-nine-pairs-requires : tie.Need-nine-pairs-requires
-nine-pairs-requires c κs = let h = mag-at c in (h, omega arith, omega arith)
+sign-le : (c : tie.After-sin-sign) → c .sin-sign .result ≤ 1
+sign-le c = let b = c .before .before .before .before .args .b in le-trans (le-of-eq (c .sin-sign .ensures)) (sin-sign-le (c .before .scaled .result * 2 ^ 26) (b / 2 ^ 31) (omega (arith, c .before .before .before .before .fits .b .fits)))
 
-p-is : (c : tie.After-nine-pairs) → c .nine-pairs .result .p ≡ accOf sine (magOf (c .before .before .before .before .args .b % 2 ^ 31)) .p
-p-is c = c .nine-pairs .ensures .0 ∙ ap (λ (m : ℕ). run (Kat 1) (m * m / 2 ^ 12 * 2) (m * 2 ^ 21) 9 .p) (c .before .scaled .ensures)
+sin-sign-requires : tie.Need-sin-sign-requires
+sin-sign-requires c κs = omega (arith, c .before .before .before .fits .b .fits)
 
-q-is : (c : tie.After-nine-pairs) → c .nine-pairs .result .q ≡ accOf sine (magOf (c .before .before .before .before .args .b % 2 ^ 31)) .q
-q-is c = c .nine-pairs .ensures .1 ∙ ap (λ (m : ℕ). run (Kat 1) (m * m / 2 ^ 12 * 2) (m * 2 ^ 21) 9 .q) (c .before .scaled .ensures)
+mul-result : tie.Need-mul-result
+mul-result c = omega (arith, sign-le c)
 
-difference-requires : tie.Need-difference-requires
-difference-requires c κs =
-    let a = at sine (c .before .before .before .before .args .b % 2 ^ 31) (c .nine-pairs .result .p) (c .nine-pairs .result .q) (c .before .before .if2 .left) (p-is c) (q-is c) in
-    (a .p-fits, a .q-fits, omega (arith, c .before .before .before .before .fits .b .fits), a .far)
+sin-fold-requires : tie.Need-sin-fold-requires
+sin-fold-requires c κs = search needs
+
+angle : (c : tie.After-sin-fold) → (0 < c .sin-fold .result) × (c .sin-fold .result < 2 ^ 62)
+angle c =
+    let s = scaled-at (c .before .before) in
+    let x = c .before .before .scaled .result in
+    subst (λ (r : ℕ). (0 < r) × (r < 2 ^ 62)) (sym (c .sin-fold .ensures)) (sin-angle (x * 2 ^ 26) (omega (arith, s .0)) (omega arith) (omega (arith, s .1)))
+
+sine-at-requires : tie.Need-sine-at-requires
+sine-at-requires c κs = angle c
+
+add-result : tie.Need-add-result
+add-result c =
+    let r = c .before .sin-fold .result in
+    let a = angle (c .before) in
+    let h : c .sine-at .result < 255 * 2 ^ 23 = subst (λ (y : ℕ). y < 255 * 2 ^ 23) (sym (c .sine-at .ensures)) (sine-at-lt r (a .0) (a .1)) in
+    omega (arith, h, sign-le (c .before .before))
 
 returns-3 : tie.Need-returns-3
 returns-3 c =
-    let b = c .before .before .before .before .before .args .b in
-    c .difference .ensures ∙ ap₂ (λ (p q : ℕ). signed (b / 2 ^ 31) p q) (p-is (c .before)) (q-is (c .before)) ∙ sym (large-bits sine b (c .before .before .before .before .if1 .left) (c .before .before .before .if2 .left))
+    let b = c .before .before .before .before .before .before .args .b in
+    let e = c .before .before .before .scaled .ensures in
+    ap₂ (λ (s y : ℕ). s * 2 ^ 31 + y) (c .before .before .sin-sign .ensures) (c .sine-at .ensures ∙ ap (λ (r : ℕ). sineAt r) (c .before .sin-fold .ensures))
+    ∙ ap (λ (x : ℕ). waveAt sine (b / 2 ^ 31) (x * 2 ^ 26)) e
+    ∙ sym (large-bits sine b (c .before .before .before .before .before .if1 .left) (c .before .before .before .before .if2 .left))
 
 pub sin-bits-spec : {M : Type 1} → statement M
-sin-bits-spec = tie.close (tie.spec returns returns-2 scaled-requires mul-nine-pairs nine-pairs-requires difference-requires returns-3)
+sin-bits-spec = tie.close (tie.spec returns returns-2 scaled-requires mul-x sin-sign-requires mul-result sin-fold-requires sine-at-requires add-result returns-3)

@@ -1,0 +1,15 @@
+-- `circular::waves::product` meets its contract: two factors below 2 ^ 32.
+use Prim.Native.Nat.{_^_}
+use borrow.Author.Needs.{needs}
+use Rattle.fixed.proofs.Product.{half-fits}
+use Rattle.circular.proofs.waves.product.Statement.{statement}
+use Rattle.circular.proofs.waves.product.Tie as tie
+
+mul-result : tie.Need-mul-result
+mul-result c = half-fits (c .pre .0) (c .pre .1)
+
+returns : tie.Need-returns
+returns c = search needs
+
+pub product-spec : {M : Type 1} → statement M
+product-spec = tie.close (tie.spec mul-result returns)
