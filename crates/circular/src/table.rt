@@ -299,14 +299,27 @@ pub fn quotient(n: u64, d: u64) -> u64
     (m / d) * 67108864 + (m % d) * 67108864 / d
 }
 
-// the same for larger n and d, by three divisions
+// r / d in units of 2^-28: the quotient by d without its last eight bits is exact or one too large
+fn fine_quotient(r: u64, d: u64) -> u64
+    requires { ⌜ (r < d) × (2 ^ 41 ≤ d) × (d ≤ 2 ^ 44) ⌝ }
+    ensures { λ q. ⌜ q ≡ r * 2 ^ 28 / d ⌝ }
+{
+    let k = r * 1048576;
+    let h = d / 256;
+    let q = k / h;
+    if (k % h) * 256 < q * (d % 256) {
+        return q - 1;
+    }
+    q
+}
+
+// the same as `quotient` for larger n and d
 pub fn long_quotient(n: u64, d: u64) -> u64
-    requires { ⌜ (n ≤ d) × (0 < d) × (d ≤ 2 ^ 44) ⌝ }
+    requires { ⌜ (n < 2 ^ 36) × (2 ^ 41 ≤ d) × (d ≤ 2 ^ 44) ⌝ }
     ensures { λ r. ⌜ r ≡ n * 2 ^ 56 / d ⌝ }
 {
-    let m = n * 524288;
-    let k = (m % d) * 1048576;
-    (m / d) * 137438953472 + ((k / d) * 131072 + (k % d) * 131072 / d)
+    let m = n * 268435456;
+    (m / d) * 268435456 + fine_quotient(m % d, d)
 }
 
 // the angle a, and the small one whose tangent is q * 2^-56
