@@ -35,10 +35,10 @@ fn large_guess(n: u64) -> u64
     ensures { λ r. ⌜ (n < (r + 1) * (r + 1)) × (r < 2 ^ 32) ⌝ }
 {
     let u = 4294967295 - n / 4294967296;
-    let a = part(u, part(u, 407598307, 32), 32);
-    let b = part(u, 300397507 + a, 32);
-    let c = part(u, 536074575 + b, 32);
-    mean(n, 4294967296 - part(2147309209 + c, u, 32))
+    let v = part(u, u, 32);
+    let low = 2147309209 + part(u, 536074575, 32);
+    let high = part(v, 300397507 + part(v, 407598307, 32), 32);
+    mean(n, 4294967296 - part(low + high, u, 32))
 }
 
 // the same for any n, in units of 2^k, and off by at most one part in 700 before the mean
