@@ -5,7 +5,6 @@ pub mod Tangent
 pub mod Cubic
 pub mod Step
 pub mod Angles
-pub mod Arms
 pub mod Angle
 pub mod Reduce
 pub mod AtanBits
