@@ -80,11 +80,16 @@ impl Tally {
 
 /// Nanoseconds of one call on these numbers: the best of many rounds.
 pub fn nanoseconds(numbers: &[f32], f: impl Fn(f32) -> f32) -> f64 {
-    let round = || {
+    // Each answer has a place of its own: a `black_box` around every call puts arguments and
+    // answers in one place on the stack, and some processors then wait for the last answer
+    // before they start the next call.
+    let mut answers = vec![0.0; numbers.len()];
+    let mut round = || {
         let started = Instant::now();
-        for x in numbers {
-            black_box(f(black_box(*x)));
+        for (x, answer) in black_box(numbers).iter().zip(&mut answers) {
+            *answer = f(*x);
         }
+        black_box(&answers);
         started.elapsed().as_secs_f64() * 1e9 / numbers.len() as f64
     };
     (0..1000).map(|_| round()).fold(f64::MAX, f64::min)
