@@ -299,7 +299,16 @@ pub fn quotient(n: u64, d: u64) -> u64
     (m / d) * 67108864 + (m % d) * 67108864 / d
 }
 
-// r / d in units of 2^-28: the quotient by d without its last eight bits is exact or one too large
+// r / d in units of 2^-28
+fn rest_quotient(r: u64, d: u64) -> u64
+    requires { ⌜ (r < d) × (2 ^ 41 ≤ d) × (d ≤ 2 ^ 44) ⌝ }
+    ensures { λ q. ⌜ q ≡ r * 2 ^ 28 / d ⌝ }
+{
+    let k = r * 1048576;
+    (k / d) * 256 + (k % d) * 256 / d
+}
+
+// the same, mostly by one division: the quotient by d without its last eight bits is exact, if its remainder covers them
 fn fine_quotient(r: u64, d: u64) -> u64
     requires { ⌜ (r < d) × (2 ^ 41 ≤ d) × (d ≤ 2 ^ 44) ⌝ }
     ensures { λ q. ⌜ q ≡ r * 2 ^ 28 / d ⌝ }
@@ -307,10 +316,10 @@ fn fine_quotient(r: u64, d: u64) -> u64
     let k = r * 1048576;
     let h = d / 256;
     let q = k / h;
-    if (k % h) * 256 < q * (d % 256) {
-        return q - 1;
+    if q * (d % 256) <= (k % h) * 256 {
+        return q;
     }
-    q
+    rest_quotient(r, d)
 }
 
 // the same as `quotient` for larger n and d

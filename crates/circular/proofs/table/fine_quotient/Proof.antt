@@ -1,6 +1,6 @@
--- `circular::table::fine_quotient` meets its contract: d is 256 h + l, so that with k = q h + e the dividend r * 2 ^ 28 is q d + (256 e - q l); and q l is below d.
+-- `circular::table::fine_quotient` meets its contract: d is 256 h + l, so that with k = q h + e the dividend r * 2 ^ 28 is q d + (256 e - q l), where 256 e is below d.
 use mathlib.Core.Path.{_≡_, sym, ap}
-use Prim.Native.Nat.{ℕ, zero, suc, _+_, _-_, _*_, _/_, _%_, _^_, _<_, _≤_}
+use Prim.Native.Nat.{ℕ, _+_, _*_, _/_, _%_, _^_, _<_, _≤_}
 use native.Mathlib.Nat.{mod-lt, div-add-mod', div-eq-of-lt-le, div-lt-iff-lt-mul, mul-le-mul}
 use native.Mathlib.Omega.{arith}
 use borrow.Author.Needs.{needs}
@@ -65,41 +65,19 @@ mul-k c = let p = c .pre .0 in let g = c .pre .2 in omega arith
 div-q : tie.Need-div-q
 div-q c = h-pos c
 
+mul-if1 : tie.Need-mul-if1
+mul-if1 c = let p = product c in omega arith
+
 rem-if1 : tie.Need-rem-if1
 rem-if1 c = search needs
 
-mul-if1 : tie.Need-mul-if1
-mul-if1 c = let p = rest c in let g = h-most c in omega arith
-
 mul-if1-2 : tie.Need-mul-if1-2
-mul-if1-2 c = let p = product c in omega arith
-
--- where one is taken off, q is not 0
-sub-result : tie.Need-sub-result
-sub-result c = go (q (c .before)) (e (c .before)) (l (c .before)) (c .if1 .taken)
-  where
-    go : (q e l : ℕ) → e * 2 ^ 8 < q * l → 1 ≤ q
-    go zero e l t = omega arith
-    go (suc q) e l t = omega arith
-
-less : (q : ℕ) → 1 ≤ q → q - 1 + 1 ≡ q
-less q i = omega arith
+mul-if1-2 c = let p = rest c in let g = h-most c in omega arith
 
 returns : tie.Need-returns
 returns c =
     let s = c .before in
-    sym (div-eq-of-lt-le (s .args .d) (low-side (q s) (e s) (l s) (s .args .r) (s .args .d) (sub-result c) (sum s) (product s) (s .pre .1) (c .if1 .taken)) (high-side (q s) (e s) (l s) (s .args .r) (s .args .d) (sub-result c) (sum s) (c .if1 .taken)))
-  where
-    low-side : (q e l r d : ℕ) → 1 ≤ q → r * 2 ^ 28 + q * l ≡ q * d + e * 2 ^ 8 → q * l ≤ 2 ^ 28 * 255 → 2 ^ 41 ≤ d → e * 2 ^ 8 < q * l → (q - 1) * d ≤ r * 2 ^ 28
-    low-side q e l r d i a b f t = omega (arith, ap (λ (x : ℕ). x * d) (less q i))
-
-    high-side : (q e l r d : ℕ) → 1 ≤ q → r * 2 ^ 28 + q * l ≡ q * d + e * 2 ^ 8 → e * 2 ^ 8 < q * l → r * 2 ^ 28 < (q - 1 + 1) * d
-    high-side q e l r d i a t = omega (arith, ap (λ (x : ℕ). x * d) (less q i))
-
-returns-2 : tie.Need-returns-2
-returns-2 c =
-    let s = c .before in
-    sym (div-eq-of-lt-le (s .args .d) (low-side (q s) (e s) (l s) (s .args .r) (s .args .d) (sum s) (c .if1 .left)) (high-side (q s) (h s) (e s) (l s) (s .args .r) (s .args .d) (sum s) (split s) (rest s)))
+    sym (div-eq-of-lt-le (s .args .d) (low-side (q s) (e s) (l s) (s .args .r) (s .args .d) (sum s) (c .if1 .taken)) (high-side (q s) (h s) (e s) (l s) (s .args .r) (s .args .d) (sum s) (split s) (rest s)))
   where
     low-side : (q e l r d : ℕ) → r * 2 ^ 28 + q * l ≡ q * d + e * 2 ^ 8 → q * l ≤ e * 2 ^ 8 → q * d ≤ r * 2 ^ 28
     low-side q e l r d a t = omega arith
@@ -107,5 +85,11 @@ returns-2 c =
     high-side : (q h e l r d : ℕ) → r * 2 ^ 28 + q * l ≡ q * d + e * 2 ^ 8 → h * 2 ^ 8 + l ≡ d → e < h → r * 2 ^ 28 < (q + 1) * d
     high-side q h e l r d a b t = omega arith
 
+rest-quotient-requires : tie.Need-rest-quotient-requires
+rest-quotient-requires c κs = search needs
+
+returns-2 : tie.Need-returns-2
+returns-2 c = c .rest-quotient .ensures
+
 pub fine-quotient-spec : {M : Type 1} → statement M
-fine-quotient-spec = tie.close (tie.spec mul-k div-q rem-if1 mul-if1 mul-if1-2 sub-result returns returns-2)
+fine-quotient-spec = tie.close (tie.spec mul-k div-q mul-if1 rem-if1 mul-if1-2 returns rest-quotient-requires returns-2)

@@ -1,21 +1,12 @@
 -- `circular::table::long_quotient` meets its contract: a division carried on with the remainder.
-use mathlib.Core.Path.{_≡_, sym, ap, _∙_}
+use mathlib.Core.Path.{_≡_, ap, _∙_}
 use Prim.Native.Nat.{ℕ, _+_, _*_, _/_, _%_, _^_, _<_, _≤_}
-use native.Mathlib.Nat.{le-trans, mod-lt, div-mul-le-self, mul-le-mul-right, le-of-mul-le-mul-right, mul-add-div-right, div-add-mod', le-of-lt}
+use native.Mathlib.Nat.{mod-lt, mul-le-mul-right, le-of-lt}
 use native.Mathlib.Omega.{arith}
 use borrow.Author.Needs.{needs}
+use Rattle.circular.proofs.Quotient.{carry-on, quot-le}
 use Rattle.circular.proofs.table.long_quotient.Statement.{statement}
 use Rattle.circular.proofs.table.long_quotient.Tie as tie
-
--- x / d, carried on by the factor k
-carry-on : (x k d : ℕ) → 0 < d → x / d * k + x % d * k / d ≡ x * k / d
-carry-on x k d P = sym (ap (λ (y : ℕ). y / d) (go (x / d) (x % d) (div-add-mod' x d)) ∙ mul-add-div-right P (x / d * k) (x % d * k))
-  where
-    go : (a b : ℕ) → a * d + b ≡ x → x * k ≡ a * k * d + b * k
-    go a b e = omega (arith, ap (λ (y : ℕ). y * k) e)
-
-quot-le : (x y d : ℕ) → 0 < d → x ≤ y * d → x / d ≤ y
-quot-le x y d P h = le-of-mul-le-mul-right {k = d} (le-trans (div-mul-le-self x d) h) P
 
 abbrev m : tie.Start → ℕ
 m c = c .args .n * 2 ^ 28
