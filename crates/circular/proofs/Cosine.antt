@@ -1,12 +1,12 @@
 -- The whole root that stands for the cosine: with r its eighth, (8 r)² + X² is at most 2 ^ 70, and (8 r + 8)² + X² is not below it. So either X or the cosine is at least 2 ^ 34.
-use mathlib.Core.Path.{_≡_, refl, ap, _∙_}
+use mathlib.Core.Path.{_≡_, refl, sym, ap, _∙_, subst}
 use Prim.Native.Nat.{ℕ, zero, suc, _+_, _-_, _*_, _/_, _%_, _^_, _≤_, _<_}
 use native.Mathlib.Nat.{le-trans, lt-of-le-of-lt, mul-le-mul, mul-div-mul-right}
 use native.Mathlib.Omega.{arith}
 use lib.Dec.{lit≤}
 use lib.Pow.{pow-pos}
 use Rattle.scalar.specs.Root.{root}
-use Rattle.scalar.proofs.WholeRoot.{root-is, root-lt}
+use Rattle.scalar.proofs.WholeRoot.{root-is, root-ge, root-lt}
 use Rattle.series.proofs.Cases.{split}
 use Rattle.circular.specs.Asin.{cosineOf}
 
@@ -77,3 +77,16 @@ sine-large X r C h = split X (2 ^ 34) (λ l. absurd (go l)) (λ l. l)
         let c = mul-le-mul a a in
         let d = mul-le-mul b b in
         omega (arith, c, d, C .high)
+
+-- the root of 1/2 parts the two cases: 8 * 3037000500 is 24296004000
+pub up-to-half : (X : ℕ) → X ≤ 24296003999 → X ≤ cosineOf X
+up-to-half X h =
+    let s = mul-le-mul h h in
+    let g = root-ge (under X) (root (under X)) 3037000500 (root-is (under X) .1) (let t : X * X ≤ 24296003999 * 24296003999 = s in omega arith) in
+    subst (λ (c : ℕ). X ≤ c) (sym (cosine-is X)) (omega arith)
+
+pub from-half : (X : ℕ) → 24296003999 < X → cosineOf X < X
+from-half X h =
+    let s = mul-le-mul h h in
+    let g = root-lt (under X) (root (under X)) 3037000500 (root-is (under X) .0) (let t : 24296004000 * 24296004000 ≤ X * X = s in omega arith) in
+    subst (λ (c : ℕ). c < X) (sym (cosine-is X)) (omega arith)

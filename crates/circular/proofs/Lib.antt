@@ -11,3 +11,4 @@ pub mod Cosine
 pub mod AsinBits
 pub mod AtanMost
 pub mod Within
+pub mod Quotient

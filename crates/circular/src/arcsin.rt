@@ -1,6 +1,6 @@
 // The arc sine: the cosine by a whole root, and then the angle by the arc tangent's tables.
 ghost use mathlib.Core.Path.{_≡_};
-ghost use Prim.Native.Nat.{_+_, _*_, _/_, _^_, _<_, _≤_};
+ghost use Prim.Native.Nat.{_+_, _-_, _*_, _/_, _^_, _<_, _≤_};
 ghost use Rattle.scalar.specs.Root.{root};
 ghost use Rattle.circular.specs.Atan.{gentleOf, steepOf};
 ghost use Rattle.circular.specs.Asin.{cosineOf, angleAt, asinBits};
@@ -13,34 +13,83 @@ use fixed::pack;
 use fixed::power;
 use fixed::scaled;
 
-// a number not below n's root: the mean of r and n / r, for the power r of two next to the root
+// a number not below n's root: the mean of g and n / g
+fn mean(n: u64, g: u64) -> u64
+    requires { ⌜ (0 < g) × (g ≤ 2 ^ 32) × (n < g * 2 ^ 32) ⌝ }
+    ensures { λ r. ⌜ (n < (r + 1) * (r + 1)) × (r < 2 ^ 32) ⌝ }
+{
+    (g + n / g) / 2
+}
+
+// c times u / 2^k
+fn part(u: u64, c: u64, k: u32) -> u64
+    requires { ⌜ (u < 2 ^ k) × (k ≤ 32) × (c < 2 ^ 32) ⌝ }
+    ensures { λ r. ⌜ r ≤ c ⌝ }
+{
+    u * c >> k
+}
+
+// For n from 2^63 on, mostly the root itself: the mean after a polynomial for the root of 1 - u / 2^32, which is off
+// by at most one part in 400,000. Of this and of `guess` no proof asks more than what they ensure: `whole_root` corrects them.
+fn large_guess(n: u64) -> u64
+    ensures { λ r. ⌜ (n < (r + 1) * (r + 1)) × (r < 2 ^ 32) ⌝ }
+{
+    let u = 4294967295 - n / 4294967296;
+    let v = part(u, u, 32);
+    let low = 2147309209 + part(u, 536074575, 32);
+    let high = part(v, 300397507 + part(v, 407598307, 32), 32);
+    mean(n, 4294967296 - part(low + high, u, 32))
+}
+
+// the same for any n, in units of 2^k, and off by at most one part in 700 before the mean
 fn guess(n: u64) -> u64
     requires { ⌜ 0 < n ⌝ }
     ensures { λ r. ⌜ (n < (r + 1) * (r + 1)) × (r < 2 ^ 32) ⌝ }
 {
     let k = (65 - u64::leading_zeros(n)) / 2;
-    (power(k) + (n >> k)) / 2
+    let p = power(k);
+    let u = p - 1 - (n >> k);
+    let a = part(u, part(u, 1117640239, k), k);
+    mean(n, p - part(2230943838 + a, u, 32))
 }
 
-// the whole part of n's root, from the guess down by means
-fn whole_root(n: u64) -> u64
-    requires { ⌜ 0 < n ⌝ }
+// the whole part of n's root, from a number not below it down by means
+fn whole_root(n: u64, start: u64) -> u64
+    requires { ⌜ (n < (start + 1) * (start + 1)) × (start < 2 ^ 32) ⌝ }
     ensures { λ r. ⌜ r ≡ root n ⌝ }
 {
-    let mut r = guess(n);
+    let mut r = start;
     while n < r * r {
         r = (r + n / r) / 2;
     }
     r
 }
 
-// the root of 1 - x^2 for x in units of 2^-35
+// 1 - x^2 in units of 2^-64, for x in units of 2^-35
+fn rest_of_square(x: u64) -> u64
+    requires { ⌜ x < 2 ^ 35 ⌝ }
+    ensures { λ r. ⌜ (r ≡ 2 ^ 64 - 1 - x * x / 2 ^ 6) × (0 < r) ⌝ }
+{
+    let w = x * 536870912;
+    18446744073709551615 - high_product(w, w)
+}
+
+// the root of 1 - x^2
 fn cosine(x: u64) -> u64
     requires { ⌜ x < 2 ^ 35 ⌝ }
     ensures { λ r. ⌜ r ≡ cosineOf x ⌝ }
 {
-    let w = x * 536870912;
-    8 * whole_root(18446744073709551615 - high_product(w, w))
+    let n = rest_of_square(x);
+    8 * whole_root(n, guess(n))
+}
+
+// the same, quicker where x is at most the root of 1/2
+fn large_cosine(x: u64) -> u64
+    requires { ⌜ x < 2 ^ 35 ⌝ }
+    ensures { λ r. ⌜ r ≡ cosineOf x ⌝ }
+{
+    let n = rest_of_square(x);
+    8 * whole_root(n, large_guess(n))
 }
 
 // the angle with the tangent n / c up to 1
@@ -69,11 +118,11 @@ fn angle_at(x: u64) -> u64
     requires { ⌜ (2 ^ 23 ≤ x) × (x < 2 ^ 35) ⌝ }
     ensures { λ r. ⌜ r ≡ angleAt x ⌝ }
 {
-    let c = cosine(x);
-    if x <= c {
-        return gentle(x, c);
+    // up to this x the sine is not above the cosine
+    if x <= 24296003999 {
+        return gentle(x, large_cosine(x));
     }
-    steep(x, c)
+    steep(x, cosine(x))
 }
 
 // from the bit pattern of x to that of its arc sine

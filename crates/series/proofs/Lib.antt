@@ -17,3 +17,4 @@ pub mod SineSign
 pub mod Bounds
 pub mod Pythagoras
 pub mod Circle
+pub mod Arms

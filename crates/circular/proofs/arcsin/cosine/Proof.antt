@@ -1,38 +1,30 @@
 -- `circular::arcsin::cosine` meets its contract.
-use mathlib.Core.Path.{_≡_, sym, ap, _∙_, subst}
+use mathlib.Core.Path.{_≡_, sym, ap, _∙_}
 use Prim.Native.Nat.{ℕ, _+_, _-_, _*_, _/_, _^_, _<_, _≤_}
 use native.Mathlib.Omega.{arith}
 use borrow.Author.Needs.{needs}
 use Rattle.scalar.specs.Root.{root}
-use Rattle.circular.specs.Asin.{cosineOf}
-use Rattle.circular.proofs.Cosine.{square, under, cosine-is, sq-fits, under-pos, cosine-of}
+use Rattle.circular.proofs.Cosine.{under, cosine-is, cosine-of}
 use Rattle.circular.proofs.arcsin.cosine.Statement.{statement}
 use Rattle.circular.proofs.arcsin.cosine.Tie as tie
 
--- the upper half of the square
-high-is : (c : tie.After-high-product) → c .high-product .result ≡ c .before .args .x * c .before .args .x / 2 ^ 6
-high-is c = c .high-product .ensures ∙ square (c .before .args .x)
+rest-of-square-requires : tie.Need-rest-of-square-requires
+rest-of-square-requires c κs = search needs
 
-mul-w : tie.Need-mul-w
-mul-w c = search needs
-
-high-product-requires : tie.Need-high-product-requires
-high-product-requires c κs = search needs
-
-sub-whole-root : tie.Need-sub-whole-root
-sub-whole-root c = let e = high-is c in let h = sq-fits (c .before .args .x) (c .before .pre) in omega arith
+guess-requires : tie.Need-guess-requires
+guess-requires c κs = c .rest-of-square .ensures .1
 
 whole-root-requires : tie.Need-whole-root-requires
-whole-root-requires c κs = let e = high-is c in let h = sq-fits (c .before .args .x) (c .before .pre) in omega arith
+whole-root-requires c κs = c .guess .ensures
 
-root-at : (c : tie.After-whole-root) → c .whole-root .result ≡ root (under (c .before .before .args .x))
-root-at c = c .whole-root .ensures ∙ ap (λ (y : ℕ). root (2 ^ 64 - 1 - y)) (high-is (c .before))
+root-at : (c : tie.After-whole-root) → c .whole-root .result ≡ root (under (c .before .before .before .args .x))
+root-at c = c .whole-root .ensures ∙ ap root (c .before .before .rest-of-square .ensures .0)
 
 mul-result : tie.Need-mul-result
-mul-result c = let e = root-at c in let h = cosine-of (c .before .before .args .x) (c .before .before .pre) .r-lt in omega arith
+mul-result c = let e = root-at c in let h = cosine-of (c .before .before .before .args .x) (c .before .before .before .pre) .r-lt in omega arith
 
 returns : tie.Need-returns
-returns c = ap (λ (y : ℕ). 8 * y) (root-at c) ∙ sym (cosine-is (c .before .before .args .x))
+returns c = ap (λ (y : ℕ). 8 * y) (root-at c) ∙ sym (cosine-is (c .before .before .before .args .x))
 
 pub cosine-spec : {M : Type 1} → statement M
-cosine-spec = tie.close (tie.spec mul-w high-product-requires sub-whole-root whole-root-requires mul-result returns)
+cosine-spec = tie.close (tie.spec rest-of-square-requires guess-requires whole-root-requires mul-result returns)

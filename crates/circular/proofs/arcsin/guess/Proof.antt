@@ -1,12 +1,11 @@
--- `circular::arcsin::guess` meets its contract: a mean is never below the root, and n / 2 ^ k is below 2 ^ k, since n has at most 2 k bits.
+-- `circular::arcsin::guess` meets its contract: n has at most 2 k bits, so that n / 2 ^ k is below 2 ^ k, and n below g * 2 ^ k.
 use mathlib.Core.Path.{_≡_, sym, subst}
 use Prim.Native.Nat.{ℕ, suc, _+_, _-_, _*_, _/_, _^_, _≤_, _<_}
-use native.Mathlib.Nat.{lt-of-lt-of-le, le-of-eq, div-lt-iff-lt-mul, le-trans}
+use native.Mathlib.Nat.{lt-of-lt-of-le, le-of-eq, div-lt-iff-lt-mul, le-trans, mul-le-mul, lt-suc-self}
 use native.Mathlib.Omega.{arith}
 use lib.Pow.{pow-pos, pow-mono, pow-add}
 use lib.Count.{leadingZeros, leading-top}
 use borrow.Author.Needs.{needs}
-use Rattle.scalar.proofs.MeanStep.{step-not-below}
 use Rattle.circular.proofs.arcsin.guess.Statement.{statement}
 use Rattle.circular.proofs.arcsin.guess.Tie as tie
 
@@ -27,11 +26,17 @@ below c =
 quotient-lt : (c : tie.Start) → c .args .n / 2 ^ k c < 2 ^ k c
 quotient-lt c = div-lt-iff-lt-mul (pow-pos (k c)) .1 (below c)
 
-power-le : (c : tie.Start) → 2 ^ k c ≤ 2 ^ 32
-power-le c = pow-mono (go (leadingZeros 64 (c .args .n)))
+k-le : (c : tie.Start) → k c ≤ 32
+k-le c = go (leadingZeros 64 (c .args .n))
   where
     go : (l : ℕ) → (65 - l) / 2 ≤ 32
     go l = omega arith
+
+power-le : (c : tie.Start) → 2 ^ k c ≤ 2 ^ 32
+power-le c = pow-mono (k-le c)
+
+above : (c : tie.Start) → c .args .n < suc (c .args .n / 2 ^ k c) * 2 ^ k c
+above c = div-lt-iff-lt-mul (pow-pos (k c)) .0 (lt-suc-self (c .args .n / 2 ^ k c))
 
 sub-k : tie.Need-sub-k
 sub-k c = let h = zeros c in omega arith
@@ -39,30 +44,64 @@ sub-k c = let h = zeros c in omega arith
 power-requires : tie.Need-power-requires
 power-requires c κs = search needs
 
-cast-result : tie.Need-cast-result
-cast-result c = search needs
+sub-u : tie.Need-sub-u
+sub-u c = let e = c .power .ensures in let p = pow-pos (k (c .before)) in omega arith
 
-shr-result : tie.Need-shr-result
-shr-result c = search needs
+cast-u : tie.Need-cast-u
+cast-u c = search needs
 
-add-result : tie.Need-add-result
-add-result c =
-    let e = c .power .ensures in
-    let p = power-le (c .before) in
-    let q = quotient-lt (c .before) in
+shr-u : tie.Need-shr-u
+shr-u c = search needs
+
+sub-u-2 : tie.Need-sub-u-2
+sub-u-2 c = let e = c .power .ensures in let q = quotient-lt (c .before) in omega arith
+
+u-lt : (c : tie.After-power) → c .power .result - 1 - c .before .args .n / 2 ^ k (c .before) < 2 ^ k (c .before)
+u-lt c = let e = c .power .ensures in let q = quotient-lt (c .before) in omega arith
+
+part-requires : tie.Need-part-requires
+part-requires c κs = (u-lt c, k-le (c .before), omega arith)
+
+part-requires-2 : tie.Need-part-requires-2
+part-requires-2 c κs = let h = c .part .ensures in (u-lt (c .before), k-le (c .before .before), omega arith)
+
+add-part : tie.Need-add-part
+add-part c = let h = c .part2 .ensures in let g = c .before .part .ensures in omega arith
+
+part-requires-3 : tie.Need-part-requires-3
+part-requires-3 c κs =
+    let h = c .part2 .ensures in
+    let g = c .before .part .ensures in
+    let u = u-lt (c .before .before) in
+    let p = power-le (c .before .before .before) in
+    (omega arith, omega arith, omega arith)
+
+sub-mean : tie.Need-sub-mean
+sub-mean c =
+    let h = c .part3 .ensures in
+    let s = c .before .before .before in
+    let e = s .power .ensures in
+    let q = quotient-lt (s .before) in
     omega arith
 
-returns : tie.Need-returns
-returns c =
-    let n = c .before .args .n in
-    let K = k (c .before) in
-    let p = power-le (c .before) in
-    let q = quotient-lt (c .before) in
-    subst (λ (x : ℕ). (n < ((x + n / 2 ^ K) / 2 + 1) * ((x + n / 2 ^ K) / 2 + 1)) × ((x + n / 2 ^ K) / 2 < 2 ^ 32)) (sym (c .power .ensures))
-    (step-not-below n (2 ^ K) (pow-pos K), half (2 ^ K) (n / 2 ^ K) p q)
+mean-requires : tie.Need-mean-requires
+mean-requires c κs =
+    let h = c .part3 .ensures in
+    let s = c .before .before .before in
+    let e = s .power .ensures in
+    let q = quotient-lt (s .before) in
+    let p = power-le (s .before) in
+    go (s .power .result) (2 ^ k (s .before)) (s .before .args .n / 2 ^ k (s .before)) (c .part3 .result) (s .before .args .n) e q p h (above (s .before))
   where
-    half : (x y : ℕ) → x ≤ 2 ^ 32 → y < x → (x + y) / 2 < 2 ^ 32
-    half x y h g = omega arith
+    go : (P p w r n : ℕ) → P ≡ p → w < p → p ≤ 2 ^ 32 → r ≤ P - 1 - w → n < suc w * p → (0 < P - r) × (P - r ≤ 2 ^ 32) × (n < (P - r) * 2 ^ 32)
+    go P p w r n e q l h a =
+        let g : suc w ≤ P - r = omega arith in
+        let m = mul-le-mul g l in
+        (omega arith, omega arith, lt-of-lt-of-le a m)
+
+returns : tie.Need-returns
+returns c = c .mean .ensures
 
 pub guess-spec : {M : Type 1} → statement M
-guess-spec = tie.close (tie.spec sub-k power-requires cast-result shr-result add-result returns)
+guess-spec =
+    tie.close (tie.spec sub-k power-requires sub-u cast-u shr-u sub-u-2 part-requires part-requires-2 add-part part-requires-3 sub-mean mean-requires returns)

@@ -50,7 +50,7 @@ rest-le : (s : tie.Start) → n s * (i s + 1) - 2 ^ 7 * c s ≤ 2 ^ 26 + n s
 rest-le s = rest-most (n s) (c s) (2 ^ 26) (s .pre .0) (lit< tt) (fine s) (coarse s)
 
 -- the quotient's two sides
-sides : (r y n c : ℕ) → r ≤ 2 ^ 26 + n → y + 2 ^ 7 * n ≤ 129 * (c + n) → c ≤ n → 2 ^ 34 ≤ n → n < 2 ^ 35 → (r ≤ y + 2 ^ 7 * n) × (0 < y + 2 ^ 7 * n) × (y + 2 ^ 7 * n ≤ 2 ^ 44)
+sides : (r y n c : ℕ) → r ≤ 2 ^ 26 + n → y + 2 ^ 7 * n ≤ 129 * (c + n) → c ≤ n → 2 ^ 34 ≤ n → n < 2 ^ 35 → (r < 2 ^ 36) × (2 ^ 41 ≤ y + 2 ^ 7 * n) × (y + 2 ^ 7 * n ≤ 2 ^ 44)
 sides r y n c a b d e f = (omega arith, omega arith, omega arith)
 
 angle-of : (a b : ℕ) → a ≡ b → b ≤ 2 ^ 57 - 2 ^ 50 → a ≤ 2 ^ 57
