@@ -3,7 +3,6 @@ use mathlib.Core.Bool.{Bool, true, false, _&&_}
 use mathlib.Core.List.{List, [], _∷_, _++_}
 use Prim.Native.Nat.{ℕ, _*_, _/_, _%_}
 use lib.Ieee.{Float, nan, inf, fin, up, down}
-use Rattle.io.specs.Digits.{glyph}
 use Rattle.scalar.specs.F32.{_≤f_, _<f_}
 use Rattle.scalar.specs.Literals.{f0, f1000}
 use Rattle.lines.specs.Text.{decimalOf}
@@ -23,7 +22,7 @@ point = 46
 
 -- a number of tenths with its decimal point
 unfoldable pub cutText : ℕ → List ℕ
-cutText tenths = decimalOf (tenths / 10) ++ (point ∷ glyph (tenths % 10) ∷ [])
+cutText tenths = decimalOf (tenths / 10) ++ (point ∷ decimalOf (tenths % 10))
 
 abbrev pub callBy : Bool → Float → List ℕ
 callBy true muf = cutText (tenthsOf muf)

@@ -1,7 +1,7 @@
 -- What `sheet` prints: the lines of `muf` and `call`, then for each slot its number and thirty rows; of a refused file only the refusal.
 use mathlib.Core.List.{List, [], _∷_, _++_}
 use Prim.Native.Nat.{ℕ, zero, suc, _+_}
-use lib.IntN.{ℤ, natAbs}
+use lib.IntN.{ℤ, pos, negsuc}
 use lib.ListN.{getD}
 use lib.Ieee.{Float, binary32, toBits}
 use Rattle.refusal.specs.declared.Outcome.{Outcome}
@@ -31,9 +31,14 @@ slotWord = 115 ∷ 108 ∷ 111 ∷ 116 ∷ space ∷ []
 unfoldable pub mufFields : MufHour → List ℕ
 mufFields h = bitsField (h .emuf) ++ (bitsField (h .f1muf) ++ (bitsField (h .f2muf) ++ (bitsField (h .esmuf) ++ bitsField (h .allmuf))))
 
--- then the mode, 1 to 3, and the controlling slot
+-- the mode as a natural number; it is 1 to 3
+abbrev pub natural : ℤ → ℕ
+natural (pos n) = n
+natural (negsuc n) = 0
+
+-- then the mode and the controlling slot
 unfoldable pub mufLine : MufHour → List ℕ
-mufLine h = mufWord ++ (mufFields h ++ (fieldOf (natAbs (h .modmuf)) ++ (fieldOf (h .ks) ++ (lineFeed ∷ []))))
+mufLine h = mufWord ++ (mufFields h ++ (fieldOf (natural (h .modmuf)) ++ (fieldOf (h .ks) ++ (lineFeed ∷ []))))
 
 unfoldable pub callLine : MufHour → List ℕ
 callLine h = callWord ++ (callField (h .allmuf) ++ (lineFeed ∷ []))

@@ -22,7 +22,7 @@ fn put_tenths(out: &mut [u8], at: usize, tenths: u64) -> usize
 {
     let a = lines::put_decimal(out, at, tenths / 10);
     let b = lines::put_byte(out, a, b'.');
-    lines::put_byte(out, b, b'0' + ((tenths % 10) as u8))
+    lines::put_decimal(out, b, tenths % 10)
 }
 
 // Cut, not rounded, to one decimal.

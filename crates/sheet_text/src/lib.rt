@@ -4,12 +4,11 @@ mod call;
 ghost use Prim.Native.Nat.{ℕ, _+_, _*_, _≤_, _<_};
 ghost use mathlib.Core.Path.{_≡_};
 ghost use lib.ListN.{length};
-ghost use lib.IntN.{natAbs};
 ghost use Rattle.refusal.specs.declared.Outcome.{Outcome};
 ghost use Rattle.io.specs.Counts.{Counts};
 ghost use Rattle.lines.specs.Text.{Put};
 ghost use Rattle.circuit_sheet.specs.CircuitSheet.{sheetOf};
-ghost use Rattle.sheet_text.specs.SheetText.{bitsField, mufFields, mufLine, callLine, rowFields, rowLine, rowLines, slotLine, slotText, slotTexts, answeredText, sheetText};
+ghost use Rattle.sheet_text.specs.SheetText.{bitsField, natural, mufFields, mufLine, callLine, rowFields, rowLine, rowLines, slotLine, slotText, slotTexts, answeredText, sheetText};
 use circuit_sheet::Sheet;
 use ionogram::Ionogram;
 use muf::MufHour;
@@ -35,13 +34,13 @@ fn put_mufs(out: &mut [u8], at: usize, h: MufHour) -> usize
     put_bits(out, d, h.allmuf)
 }
 
-// 1 to 3, so it loses nothing.
+// The mode, which is 1 to 3.
 fn mode(h: MufHour) -> u64
-    ensures { λ r. ⌜ r ≡ natAbs (h .modmuf) ⌝ }
+    ensures { λ r. ⌜ r ≡ natural (h .modmuf) ⌝ }
 {
     let m = h.modmuf;
     if m < 0 {
-        return (-(m as i64)) as u64;
+        return 0;
     }
     m as u64
 }
