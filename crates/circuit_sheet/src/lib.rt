@@ -32,7 +32,11 @@ fn three_at(words: &[u32; 75], i: usize) -> [f32; 3]
     requires { ⌜ i + 2 < 75 ⌝ }
     ensures { λ r. ⌜ r ≡ threeAt (now (words .entry)) i ⌝ }
 {
-    [number_at(words, i), number_at(words, i + 1), number_at(words, i + 2)]
+    [
+        number_at(words, i),
+        number_at(words, i + 1),
+        number_at(words, i + 2),
+    ]
 }
 
 // The layers of the point whose words start at i.

@@ -14,12 +14,12 @@ put-word-requires : tie.Need-put-word-requires
 put-word-requires c κs = search needs
 
 put-cut-requires : tie.Need-put-cut-requires
-put-cut-requires c κs = 
+put-cut-requires c κs =
     let a = after (word callWord) (c .before .before .before .put-word .ensures) in
     omega (arith, a .next, a .same)
 
 put-byte-requires : tie.Need-put-byte-requires
-put-byte-requires c κs = 
+put-byte-requires c κs =
     let a = after (word callWord) (c .before .before .before .before .before .before .before .put-word .ensures) in
     let b = after (length-field _) (c .before .before .before .put-cut .ensures) in
     omega (arith, a .next, a .same, b .next, b .same)

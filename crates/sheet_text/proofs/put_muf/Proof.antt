@@ -14,7 +14,7 @@ put-word-requires : tie.Need-put-word-requires
 put-word-requires c κs = search needs
 
 put-mufs-requires : tie.Need-put-mufs-requires
-put-mufs-requires c κs = 
+put-mufs-requires c κs =
     let a = after (word mufWord) (c .before .before .before .put-word .ensures) in
     omega (arith, a .next, a .same)
 
@@ -22,20 +22,20 @@ mode-requires : tie.Need-mode-requires
 mode-requires c κs = search needs
 
 put-field-requires : tie.Need-put-field-requires
-put-field-requires c κs = 
+put-field-requires c κs =
     let a = after (word mufWord) (c .before .before .before .before .before .before .before .before .put-word .ensures) in
     let b = after (length-mufs _) (c .before .before .before .before .put-mufs .ensures) in
     omega (arith, length-number (c .mode .result) .fits, a .next, a .same, b .next, b .same)
 
 put-field-requires-2 : tie.Need-put-field-requires-2
-put-field-requires-2 c κs = 
+put-field-requires-2 c κs =
     let a = after (word mufWord) (c .before .before .before .before .before .before .before .before .before .before .before .before .put-word .ensures) in
     let b = after (length-mufs _) (c .before .before .before .before .before .before .before .before .put-mufs .ensures) in
     let d = after (length-number _) (c .before .before .before .put-field .ensures) in
     omega (arith, length-number (c .before .before .before .before .before .before .before .before .before .before .before .before .before .before .before .before .args .h .ks) .fits, a .next, a .same, b .next, b .same, d .next, d .same)
 
 put-byte-requires : tie.Need-put-byte-requires
-put-byte-requires c κs = 
+put-byte-requires c κs =
     let a = after (word mufWord) (c .before .before .before .before .before .before .before .before .before .before .before .before .before .before .before .before .put-word .ensures) in
     let b = after (length-mufs _) (c .before .before .before .before .before .before .before .before .before .before .before .before .put-mufs .ensures) in
     let d = after (length-number _) (c .before .before .before .before .before .before .before .put-field .ensures) in

@@ -11,25 +11,25 @@ put-bits-requires : tie.Need-put-bits-requires
 put-bits-requires c κs = search needs
 
 put-bits-requires-2 : tie.Need-put-bits-requires-2
-put-bits-requires-2 c κs = 
+put-bits-requires-2 c κs =
     let a = after (length-bits _) (c .before .before .before .put-bits .ensures) in
     omega (arith, a .next, a .same)
 
 put-bits-requires-3 : tie.Need-put-bits-requires-3
-put-bits-requires-3 c κs = 
+put-bits-requires-3 c κs =
     let a = after (length-bits _) (c .before .before .before .before .before .before .before .put-bits .ensures) in
     let b = after (length-bits _) (c .before .before .before .put-bits2 .ensures) in
     omega (arith, a .next, a .same, b .next, b .same)
 
 put-bits-requires-4 : tie.Need-put-bits-requires-4
-put-bits-requires-4 c κs = 
+put-bits-requires-4 c κs =
     let a = after (length-bits _) (c .before .before .before .before .before .before .before .before .before .before .before .put-bits .ensures) in
     let b = after (length-bits _) (c .before .before .before .before .before .before .before .put-bits2 .ensures) in
     let d = after (length-bits _) (c .before .before .before .put-bits3 .ensures) in
     omega (arith, a .next, a .same, b .next, b .same, d .next, d .same)
 
 put-bits-requires-5 : tie.Need-put-bits-requires-5
-put-bits-requires-5 c κs = 
+put-bits-requires-5 c κs =
     let a = after (length-bits _) (c .before .before .before .before .before .before .before .before .before .before .before .before .before .before .before .put-bits .ensures) in
     let b = after (length-bits _) (c .before .before .before .before .before .before .before .before .before .before .before .put-bits2 .ensures) in
     let d = after (length-bits _) (c .before .before .before .before .before .before .before .put-bits3 .ensures) in

@@ -23,7 +23,7 @@ element-copy-out-put-bits-2 : tie.Need-element-copy-out-put-bits-2
 element-copy-out-put-bits-2 c = search needs
 
 put-bits-requires-2 : tie.Need-put-bits-requires-2
-put-bits-requires-2 c κs = 
+put-bits-requires-2 c κs =
     let a = after (length-bits _) (c .before .before .before .before .put-bits .ensures) in
     omega (arith, a .next, a .same)
 
@@ -34,7 +34,7 @@ element-copy-out-put-bits-3 : tie.Need-element-copy-out-put-bits-3
 element-copy-out-put-bits-3 c = search needs
 
 put-bits-requires-3 : tie.Need-put-bits-requires-3
-put-bits-requires-3 c κs = 
+put-bits-requires-3 c κs =
     let a = after (length-bits _) (c .before .before .before .before .before .before .before .before .before .put-bits .ensures) in
     let b = after (length-bits _) (c .before .before .before .before .put-bits2 .ensures) in
     omega (arith, a .next, a .same, b .next, b .same)
@@ -46,7 +46,7 @@ element-copy-out-put-bits-4 : tie.Need-element-copy-out-put-bits-4
 element-copy-out-put-bits-4 c = search needs
 
 put-bits-requires-4 : tie.Need-put-bits-requires-4
-put-bits-requires-4 c κs = 
+put-bits-requires-4 c κs =
     let a = after (length-bits _) (c .before .before .before .before .before .before .before .before .before .before .before .before .before .before .put-bits .ensures) in
     let b = after (length-bits _) (c .before .before .before .before .before .before .before .before .before .put-bits2 .ensures) in
     let d = after (length-bits _) (c .before .before .before .before .put-bits3 .ensures) in

@@ -15,12 +15,14 @@ put-decimal-requires : tie.Need-put-decimal-requires
 put-decimal-requires c κs = omega (arith, two-digits (c .before .before .args .i + 1) (omega arith) .fits)
 
 put-numbers-requires : tie.Need-put-numbers-requires
-put-numbers-requires c κs = (omega arith, 
-    let a = after (two-digits _ (omega arith)) (c .before .before .before .put-decimal .ensures) in
-    omega (arith, a .next, a .same))
+put-numbers-requires c κs = (
+  omega arith,
+  let a = after (two-digits _ (omega arith)) (c .before .before .before .put-decimal .ensures) in
+      omega (arith, a .next, a .same),
+)
 
 put-byte-requires : tie.Need-put-byte-requires
-put-byte-requires c κs = 
+put-byte-requires c κs =
     let a = after (two-digits _ (omega arith)) (c .before .before .before .before .before .before .before .put-decimal .ensures) in
     let b = after (length-numbers _ _) (c .before .before .before .put-numbers .ensures) in
     omega (arith, a .next, a .same, b .next, b .same)
