@@ -61,6 +61,21 @@ pub length-decimal : (n : ℕ) → length (decimalOf n) ≤ 20
 unfolding decimalOf
 length-decimal n = length-in 20 n
 
+-- a number below 10 ^ k has at most k digits, and one has one
+below-by : (t : Bool) (places k n : ℕ) → ltb n 10 ≡ t → n < 10 ^ suc k → length (decimalIn places n) ≤ suc k
+unfolding decimalIn
+below-by t zero k n e h = omega arith
+below-by true (suc places) k n e h = rw e (omega arith)
+below-by false (suc places) zero n e h = let l = ltb-false n 10 e in absurd (omega arith)
+below-by false (suc places) (suc k) n e h =
+    let p : 10 ^ suc (suc k) ≡ 10 * 10 ^ suc k = pow-succ' 10 (suc k) in
+    let r = below-by (ltb (n / 10) 10) places k (n / 10) refl (omega arith) in
+    rw e (omega (arith, r, length-append (decimalIn places (n / 10)) (glyph (n % 10) ∷ [])))
+
+pub length-below : (k n : ℕ) → n < 10 ^ suc k → length (decimalOf n) ≤ suc k
+unfolding decimalOf
+length-below k n h = below-by (ltb n 10) 20 k n refl h
+
 pub length-refused : (r : Refusal) → length (refusedText r) ≤ 29
 unfolding refusedText
 length-refused r =

@@ -1,0 +1,177 @@
+-- A file that is not turned away has 1 to 5 points, they make at most three slots, and at most 40 angles are scanned. So neither `from_layers` nor `ionset` nor a slot sheet is refused: 5, 6 and 8 are no answer of `sheet`.
+use mathlib.Core.Bool.{Bool, true, false, _&&_}
+use mathlib.Core.Path.{_≡_, refl, sym, ap, _∙_}
+use mathlib.Core.List.{List}
+use Prim.Native.Nat.{ℕ, zero, suc, _+_, _-_, _*_, _≤_, _<_}
+use native.Mathlib.Omega.{arith}
+use borrow.Author.Tests.{le-leb, eqb-false}
+use lib.Dec.{leb, eqb}
+use lib.IntN.{pos}
+use lib.ListN.{getD, length, replicate}
+use lib.Ieee.{Float, binary32, ofBits}
+use Rattle.scalar.specs.F32.{_-f_, _<f_, _>f_, _≥f_}
+use Rattle.scalar.specs.Literals.{f0, f8·5, f10}
+use Rattle.refusal.specs.declared.Outcome.{Outcome}
+use Rattle.circuit.specs.declared.Chain.{Chain}
+use Rattle.circuit.specs.Record.{old}
+use Rattle.circuit.specs.Chain.{chainOf}
+use Rattle.circuit.specs.Read.{readOf, circuitOf, noCircuit}
+use Rattle.circuit.proofs.Followed.{followed, read-answered, read-refused}
+use Rattle.layers.specs.State.{at}
+use Rattle.layers.specs.FromLayers.{countTaken, pointSet, pointsSet, emptyOf, fromLayersBy, fromLayersOf}
+use Rattle.layers.specs.Ionset.{tooClose, f1KeptBy, f1By, f1Settled, f2Settled, slotSettled, slotsSettled, ionsetBy, ionsetOf}
+use Rattle.layers.specs.declared.IonoState.{IonoState}
+use Rattle.layers.specs.declared.LayerParams.{LayerParams}
+use Rattle.layers.specs.declared.LayerMuf.{LayerMuf}
+use Rattle.layers.specs.declared.StateAnswer.{StateAnswer}
+use Rattle.layers.proofs.Counts.{three-at-most}
+use Rattle.muf.specs.declared.MufHour.{MufHour}
+use Rattle.ionogram.specs.Angles.{ANG, NANGX, stepOf, raisedBy, raisedFrom, countBy, countOf, scanBy, sangOf}
+use Rattle.ionogram.specs.Fobby.{roomFor}
+use Rattle.ionogram.specs.declared.Scan.{Scan}
+use Rattle.ionogram.proofs.Counts.{step-range, nangx-range}
+use Rattle.hour.specs.Sheet.{slotSheetOf}
+use Rattle.circuit_sheet.specs.CircuitSheet.{Circuit, paramsOf, shapedOf, slotsOf, mufOf, refusedOf, answeredOf, mufThen, scannedOf, scanThen, circuitSheetOf, readThen, sheetOf}
+use Rattle.circuit_sheet.specs.declared.Sheet.{Sheet}
+
+-- ---- points
+
+most-by : (f : List ℕ) (k : Chain) → k ≡ chainOf old f → (o : Outcome) → k .outcome ≡ o → readOf old f .circuit .km ≤ 5
+unfolding circuitOf noCircuit
+most-by f k e Outcome.Answered a =
+    let h = followed f (ap (λ (c : Chain). c .outcome) (sym e) ∙ a) .head in
+    rw (read-answered f k e a) (h .most)
+most-by f k e (Outcome.Refused r) a = rw (read-refused f k e r a) (omega arith)
+
+pub points-most : (f : List ℕ) → readOf old f .circuit .km ≤ 5
+points-most f = most-by f (chainOf old f) refl (chainOf old f .outcome) refl
+
+-- ---- slots
+
+kept-kfx : (b : Bool) (s : IonoState) (k : ℕ) → f1KeptBy b s k .kfx ≡ s .kfx
+kept-kfx true s k = refl
+kept-kfx false s k = refl
+
+f1-kfx : (b : Bool) (s : IonoState) (k : ℕ) → f1By b s k .kfx ≡ s .kfx
+f1-kfx true s k = kept-kfx (tooClose (at (s .fi) (3 * k)) (at (s .fi) (3 * k + 1)) (at (s .fi) (3 * k + 2))) s k
+f1-kfx false s k = refl
+
+settled-kfx : (s : IonoState) (n : ℕ) → slotsSettled s n .kfx ≡ s .kfx
+unfolding slotsSettled slotSettled f1Settled f2Settled
+settled-kfx s zero = refl
+settled-kfx s (suc n) = let t = slotsSettled s n in f1-kfx (at (t .fi) (3 * n + 1) >f f0) t n ∙ settled-kfx s n
+
+set-by : (b : Bool) (s : IonoState) → s .kfx ≤ 3 → ionsetBy b s .state .kfx ≤ 3
+set-by true s h = rw (settled-kfx _ _) (three-at-most s)
+set-by false s h = h
+
+points-kfx : (s : IonoState) (params : List LayerParams) (n : ℕ) → pointsSet s params n .kfx ≡ s .kfx
+unfolding pointsSet pointSet
+points-kfx s params zero = refl
+points-kfx s params (suc n) = points-kfx s params n
+
+from-by : (b : Bool) (params : List LayerParams) (n : ℕ) → fromLayersBy b params n .state .kfx ≤ 3
+unfolding emptyOf
+from-by true params n = rw (points-kfx (emptyOf n) params n) (omega arith)
+from-by false params n = omega arith
+
+pub slots-most : (c : Circuit) → slotsOf c .kfx ≤ 3
+unfolding slotsOf ionsetOf shapedOf fromLayersOf
+slots-most c =
+    let s = fromLayersOf (paramsOf (c .points)) (c .km) .state in
+    set-by (countTaken (s .km)) (shapedOf s (c .shape)) (from-by (countTaken (c .km)) (paramsOf (c .points)) (c .km))
+
+muf-then : (o : Outcome) (s : IonoState) (nang : ℕ) (h : MufHour) → s .kfx ≤ 3 → mufThen o s nang h .slots ≤ 3
+unfolding answeredOf refusedOf
+muf-then Outcome.Answered s nang h l = l
+muf-then (Outcome.Refused r) s nang h l = omega arith
+
+scan-then : (x : Scan) (c : Circuit) → scanThen x c .slots ≤ 3
+unfolding scannedOf refusedOf
+scan-then (Scan.Angles nang) c = let s = slotsOf c in muf-then (mufOf c s .outcome) s nang (mufOf c s .hour) (slots-most c)
+scan-then (Scan.Refused r) c = omega arith
+
+read-then : (o : Outcome) (c : Circuit) → readThen o c .slots ≤ 3
+unfolding circuitSheetOf refusedOf
+read-then Outcome.Answered c = scan-then (sangOf (ofBits binary32 (c .gcdkm)) (ofBits binary32 (c .amind))) c
+read-then (Outcome.Refused r) c = omega arith
+
+pub three-slots : (f : List ℕ) → sheetOf f .slots ≤ 3
+unfolding sheetOf
+three-slots f = let a = readOf old f in read-then (a .outcome) (a .circuit)
+
+-- ---- angles
+
+raised-by : (b : Bool) (x y : ℕ) → x ≤ 40 → y ≤ 40 → raisedBy b x y ≤ 40
+raised-by true x y p q = p
+raised-by false x y p q = q
+
+raised-most : (amind : Float) (n i : ℕ) → i + n ≤ 40 → raisedFrom amind n i ≤ 40
+unfolding raisedFrom
+raised-most amind zero i h = omega arith
+raised-most amind (suc n) i h =
+    raised-by (at ANG i -f f8·5 -f amind ≥f f0) (i + 1) (raisedFrom amind n (i + 1)) (omega arith) (raised-most amind n (i + 1) (omega arith))
+
+count-by : (p q : Bool) (amind : Float) (i : ℕ) → i ≤ 40 → countBy p q amind i ≤ 40
+count-by true true amind i h = raised-most amind 40 0 (omega arith)
+count-by true false amind i h = h
+count-by false q amind i h = h
+
+abbrev Few : Scan → Type 0
+Few (Scan.Angles nang) = nang ≤ 40
+Few (Scan.Refused r) = Unit {0}
+
+scan-by : (b : Bool) (amind : Float) (id : ℕ) → eqb id 0 ≡ b → id ≤ 8 → Few (scanBy b amind id)
+unfolding countOf
+scan-by true amind id e h = tt
+scan-by false amind id e h =
+    let n : (id ≡ 0) → ⊥ = eqb-false id 0 e in
+    let i = getD NANGX (id - 1) 0 in
+    count-by (amind >f f0) (at ANG (i - 1) -f f10 -f amind <f f0) amind i (nangx-range (id - 1) (omega arith) .1)
+
+few : (gcdkm amind : Float) → Few (sangOf gcdkm amind)
+unfolding sangOf
+few gcdkm amind = scan-by (eqb (stepOf gcdkm) 0) amind (stepOf gcdkm) refl (step-range gcdkm)
+
+pub angles-most : (gcdkm amind : Float) (nang : ℕ) → sangOf gcdkm amind ≡ Scan.Angles nang → nang ≤ 40
+angles-most gcdkm amind nang e = rw e at (few gcdkm amind)
+
+-- ---- so nothing is refused but by the file, `sang` and the MUF
+
+some-by : (f : List ℕ) (k : Chain) → k ≡ chainOf old f → (o : Outcome) → k .outcome ≡ o → readOf old f .outcome ≡ Outcome.Answered → countTaken (readOf old f .circuit .km) ≡ true
+unfolding circuitOf countTaken
+some-by f k e Outcome.Answered a q =
+    let h = followed f (ap (λ (c : Chain). c .outcome) (sym e) ∙ a) .head in
+    rw (read-answered f k e a, le-leb _ _ (h .some), le-leb _ _ (h .most))
+some-by f k e (Outcome.Refused r) a q =
+    let n : Outcome.Refused r ≡ Outcome.Answered = rw (read-refused f k e r a) at q in
+    let z : _≡_ {A = ℕ} 0 1 = cc in
+    absurd (omega arith)
+
+points-km : (s : IonoState) (params : List LayerParams) (n : ℕ) → pointsSet s params n .km ≡ s .km
+unfolding pointsSet pointSet
+points-km s params zero = refl
+points-km s params (suc n) = points-km s params n
+
+module _ (f : List ℕ) (answered : readOf old f .outcome ≡ Outcome.Answered) where
+  abbrev circuit : Circuit
+  circuit = readOf old f .circuit
+
+  abbrev made : StateAnswer
+  made = fromLayersOf (paramsOf (circuit .points)) (circuit .km)
+
+  taken : countTaken (circuit .km) ≡ true
+  taken = some-by f (chainOf old f) refl (chainOf old f .outcome) refl answered
+
+  pub made-answered : made .outcome ≡ Outcome.Answered
+  unfolding fromLayersOf
+  made-answered = rw taken
+
+  pub set-answered : ionsetOf (shapedOf (made .state) (circuit .shape)) .outcome ≡ Outcome.Answered
+  unfolding ionsetOf shapedOf fromLayersOf emptyOf
+  set-answered = rw (taken, points-km (emptyOf (circuit .km)) (paramsOf (circuit .points)) (circuit .km), taken)
+
+pub sheet-answered : (s : IonoState) (k nang : ℕ) (lines : List LayerMuf) → k ≤ 2 → nang ≤ 40
+    → slotSheetOf s k nang lines (replicate 1200 (pos 0)) .outcome ≡ Outcome.Answered
+unfolding slotSheetOf roomFor
+sheet-answered s k nang lines h n = rw (le-leb k 2 h, le-leb nang 40 n, le-leb (30 * nang) 1200 (omega arith))

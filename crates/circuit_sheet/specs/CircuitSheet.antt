@@ -1,0 +1,131 @@
+-- The sheet of a circuit file. MUF and slot sheets each start from the slots as `ionset` left them, over the state that `from_layers` makes of the points. Document 01: 1 to 4 for the file, then 7, then the MUF's refusals.
+use mathlib.Core.Bool.{Bool, true, false}
+use mathlib.Core.List.{List, [], _∷_, map}
+use Prim.Native.Nat.{ℕ, _+_, _*_}
+use lib.Dec.{eqb, ltb}
+use lib.IntN.{ℤ, pos, negsuc}
+use lib.ListN.{getD, take, replicate}
+use lib.Ieee.{Float, binary32, ofBits}
+use Rattle.refusal.specs.declared.Refusal.{Refusal}
+use Rattle.refusal.specs.declared.Outcome.{Outcome}
+use Rattle.circuit.specs.Record.{old}
+use Rattle.circuit.specs.Read.{readOf}
+use Rattle.circuit.specs.declared.Circuit as file
+use Rattle.layers.specs.State.{zeroState, withIedp}
+use Rattle.layers.specs.FromLayers.{fromLayersOf}
+use Rattle.layers.specs.Ionset.{ionsetOf}
+use Rattle.layers.specs.declared.IonoState.{IonoState}
+use Rattle.layers.specs.declared.LayerParams.{LayerParams}
+use Rattle.layers.specs.declared.LayerMuf.{LayerMuf}
+use Rattle.layer_mufs.specs.declared.Circuit as path
+use Rattle.muf.specs.Hour.{zeroHour}
+use Rattle.muf.specs.Curmuf.{curmufOf}
+use Rattle.muf.specs.declared.MufHour.{MufHour}
+use Rattle.muf.specs.declared.MufAnswer.{MufAnswer}
+use Rattle.ionogram.specs.Angles.{sangOf}
+use Rattle.ionogram.specs.declared.Scan.{Scan}
+use Rattle.ionogram.specs.declared.Ionogram.{Ionogram}
+use Rattle.sounding.specs.Genion.{noRows}
+use Rattle.hour.specs.Sheet.{slotSheetOf}
+use Rattle.circuit_sheet.specs.declared.Sheet.{Sheet}
+
+abbrev pub Circuit : Type 0
+Circuit = file.Circuit
+
+-- the number whose bits are word i of the points, fifteen words a point: fi, yi, hi, Es fs, hs, clat, clck
+unfoldable pub numberAt : List ℕ → ℕ → Float
+numberAt words i = ofBits binary32 (getD words i 0)
+
+unfoldable pub threeAt : List ℕ → ℕ → List Float
+threeAt words i = numberAt words i ∷ numberAt words (i + 1) ∷ numberAt words (i + 2) ∷ []
+
+-- a point's layers, from its word 0 on
+unfoldable pub layersAt : List ℕ → ℕ → LayerParams
+layersAt words i = record { fi = threeAt words i; yi = threeAt words (i + 3); hi = threeAt words (i + 6) }
+
+unfoldable pub paramsOf : List ℕ → List LayerParams
+paramsOf words = map (layersAt words) (0 ∷ 15 ∷ 30 ∷ 45 ∷ 60 ∷ [])
+
+-- of each point Es fs and hs
+unfoldable pub esOf : List ℕ → List Float
+esOf words =
+    map (numberAt words)
+    (9 ∷ 10 ∷ 11 ∷ 12 ∷ 24 ∷ 25 ∷ 26 ∷ 27 ∷ 39 ∷ 40 ∷ 41 ∷ 42 ∷ 54 ∷ 55 ∷ 56 ∷ 57 ∷ 69 ∷ 70 ∷ 71 ∷ 72 ∷ [])
+
+-- of each point clat (word 13) or clck (word 14)
+unfoldable pub columnOf : List ℕ → ℕ → List Float
+columnOf words j =
+    numberAt words j ∷ numberAt words (j + 15) ∷ numberAt words (j + 30) ∷ numberAt words (j + 45) ∷ numberAt words (j + 60) ∷ []
+
+-- shape 0: `iedp` -1; 1: `iedp` 0
+abbrev pub iedpBy : Bool → ℤ
+iedpBy true = negsuc 0
+iedpBy false = pos 0
+
+unfoldable pub shapedOf : IonoState → ℕ → IonoState
+shapedOf s shape = withIedp s (iedpBy (eqb shape 0))
+
+-- The slots as `ionset` leaves them. `from_layers` leaves `ielect` unset; neither refuses, since a circuit has 1 to 5 points.
+unfoldable pub slotsOf : Circuit → IonoState
+slotsOf c =
+    let s = fromLayersOf (paramsOf (c .points)) (c .km) .state in
+    ionsetOf (shapedOf s (c .shape)) .state
+
+unfoldable pub pathOf : Circuit → path.Circuit
+pathOf c =
+    record { gcd = ofBits binary32 (c .gcd); gcdkm = ofBits binary32 (c .gcdkm); amind = ofBits binary32 (c .amind); ssn = ofBits binary32 (c .ssn) }
+
+-- km rows of Es, km numbers of clat and of clck, in point order
+unfoldable pub mufOf : Circuit → IonoState → MufAnswer
+mufOf c s =
+    curmufOf s
+    (take (4 * c .km) (esOf (c .points)))
+    (map (ofBits binary32) (c .deciles))
+    (take (c .km) (columnOf (c .points) 13))
+    (take (c .km) (columnOf (c .points) 14))
+    (pathOf c)
+
+-- The rows of a slot below kfx; each sheet has its own cells, thirty for each of 40 angles, so that none is refused.
+abbrev pub rowsBy : Bool → IonoState → ℕ → ℕ → List LayerMuf → Ionogram
+rowsBy true s k nang lines = slotSheetOf s k nang lines (replicate 1200 (pos 0)) .ion
+rowsBy false s k nang lines = noRows
+
+unfoldable pub rowsOf : IonoState → ℕ → ℕ → List LayerMuf → Ionogram
+rowsOf s k nang lines = rowsBy (ltb k (s .kfx)) s k nang lines
+
+unfoldable pub refusedOf : Refusal → Sheet
+refusedOf r = record { outcome = Outcome.Refused r; hour = zeroHour; slots = 0; rows = noRows ∷ noRows ∷ noRows ∷ [] }
+
+-- every sheet is given the MUF's four lines, and the state that `ionset` left, not the MUF's
+unfoldable pub answeredOf : IonoState → ℕ → MufHour → Sheet
+answeredOf s nang h =
+    record {
+      outcome = Outcome.Answered;
+      hour = h;
+      slots = s .kfx;
+      rows = rowsOf s 0 nang (h .layers) ∷ rowsOf s 1 nang (h .layers) ∷ rowsOf s 2 nang (h .layers) ∷ [];
+    }
+
+abbrev pub mufThen : Outcome → IonoState → ℕ → MufHour → Sheet
+mufThen Outcome.Answered s nang h = answeredOf s nang h
+mufThen (Outcome.Refused r) s nang h = refusedOf r
+
+unfoldable pub scannedOf : Circuit → ℕ → Sheet
+scannedOf c nang =
+    let s = slotsOf c in
+    let m = mufOf c s in
+    mufThen (m .outcome) s nang (m .hour)
+
+abbrev pub scanThen : Scan → Circuit → Sheet
+scanThen (Scan.Angles nang) c = scannedOf c nang
+scanThen (Scan.Refused r) c = refusedOf r
+
+unfoldable pub circuitSheetOf : Circuit → Sheet
+circuitSheetOf c = scanThen (sangOf (ofBits binary32 (c .gcdkm)) (ofBits binary32 (c .amind))) c
+
+abbrev pub readThen : Outcome → Circuit → Sheet
+readThen Outcome.Answered c = circuitSheetOf c
+readThen (Outcome.Refused r) c = refusedOf r
+
+unfoldable pub sheetOf : List ℕ → Sheet
+sheetOf f = let a = readOf old f in readThen (a .outcome) (a .circuit)

@@ -1,0 +1,246 @@
+// The sheet of a circuit file: the hour's MUF, and the thirty rows of each slot.
+ghost use mathlib.Core.Path.{_≡_};
+ghost use Prim.Native.Nat.{_+_, _<_, _≤_};
+ghost use Rattle.circuit_sheet.specs.CircuitSheet.{numberAt, threeAt, layersAt, paramsOf, esOf, columnOf, shapedOf, slotsOf, pathOf, mufOf, rowsOf, refusedOf, answeredOf, scannedOf, circuitSheetOf, sheetOf};
+ghost use Rattle.sounding.specs.Genion.{noRows};
+use ionogram::Ionogram;
+use ionogram::Scan;
+use layers::IonoState;
+use layers::LayerMuf;
+use layers::LayerParams;
+use muf::MufAnswer;
+use muf::MufHour;
+use refusal::Outcome;
+use refusal::Refusal;
+
+// Beside a refusal there is no slot, and every number is +0; so are the rows of a slot that is not there.
+pub struct Sheet {
+    pub outcome: Outcome,
+    pub hour: MufHour,
+    pub slots: usize,
+    pub rows: [Ionogram; 3],
+}
+
+fn number_at(words: &[u32; 75], i: usize) -> f32
+    requires { ⌜ i < 75 ⌝ }
+    ensures { λ r. ⌜ r ≡ numberAt (now (words .entry)) i ⌝ }
+{
+    scalar::number(words[i])
+}
+
+fn three_at(words: &[u32; 75], i: usize) -> [f32; 3]
+    requires { ⌜ i + 2 < 75 ⌝ }
+    ensures { λ r. ⌜ r ≡ threeAt (now (words .entry)) i ⌝ }
+{
+    [
+        number_at(words, i),
+        number_at(words, i + 1),
+        number_at(words, i + 2),
+    ]
+}
+
+// The layers of the point whose words start at i.
+fn layers_at(words: &[u32; 75], i: usize) -> LayerParams
+    requires { ⌜ i + 8 < 75 ⌝ }
+    ensures { λ r. ⌜ r ≡ layersAt (now (words .entry)) i ⌝ }
+{
+    let fi = three_at(words, i);
+    let yi = three_at(words, i + 3);
+    let hi = three_at(words, i + 6);
+    LayerParams { fi, yi, hi }
+}
+
+fn params(words: &[u32; 75]) -> [LayerParams; 5]
+    ensures { λ r. ⌜ r ≡ paramsOf (now (words .entry)) ⌝ }
+{
+    let p0 = layers_at(words, 0);
+    let p1 = layers_at(words, 15);
+    let p2 = layers_at(words, 30);
+    let p3 = layers_at(words, 45);
+    let p4 = layers_at(words, 60);
+    [p0, p1, p2, p3, p4]
+}
+
+fn es_rows(words: &[u32; 75]) -> [f32; 20]
+    ensures { λ r. ⌜ r ≡ esOf (now (words .entry)) ⌝ }
+{
+    [
+        number_at(words, 9),
+        number_at(words, 10),
+        number_at(words, 11),
+        number_at(words, 12),
+        number_at(words, 24),
+        number_at(words, 25),
+        number_at(words, 26),
+        number_at(words, 27),
+        number_at(words, 39),
+        number_at(words, 40),
+        number_at(words, 41),
+        number_at(words, 42),
+        number_at(words, 54),
+        number_at(words, 55),
+        number_at(words, 56),
+        number_at(words, 57),
+        number_at(words, 69),
+        number_at(words, 70),
+        number_at(words, 71),
+        number_at(words, 72),
+    ]
+}
+
+// Word j of each point.
+fn column(words: &[u32; 75], j: usize) -> [f32; 5]
+    requires { ⌜ j < 15 ⌝ }
+    ensures { λ r. ⌜ r ≡ columnOf (now (words .entry)) j ⌝ }
+{
+    [
+        number_at(words, j),
+        number_at(words, j + 15),
+        number_at(words, j + 30),
+        number_at(words, j + 45),
+        number_at(words, j + 60),
+    ]
+}
+
+fn shaped(s: IonoState, shape: usize) -> IonoState
+    ensures { λ r. ⌜ r ≡ shapedOf s shape ⌝ }
+{
+    if shape == 0 {
+        return layers::with_iedp(s, -1);
+    }
+    layers::with_iedp(s, 0)
+}
+
+// The slots as `ionset` leaves them.
+fn slots(c: circuit::Circuit) -> IonoState
+    ensures { λ r. ⌜ r ≡ slotsOf c ⌝ }
+{
+    let words = c.points;
+    let points = params(&words);
+    let made = layers::from_layers(points, c.km);
+    let s = made.state;
+    let s = shaped(s, c.shape);
+    let set = layers::ionset(s);
+    set.state
+}
+
+fn path(c: circuit::Circuit) -> layer_mufs::Circuit
+    ensures { λ r. ⌜ r ≡ pathOf c ⌝ }
+{
+    layer_mufs::Circuit {
+        gcd: scalar::number(c.gcd),
+        gcdkm: scalar::number(c.gcdkm),
+        amind: scalar::number(c.amind),
+        ssn: scalar::number(c.ssn),
+    }
+}
+
+fn circuit_muf(c: circuit::Circuit, s: IonoState) -> MufAnswer
+    requires { ⌜ c .km ≤ 5 ⌝ }
+    ensures { λ r. ⌜ r ≡ mufOf c s ⌝ }
+{
+    let words = c.points;
+    let mut es = es_rows(&words);
+    let clat = column(&words, 13);
+    let clck = column(&words, 14);
+    let f2d = circuit::decile_table(c);
+    let path = path(c);
+    let km = c.km;
+    let numbers = 4 * km;
+    muf::curmuf(s, &mut es[..numbers], &f2d, &clat[..km], &clck[..km], path)
+}
+
+fn no_rows() -> Ionogram
+    ensures { λ r. ⌜ r ≡ noRows ⌝ }
+{
+    Ionogram {
+        fvert: [0.0; 30],
+        hprim: [0.0; 30],
+        htrue: [0.0; 30],
+        afac: [0.0; 30],
+    }
+}
+
+// The rows of slot k, with cells of its own.
+fn slot_rows(s: IonoState, k: usize, nang: usize, lines: [LayerMuf; 4]) -> Ionogram
+    ensures { λ r. ⌜ r ≡ rowsOf s k nang lines ⌝ }
+{
+    if k < s.kfx {
+        let mut cells = [0i32; 1200];
+        let a = hour::slot_sheet(s, k, nang, lines, &mut cells);
+        return a.ion;
+    }
+    no_rows()
+}
+
+fn refused(r: Refusal) -> Sheet
+    ensures { λ x. ⌜ x ≡ refusedOf r ⌝ }
+{
+    let m = muf::refused(layers::zero_state(), r);
+    let hour = m.hour;
+    let none = no_rows();
+    Sheet {
+        outcome: Outcome::Refused(r),
+        hour,
+        slots: 0,
+        rows: [none, none, none],
+    }
+}
+
+fn answered(s: IonoState, nang: usize, hour: MufHour) -> Sheet
+    ensures { λ r. ⌜ r ≡ answeredOf s nang hour ⌝ }
+{
+    let lines = hour.layers;
+    let rows = [
+        slot_rows(s, 0, nang, lines),
+        slot_rows(s, 1, nang, lines),
+        slot_rows(s, 2, nang, lines),
+    ];
+    Sheet {
+        outcome: Outcome::Answered,
+        hour,
+        slots: s.kfx,
+        rows,
+    }
+}
+
+// Once the angles are counted.
+fn scanned(c: circuit::Circuit, nang: usize) -> Sheet
+    requires { ⌜ c .km ≤ 5 ⌝ }
+    ensures { λ r. ⌜ r ≡ scannedOf c nang ⌝ }
+{
+    let s = slots(c);
+    let m = circuit_muf(c, s);
+    let outcome = m.outcome;
+    let hour = m.hour;
+    match outcome {
+        Outcome::Answered => answered(s, nang, hour),
+        Outcome::Refused(r) => refused(r),
+    }
+}
+
+fn of_circuit(c: circuit::Circuit) -> Sheet
+    requires { ⌜ c .km ≤ 5 ⌝ }
+    ensures { λ r. ⌜ r ≡ circuitSheetOf c ⌝ }
+{
+    let gcdkm = scalar::number(c.gcdkm);
+    let amind = scalar::number(c.amind);
+    let scan = ionogram::sang(gcdkm, amind);
+    match scan {
+        Scan::Angles(nang) => scanned(c, nang),
+        Scan::Refused(r) => refused(r),
+    }
+}
+
+// The sheet of a file, or where it is turned away.
+pub fn of_file(file: &[u8]) -> Sheet
+    ensures { λ r. ⌜ r ≡ sheetOf (now (file .entry)) ⌝ }
+{
+    let a = circuit::read(file);
+    let outcome = a.outcome;
+    let c = a.circuit;
+    match outcome {
+        Outcome::Answered => of_circuit(c),
+        Outcome::Refused(r) => refused(r),
+    }
+}

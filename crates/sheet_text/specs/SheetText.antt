@@ -1,0 +1,81 @@
+-- What `sheet` prints: the lines of `muf` and `call`, then for each slot its number and thirty rows; of a refused file only the refusal.
+use mathlib.Core.List.{List, [], _∷_, _++_}
+use Prim.Native.Nat.{ℕ, zero, suc, _+_}
+use lib.IntN.{ℤ, pos, negsuc}
+use lib.ListN.{getD}
+use lib.Ieee.{Float, binary32, toBits}
+use Rattle.refusal.specs.declared.Outcome.{Outcome}
+use Rattle.lines.specs.Text.{space, lineFeed, decimalOf, hexOf, fieldOf, refusedText}
+use Rattle.layers.specs.State.{at}
+use Rattle.muf.specs.declared.MufHour.{MufHour}
+use Rattle.ionogram.specs.declared.Ionogram.{Ionogram}
+use Rattle.circuit_sheet.specs.declared.Sheet.{Sheet}
+use Rattle.circuit_sheet.specs.CircuitSheet.{sheetOf}
+use Rattle.sheet_text.specs.Call.{callField}
+
+-- one space, then the eight digits of a number's bits; those of NaN are 7fc00000
+unfoldable pub bitsField : Float → List ℕ
+bitsField x = space ∷ hexOf (toBits binary32 x)
+
+-- `muf`, `call ` and `slot ` in ASCII
+abbrev pub mufWord : List ℕ
+mufWord = 109 ∷ 117 ∷ 102 ∷ []
+
+abbrev pub callWord : List ℕ
+callWord = 99 ∷ 97 ∷ 108 ∷ 108 ∷ space ∷ []
+
+abbrev pub slotWord : List ℕ
+slotWord = 115 ∷ 108 ∷ 111 ∷ 116 ∷ space ∷ []
+
+-- E, F1, F2, Es and circuit MUF
+unfoldable pub mufFields : MufHour → List ℕ
+mufFields h = bitsField (h .emuf) ++ (bitsField (h .f1muf) ++ (bitsField (h .f2muf) ++ (bitsField (h .esmuf) ++ bitsField (h .allmuf))))
+
+-- the mode as a natural number; it is 1 to 3
+abbrev pub natural : ℤ → ℕ
+natural (pos n) = n
+natural (negsuc n) = 0
+
+-- then the mode and the controlling slot
+unfoldable pub mufLine : MufHour → List ℕ
+mufLine h = mufWord ++ (mufFields h ++ (fieldOf (natural (h .modmuf)) ++ (fieldOf (h .ks) ++ (lineFeed ∷ []))))
+
+unfoldable pub callLine : MufHour → List ℕ
+callLine h = callWord ++ (callField (h .allmuf) ++ (lineFeed ∷ []))
+
+-- row i, numbered from 1: fvert, htrue, hprim, afac
+unfoldable pub rowFields : Ionogram → ℕ → List ℕ
+rowFields ion i = bitsField (at (ion .fvert) i) ++ (bitsField (at (ion .htrue) i) ++ (bitsField (at (ion .hprim) i) ++ bitsField (at (ion .afac) i)))
+
+unfoldable pub rowLine : Ionogram → ℕ → List ℕ
+rowLine ion i = decimalOf (i + 1) ++ (rowFields ion i ++ (lineFeed ∷ []))
+
+-- the first rows
+unfoldable pub rowLines : Ionogram → ℕ → List ℕ
+rowLines ion zero = []
+rowLines ion (suc i) = rowLines ion i ++ rowLine ion i
+
+unfoldable pub slotLine : ℕ → List ℕ
+slotLine k = slotWord ++ (decimalOf k ++ (lineFeed ∷ []))
+
+unfoldable pub slotText : Ionogram → ℕ → List ℕ
+slotText ion k = slotLine k ++ rowLines ion 30
+
+-- past the end, where no code reads
+abbrev pub noIonogram : Ionogram
+noIonogram = record { fvert = []; hprim = []; htrue = []; afac = [] }
+
+-- the first slots
+unfoldable pub slotTexts : List Ionogram → ℕ → List ℕ
+slotTexts rows zero = []
+slotTexts rows (suc k) = slotTexts rows k ++ slotText (getD rows k noIonogram) k
+
+unfoldable pub answeredText : Sheet → List ℕ
+answeredText s = mufLine (s .hour) ++ (callLine (s .hour) ++ slotTexts (s .rows) (s .slots))
+
+abbrev pub textBy : Outcome → Sheet → List ℕ
+textBy Outcome.Answered s = answeredText s
+textBy (Outcome.Refused r) s = refusedText r
+
+unfoldable pub sheetText : List ℕ → List ℕ
+sheetText f = let s = sheetOf f in textBy (s .outcome) s

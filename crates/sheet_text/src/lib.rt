@@ -1,0 +1,144 @@
+// What `sheet` prints of a circuit file, as bytes.
+mod call;
+
+ghost use Prim.Native.Nat.{ℕ, _+_, _*_, _≤_, _<_};
+ghost use mathlib.Core.Path.{_≡_};
+ghost use lib.ListN.{length};
+ghost use Rattle.refusal.specs.declared.Outcome.{Outcome};
+ghost use Rattle.io.specs.Counts.{Counts};
+ghost use Rattle.lines.specs.Text.{Put};
+ghost use Rattle.circuit_sheet.specs.CircuitSheet.{sheetOf};
+ghost use Rattle.sheet_text.specs.SheetText.{bitsField, natural, mufFields, mufLine, callLine, rowFields, rowLine, rowLines, slotLine, slotText, slotTexts, answeredText, sheetText};
+use circuit_sheet::Sheet;
+use ionogram::Ionogram;
+use muf::MufHour;
+use refusal::Outcome;
+
+// A field after another: one space, then the digits of the number's bits.
+fn put_bits(out: &mut [u8], at: usize, x: f32) -> usize
+    requires { ⌜ at + 9 ≤ length (now out) ⌝ }
+    ensures { λ e. ⌜ Put (bitsField x) (now (out .entry)) at (now (out .exit)) e ⌝ }
+{
+    let a = lines::put_byte(out, at, b' ');
+    lines::put_hex(out, a, scalar::bits(x))
+}
+
+fn put_mufs(out: &mut [u8], at: usize, h: MufHour) -> usize
+    requires { ⌜ at + 45 ≤ length (now out) ⌝ }
+    ensures { λ e. ⌜ Put (mufFields h) (now (out .entry)) at (now (out .exit)) e ⌝ }
+{
+    let a = put_bits(out, at, h.emuf);
+    let b = put_bits(out, a, h.f1muf);
+    let c = put_bits(out, b, h.f2muf);
+    let d = put_bits(out, c, h.esmuf);
+    put_bits(out, d, h.allmuf)
+}
+
+// The mode, which is 1 to 3.
+fn mode(h: MufHour) -> u64
+    ensures { λ r. ⌜ r ≡ natural (h .modmuf) ⌝ }
+{
+    let m = h.modmuf;
+    if m < 0 {
+        return 0;
+    }
+    m as u64
+}
+
+fn put_muf(out: &mut [u8], at: usize, h: MufHour) -> usize
+    requires { ⌜ at + 91 ≤ length (now out) ⌝ }
+    ensures { λ e. ⌜ Put (mufLine h) (now (out .entry)) at (now (out .exit)) e ⌝ }
+{
+    let a = lines::put_word(out, at, b"muf");
+    let b = put_mufs(out, a, h);
+    let c = lines::put_field(out, b, mode(h));
+    let d = lines::put_field(out, c, h.ks as u64);
+    lines::put_byte(out, d, b'\n')
+}
+
+fn put_call(out: &mut [u8], at: usize, h: MufHour) -> usize
+    requires { ⌜ at + 28 ≤ length (now out) ⌝ }
+    ensures { λ e. ⌜ Put (callLine h) (now (out .entry)) at (now (out .exit)) e ⌝ }
+{
+    let a = lines::put_word(out, at, b"call ");
+    let b = call::put_cut(out, a, h.allmuf);
+    lines::put_byte(out, b, b'\n')
+}
+
+fn put_numbers(out: &mut [u8], at: usize, ion: Ionogram, i: usize) -> usize
+    requires { ⌜ (i < 30) × (at + 36 ≤ length (now out)) ⌝ }
+    ensures { λ e. ⌜ Put (rowFields ion i) (now (out .entry)) at (now (out .exit)) e ⌝ }
+{
+    let a = put_bits(out, at, ion.fvert[i]);
+    let b = put_bits(out, a, ion.htrue[i]);
+    let c = put_bits(out, b, ion.hprim[i]);
+    put_bits(out, c, ion.afac[i])
+}
+
+fn put_row(out: &mut [u8], at: usize, ion: Ionogram, i: usize) -> usize
+    requires { ⌜ (i < 30) × (at + 39 ≤ length (now out)) ⌝ }
+    ensures { λ e. ⌜ Put (rowLine ion i) (now (out .entry)) at (now (out .exit)) e ⌝ }
+{
+    let n = i + 1;
+    let a = lines::put_decimal(out, at, n as u64);
+    let b = put_numbers(out, a, ion, i);
+    lines::put_byte(out, b, b'\n')
+}
+
+fn put_rows(out: &mut [u8], at: usize, ion: Ionogram) -> usize
+    requires { ⌜ at + 1170 ≤ length (now out) ⌝ }
+    ensures { λ e. ⌜ Put (rowLines ion 30) (now (out .entry)) at (now (out .exit)) e ⌝ }
+{
+    let mut e = at;
+    for i in 0..30 {
+        e = put_row(out, e, ion, i);
+    }
+    e
+}
+
+fn put_slot(out: &mut [u8], at: usize, ion: Ionogram, k: usize) -> usize
+    requires { ⌜ (k < 3) × (at + 1177 ≤ length (now out)) ⌝ }
+    ensures { λ e. ⌜ Put (slotText ion k) (now (out .entry)) at (now (out .exit)) e ⌝ }
+{
+    let a = lines::put_word(out, at, b"slot ");
+    let b = lines::put_decimal(out, a, k as u64);
+    let c = lines::put_byte(out, b, b'\n');
+    put_rows(out, c, ion)
+}
+
+fn put_slots(out: &mut [u8], at: usize, rows: [Ionogram; 3], slots: usize) -> usize
+    requires { ⌜ (slots ≤ 3) × (at + 3531 ≤ length (now out)) ⌝ }
+    ensures { λ e. ⌜ Put (slotTexts rows slots) (now (out .entry)) at (now (out .exit)) e ⌝ }
+{
+    let mut e = at;
+    for k in 0..slots {
+        let ion = rows[k];
+        e = put_slot(out, e, ion, k);
+    }
+    e
+}
+
+fn put_sheet(out: &mut [u8], s: Sheet) -> usize
+    requires { ⌜ (s .slots ≤ 3) × (4096 ≤ length (now out)) ⌝ }
+    ensures { λ e. ⌜ Put (answeredText s) (now (out .entry)) 0 (now (out .exit)) e ⌝ }
+{
+    let h = s.hour;
+    let rows = s.rows;
+    let slots = s.slots;
+    let a = put_muf(out, 0, h);
+    let b = put_call(out, a, h);
+    put_slots(out, b, rows, slots)
+}
+
+// Puts the text at the start of out, and answers its length. The longest, of three slots, has room.
+pub fn sheet_text(file: &[u8], out: &mut [u8; 4096]) -> usize
+    ensures { λ e. ⌜ Put (sheetText (now (file .entry))) (now (out .entry)) 0 (now (out .exit)) e ⌝ }
+    ensures room { λ e. ⌜ Counts e (now (out .exit)) ⌝ }
+{
+    let s = circuit_sheet::of_file(file);
+    let outcome = s.outcome;
+    match outcome {
+        Outcome::Answered => put_sheet(out, s),
+        Outcome::Refused(r) => lines::put_refused(out, 0, r),
+    }
+}
