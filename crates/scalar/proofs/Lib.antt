@@ -16,4 +16,3 @@ pub mod Patterns
 pub mod SpecialRoots
 pub mod RootInUnits
 pub mod CorrectRoot
-pub mod Trials

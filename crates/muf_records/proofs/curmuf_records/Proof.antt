@@ -333,9 +333,19 @@ records-meets : {M : Type 1} (𝓤 : URA M) (H : Heap 𝓤) (A : Atoms 𝓤) →
     → Triple 𝓤 (𝓣 .C #search) (Search 𝓤 H A mem″ run) → Triple 𝓤 (𝓣 .C #searched) (Searched 𝓤 H A mem″ run) → Triple 𝓤 (𝓣 .C #rewrite) (Rewrite 𝓤 H A mem″ run)
     → Meets 𝓤 H A records.signature (WpFn 𝓤 H (𝓣 .C) (𝓣 .Λ) code.function) (records.spec 𝓤 H A mem″ run)
 records-meets 𝓤 H A W mem″ run 𝓣 known-search known-searched known-rewrite =
-    walk-meets 𝓤 H A records.ended stayed W
-    (goes-none 𝓤 H A W 4 (λ _. Io.the-row) yes (λ κs x f. refl), (goes-gave-slice 𝓤 H A W 4 0 tt (plain (λ _. R)), (goes-none-slice 𝓤 H A W 4 (1 ∷ []) tt (plain (λ _. f32)) yes, (goes-none-slice 𝓤 H A W 4 (2 ∷ []) tt (plain (λ _. f32)) yes,
-    (goes-none-slice 𝓤 H A W 4 (3 ∷ []) tt (plain (λ _. f32)) yes, (goes-none 𝓤 H A W 4 (λ _. Ci.the-row) yes (λ κs x f. refl), tt))))))
+    walk-meets 𝓤 H A records.ended stayed W (
+      goes-none 𝓤 H A W 4 (λ _. Io.the-row) yes (λ κs x f. refl),
+      (
+        goes-gave-slice 𝓤 H A W 4 0 tt (plain (λ _. R)),
+        (
+          goes-none-slice 𝓤 H A W 4 (1 ∷ []) tt (plain (λ _. f32)) yes,
+          (
+            goes-none-slice 𝓤 H A W 4 (2 ∷ []) tt (plain (λ _. f32)) yes,
+            (goes-none-slice 𝓤 H A W 4 (3 ∷ []) tt (plain (λ _. f32)) yes, (goes-none 𝓤 H A W 4 (λ _. Ci.the-row) yes (λ κs x f. refl), tt)),
+          ),
+        ),
+      ),
+    )
     (records.clauses 𝓤 H A mem″ run) (WpFn 𝓤 H (𝓣 .C) (𝓣 .Λ) code.function) (WpFn-mono 𝓤 H (W .laws) 𝓣 code.function) (records-walks 𝓤 H A W mem″ run (𝓣 .C) (𝓣 .Λ) (fmOf 𝓤 H (W .laws) 𝓣) known-search known-searched known-rewrite)
 
 pub curmuf-records-spec : {M : Type 1} → stated.statement M

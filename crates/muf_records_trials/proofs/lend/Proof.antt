@@ -304,9 +304,19 @@ module _ {M : Type 1} (𝓤 : URA M) (H : Heap 𝓤) (A : Atoms 𝓤) (W : Given
 lend-meets : {M : Type 1} (𝓤 : URA M) (H : Heap 𝓤) (A : Atoms 𝓤) → Given 𝓤 H A → (mem″ : Memory → SProp 𝓤) (run : Routine → Fun 𝓤) (𝓣 : Tables 𝓤 H)
     → Triple 𝓤 (𝓣 .C #records) (Records 𝓤 H A mem″ run) → Triple 𝓤 (𝓣 .C #print) (Print 𝓤 H A mem″ run) → Meets 𝓤 H A lend.signature (WpFn 𝓤 H (𝓣 .C) (𝓣 .Λ) code.function) (lend.spec 𝓤 H A mem″ run)
 lend-meets 𝓤 H A W mem″ run 𝓣 known-records known-print =
-    walk-meets 𝓤 H A lend.ended stayed W
-    (goes-none 𝓤 H A W 3 (λ _. Io.the-row) yes (λ κs x f. refl), (goes-none 𝓤 H A W 3 (λ _. Five) yes (λ κs x f. refl), (goes-none-slice 𝓤 H A W 3 (0 ∷ []) tt (plain (λ _. f32)) yes, (goes-none-slice 𝓤 H A W 3 (1 ∷ []) tt (plain (λ _. f32)) yes,
-    (goes-none-slice 𝓤 H A W 3 (2 ∷ []) tt (plain (λ _. f32)) yes, (goes-none 𝓤 H A W 3 (λ _. Ci.the-row) yes (λ κs x f. refl), tt))))))
+    walk-meets 𝓤 H A lend.ended stayed W (
+      goes-none 𝓤 H A W 3 (λ _. Io.the-row) yes (λ κs x f. refl),
+      (
+        goes-none 𝓤 H A W 3 (λ _. Five) yes (λ κs x f. refl),
+        (
+          goes-none-slice 𝓤 H A W 3 (0 ∷ []) tt (plain (λ _. f32)) yes,
+          (
+            goes-none-slice 𝓤 H A W 3 (1 ∷ []) tt (plain (λ _. f32)) yes,
+            (goes-none-slice 𝓤 H A W 3 (2 ∷ []) tt (plain (λ _. f32)) yes, (goes-none 𝓤 H A W 3 (λ _. Ci.the-row) yes (λ κs x f. refl), tt)),
+          ),
+        ),
+      ),
+    )
     (lend.clauses 𝓤 H A mem″ run) (WpFn 𝓤 H (𝓣 .C) (𝓣 .Λ) code.function) (WpFn-mono 𝓤 H (W .laws) 𝓣 code.function) (lend-walks 𝓤 H A W mem″ run (𝓣 .C) (𝓣 .Λ) (fmOf 𝓤 H (W .laws) 𝓣) known-records known-print)
 
 pub lend-spec : {M : Type 1} → stated.statement M
