@@ -22,14 +22,17 @@ rcosdOf ia =
     let del = at ANG ia *f f0·01745329251 in
     f6370 *f cosOf del
 
-unfoldable pub cellOf : Ionogram → Float → ℕ → ℤ
-cellOf ion rcosd ih =
-    let fvv = at (ion .fvert) ih in
-    let sphe = rcosd /f (f6370 +f at (ion .htrue) ih) in
+-- in kHz, of the row's vertical frequency and true height
+unfoldable pub obliqueOf : Float → Float → Float → ℤ
+obliqueOf fvv htrue rcosd =
+    let sphe = rcosd /f (f6370 +f htrue) in
     let sqcos = maxOf (f1 -f sphe *f sphe) f0·000001 in
     let cphe = sqrtOf sqcos in
     let freq = fvv /f cphe in
     truncOf (f1000 *f freq)
+
+unfoldable pub cellOf : Ionogram → Float → ℕ → ℤ
+cellOf ion rcosd ih = obliqueOf (at (ion .fvert) ih) (at (ion .htrue) ih) rcosd
 
 -- n cells of an angle, from the cell `from` on
 unfoldable pub rowInto : Ionogram → Float → ℕ → List ℤ → ℕ → List ℤ

@@ -2,7 +2,7 @@
 ghost use mathlib.Core.Path.{_≡_};
 ghost use Prim.Native.Nat.{_+_, _*_, _<_, _≤_};
 ghost use lib.ListN.{length};
-ghost use Rattle.ionogram.specs.Fobby.{rcosdOf, cellOf, rowInto, anglesInto, cellsAfter, fobbyOutcome};
+ghost use Rattle.ionogram.specs.Fobby.{rcosdOf, obliqueOf, rowInto, anglesInto, cellsAfter, fobbyOutcome};
 use super::angles::angle;
 use crate::Ionogram;
 use refusal::Outcome;
@@ -16,14 +16,15 @@ fn rcosd(ia: usize) -> f32
     6370.0 * circular::cos(del)
 }
 
-fn cell(ion: Ionogram, rcosd: f32, ih: usize) -> i32
-    requires { ⌜ ih < 30 ⌝ }
-    ensures { λ r. ⌜ r ≡ cellOf ion rcosd ih ⌝ }
+// In kHz, of a row's vertical frequency and true height. By numbers: an ionogram handed down for each
+// cell would be copied each time.
+fn oblique(fvv: f32, htrue: f32, rcosd: f32) -> i32
+    ensures { λ r. ⌜ r ≡ obliqueOf fvv htrue rcosd ⌝ }
 {
-    let sphe = rcosd / (6370.0 + ion.htrue[ih]);
+    let sphe = rcosd / (6370.0 + htrue);
     let sqcos = scalar::max(1.0 - sphe * sphe, 0.000001);
     let cphe = scalar::sqrt(sqcos);
-    let freq = ion.fvert[ih] / cphe;
+    let freq = fvv / cphe;
     scalar::trunc(1000.0 * freq)
 }
 
@@ -32,7 +33,7 @@ fn row(ion: Ionogram, rcosd: f32, from: usize, cells: &mut [i32])
     ensures { λ _. ⌜ now (cells .exit) ≡ rowInto ion rcosd from (now (cells .entry)) 30 ⌝ }
 {
     for ih in 0..30 {
-        let c = cell(ion, rcosd, ih);
+        let c = oblique(ion.fvert[ih], ion.htrue[ih], rcosd);
         cells[from + ih] = c;
     }
 }

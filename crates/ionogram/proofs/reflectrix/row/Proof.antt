@@ -17,34 +17,46 @@ use Rattle.ionogram.proofs.reflectrix.row.Statement.{statement}
 use Rattle.ionogram.proofs.reflectrix.row.Tie as tie
 
 abbrev Inv-loop : tie.InvT-loop
-Inv-loop ion rcosd from cells₀ ih₀ cells ih = (ih ≤ 30) × (cells ≡ rowInto ion rcosd from cells₀ ih)
+Inv-loop rcosd from cells₀ ion ih₀ cells ih = (ih ≤ 30) × (cells ≡ rowInto ion rcosd from cells₀ ih)
 
 abbrev μ-loop : tie.MeasureT-loop
-μ-loop ion rcosd from cells₀ ih₀ cells ih = 30 - ih
+μ-loop rcosd from cells₀ ion ih₀ cells ih = 30 - ih
 
 loop-holds : tie.Need-loop-holds Inv-loop μ-loop
 unfolding rowInto
 loop-holds c = (omega arith, refl)
 
-cell-requires : tie.Need-cell-requires Inv-loop μ-loop
-cell-requires c κs = omega arith
+mul-oblique : tie.Need-mul-oblique Inv-loop μ-loop
+mul-oblique c = omega arith
+
+element-copy-out-oblique : tie.Need-element-copy-out-oblique Inv-loop μ-loop
+element-copy-out-oblique c = omega arith
+
+mul-oblique-2 : tie.Need-mul-oblique-2 Inv-loop μ-loop
+mul-oblique-2 c = omega arith
+
+element-copy-out-oblique-2 : tie.Need-element-copy-out-oblique-2 Inv-loop μ-loop
+element-copy-out-oblique-2 c = omega arith
+
+oblique-requires : tie.Need-oblique-requires Inv-loop μ-loop
+oblique-requires c κs = search needs
 
 add-c : tie.Need-add-c Inv-loop μ-loop
 add-c c =
-    let l = c .before .before .loop in
-    let e : length (l .cells) ≡ length (c .before .before .before .args .cells .now) = ap length (l .inv .1) ∙ length-row _ _ _ _ _ in
+    let l = c .before .before .before .before .loop in
+    let e : length (l .cells) ≡ length (c .before .before .before .before .before .args .cells .now) = ap length (l .inv .1) ∙ length-row _ _ _ _ _ in
     omega arith
 
 mul-c : tie.Need-mul-c Inv-loop μ-loop
 mul-c c =
-    let l = c .before .before .loop in
-    let e : length (l .cells) ≡ length (c .before .before .before .args .cells .now) = ap length (l .inv .1) ∙ length-row _ _ _ _ _ in
+    let l = c .before .before .before .before .loop in
+    let e : length (l .cells) ≡ length (c .before .before .before .before .before .args .cells .now) = ap length (l .inv .1) ∙ length-row _ _ _ _ _ in
     omega arith
 
 slice-set-from-c : tie.Need-slice-set-from-c Inv-loop μ-loop
 slice-set-from-c c =
-    let l = c .before .before .loop in
-    let e : length (l .cells) ≡ length (c .before .before .before .args .cells .now) = ap length (l .inv .1) ∙ length-row _ _ _ _ _ in
+    let l = c .before .before .before .before .loop in
+    let e : length (l .cells) ≡ length (c .before .before .before .before .before .args .cells .now) = ap length (l .inv .1) ∙ length-row _ _ _ _ _ in
     omega arith
 
 add-ih : tie.Need-add-ih Inv-loop μ-loop
@@ -54,8 +66,8 @@ loop-less : tie.Need-loop-less Inv-loop μ-loop
 loop-less c = omega arith
 
 loop-again : tie.Need-loop-again Inv-loop μ-loop
-unfolding rowInto
-loop-again c = (omega arith, rw (add-one _, ← c .before .before .loop .inv .1, toZ-ofZ (sfits-of (c .cell .ok)), ← c .cell .ensures))
+unfolding rowInto cellOf
+loop-again c = (omega arith, rw (add-one _, ← c .before .before .before .before .loop .inv .1, toZ-ofZ (sfits-of (c .oblique .ok)), ← c .oblique .ensures))
 
 same-length : tie.Need-same-length Inv-loop μ-loop
 same-length c = ap length (c .before .loop .inv .1) ∙ length-row _ _ _ _ _
@@ -70,7 +82,11 @@ row-spec =
     Inv-loop
     μ-loop
     loop-holds
-    cell-requires
+    mul-oblique
+    element-copy-out-oblique
+    mul-oblique-2
+    element-copy-out-oblique-2
+    oblique-requires
     add-c
     mul-c
     slice-set-from-c
