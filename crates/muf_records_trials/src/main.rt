@@ -45,14 +45,7 @@ fn print(answer: MufAnswer, es: [EsParams; 5]) {
 }
 
 // The records are lent, and come back.
-fn lend(
-    s: IonoState,
-    mut es: [EsParams; 5],
-    f2d: &[f32],
-    clat: &[f32],
-    clck: &[f32],
-    c: Circuit,
-) {
+fn lend(s: IonoState, mut es: [EsParams; 5], f2d: &[f32], clat: &[f32], clck: &[f32], c: Circuit) {
     let answer = muf_records::curmuf_records(s, &mut es, f2d, clat, clck, c);
     print(answer, es);
 }
