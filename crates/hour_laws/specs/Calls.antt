@@ -1,6 +1,6 @@
 -- Calls on one state: circuit MUFs and slot sheets, each with its own arguments and lent cells. What a call answers and what it leaves are the very definitions that the contracts of the two functions are equated with.
 use mathlib.Core.Bool.{Bool, true, false, _&&_}
-use mathlib.Core.List.{List, [], _∷_}
+use mathlib.Core.List.{List}
 use mathlib.Core.Option.{Option, none, some}
 use Prim.Native.Nat.{ℕ}
 use lib.Dec.{eqb}

@@ -12,7 +12,6 @@ use Rattle.layers.specs.declared.IonoState.{IonoState}
 use Rattle.layers.specs.declared.EsParams.{EsParams}
 use Rattle.layer_mufs.specs.declared.Circuit.{Circuit}
 use Rattle.muf.specs.Curmuf.{rowsBy}
-use Rattle.muf.specs.declared.Done.{Done}
 use Rattle.muf.proofs.Rows.{done-below}
 use Rattle.muf_records.specs.Records.{recordAt, takenRows, recordsDoneOf}
 

@@ -1,4 +1,6 @@
-// The circuit MUF over a lent list of Es records.
+// The circuit MUF over a lent list of Es records. The three functions that hold a reference to
+// records (`search`, `rewrite`, `curmuf_records`) are proved by walks of their code, by hand, and
+// are kept short for it; what they do with values is in the others.
 ghost use mathlib.Core.Path.{_≡_};
 ghost use Prim.Native.Nat.{_<_};
 ghost use mathlib.Core.Bool.{true};
@@ -14,6 +16,7 @@ use muf::EsRow;
 use muf::EsStep;
 use muf::MufAnswer;
 
+// A record as a row of numbers.
 fn row(e: EsParams) -> EsRow
     ensures { λ r. ⌜ r ≡ rowOf e ⌝ }
 {
@@ -68,6 +71,7 @@ fn search(es: &[EsParams], km: usize, c: Circuit) -> EsStep
     step
 }
 
+// The record with this lower decile.
 fn with_lower(e: EsParams, lower: f32) -> EsParams
     ensures { λ r. ⌜ r ≡ lowered e lower ⌝ }
 {
@@ -76,7 +80,7 @@ fn with_lower(e: EsParams, lower: f32) -> EsParams
     EsParams { fs, hs: e.hs }
 }
 
-// Only the controlling row's lower decile is rewritten.
+// The controlling row's lower decile is rewritten, if a row controls.
 fn rewrite(es: &mut [EsParams], d: Done) -> MufAnswer
     requires { ⌜ (d .rewrites ≡ true → d .ksx < length (now es)) ⌝ }
     ensures { λ r. ⌜ (r ≡ d .answer) × (now (es .exit) ≡ recordsBy (d .rewrites) (now (es .entry)) (d .ksx) (d .lower)) ⌝ }
@@ -88,7 +92,9 @@ fn rewrite(es: &mut [EsParams], d: Done) -> MufAnswer
     d.answer
 }
 
-// The MUF hour. Only the controlling Es row's lower decile is rewritten.
+// The MUF hour; records past km are not read. Only the controlling record's lower decile is
+// rewritten, and a call that is refused leaves all as they came. The search is the last part that
+// can be refused, so it may come first: it reads nothing that the others work out.
 pub fn curmuf_records(
     s: IonoState,
     es: &mut [EsParams],

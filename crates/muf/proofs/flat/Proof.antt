@@ -1,4 +1,4 @@
-use mathlib.Core.Path.{refl}
+-- The rows searched are those of the list, so what `searched` says of any rows it says of these.
 use Rattle.muf.specs.Curmuf.{flatOf}
 use Rattle.muf.proofs.Rows.{rows-there}
 use borrow.Author.Needs.{needs}

@@ -1,3 +1,4 @@
+-- The tests and the calls, in the definition's order; the lists reach to the controlling slot, which is below 3.
 use mathlib.Core.Path.{sym, _∙_}
 use Prim.Native.Nat.{_<_}
 use native.Mathlib.Omega.{arith}

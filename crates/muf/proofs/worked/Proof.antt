@@ -1,3 +1,4 @@
+-- The step given is the search that the definition makes, of whatever rows.
 use Rattle.muf.specs.Curmuf.{workedOf}
 use borrow.Author.Needs.{needs}
 use Rattle.muf.proofs.worked.Statement.{statement}

@@ -1,3 +1,4 @@
+-- The test is the definition's.
 use borrow.Author.Tests.{lt-ltb, le-ltb}
 use Rattle.muf_records.proofs.rows_taken.Statement.{statement}
 use Rattle.muf_records.proofs.rows_taken.Tie as tie

@@ -3,8 +3,7 @@
 -- Assumes nothing.
 use mathlib.Core.Path.{_≡_, refl, sym, _∙_, ap, subst}
 use mathlib.Core.Bool.{Bool}
-use Prim.Native.Nat.{ℕ, zero, suc, _+_, _*_, _<_, _≤_, _^_}
-use native.Mathlib.Nat.{lt-of-le-of-lt}
+use Prim.Native.Nat.{ℕ, zero, suc, _+_, _*_, _<_, _^_}
 use native.Mathlib.Omega.{arith}
 use mathlib.Core.List.{List, [], _∷_}
 use lib.ListN.{length, getD}
@@ -35,7 +34,7 @@ use denote.Laws.{Is, shows}
 use denote.Plain.{uint-vals, uint-tells, uint-makes, uint-lawful}
 use denote.Ref.{RefT}
 use denote.Slice.{sliceTy, sliceVal, ShrSlice, Room, slice-vals, shr-slice-tells, shr-slice-copy}
-use denote.Index.{place, place-is, elem-out, elem-back, looks-slice, shuts-slice}
+use denote.Index.{place-is, elem-out, elem-back, looks-slice, shuts-slice}
 use denote.Signature.{plain}
 use denote.Builtin.{usize}
 use denote.Steps.{only, owned, peeks, heard, nothing}
@@ -56,7 +55,6 @@ use Rattle.layer_mufs.specs.declared.Circuit.{Circuit}
 use Rattle.layer_mufs.proofs.Circuit as Ci
 use Rattle.layer_mufs.proofs.Circuit.Laws as Ci′
 use Rattle.muf.specs.declared.EsRow.{EsRow}
-use Rattle.muf.specs.declared.EsSearch.{EsSearch}
 use Rattle.muf.specs.declared.EsStep.{EsStep}
 use Rattle.muf.specs.Sporadic.{nextBy, esFrom, startOf}
 use Rattle.muf.proofs.EsStep as St

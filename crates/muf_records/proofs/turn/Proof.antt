@@ -1,3 +1,4 @@
+-- The two cases of the search so far.
 use Rattle.muf_records.specs.Records.{turnOf}
 use borrow.Author.Needs.{needs}
 use Rattle.muf_records.proofs.turn.Statement.{statement}
