@@ -1,2 +1,3 @@
 pub mod Lengths
+pub mod SlotCount
 pub mod Tenths
