@@ -4,3 +4,4 @@ pub mod ReadWritten
 pub mod Linked
 pub mod Again
 pub mod WrittenRead
+pub mod WrittenForm

@@ -123,7 +123,7 @@ module _ (c : Circuit) (w : Whole c) (some : 1 ≤ c .km) (most : c .km ≤ 5) (
   N-most : N ≤ c .km + 49
   N-most = records-most c
 
-  length-file : length file ≡ 64 * N
+  pub length-file : length file ≡ 64 * N
   unfolding fileOf
   length-file = length-entries c N N
 
@@ -223,7 +223,7 @@ module _ (c : Circuit) (w : Whole c) (some : 1 ≤ c .km) (most : c .km ≤ 5) (
   unfolding headOf
   head-km = ap kmOf head-at
 
-  chain-file : chainOf old file ≡ answered (upTo N)
+  pub chain-file : chainOf old file ≡ answered (upTo N)
   unfolding chainOf upTo
   chain-file =
       let q : c .km + 48 ≡ c .km + 48 - 0 = omega arith in
@@ -326,7 +326,7 @@ written-by true false m n e = absurd (let z : _≡_ {A = ℕ} 0 1 = cc in omega 
 written-by false r m n e = absurd (let z : _≡_ {A = ℕ} 0 1 = cc in omega arith)
 
 module _ (c : Circuit) (out : List ℕ) (n : ℕ) (e : answerOf old c out ≡ WriteAnswer.Written n) where
-  taken : (goodOf c ≡ true) × (leb (64 * recordsOf c) (length out) ≡ true) × (64 * recordsOf c ≡ n)
+  pub taken : (goodOf c ≡ true) × (leb (64 * recordsOf c) (length out) ≡ true) × (64 * recordsOf c ≡ n)
   unfolding answerOf
   taken = written-by (goodOf c) (leb (64 * recordsOf c) (length out)) (64 * recordsOf c) n e
 
@@ -334,7 +334,7 @@ module _ (c : Circuit) (out : List ℕ) (n : ℕ) (e : answerOf old c out ≡ Wr
   pub written-length : n ≡ 64 * recordsOf c
   written-length = sym (taken .2)
 
-  written-file : take n (leftOf old c out) ≡ fileOf old c
+  pub written-file : take n (leftOf old c out) ≡ fileOf old c
   unfolding leftOf fileOf
   written-file =
       rw (taken .0, taken .1)

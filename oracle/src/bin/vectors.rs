@@ -1,42 +1,59 @@
-//! Writes a sample of the routed Rust's answers, as a list that a program of
-//! ours can replay.
+//! Writes a sample of hours, each a circuit file and what `sheet` prints of
+//! it by the paper and the routed Rust, as the list that the program
+//! `vectors` replays.
 //!
-//! vectors [CASES] [SEED]: so many cases of each function, 20 by default.
+//! vectors [ANSWERED] [REFUSED] [SEED] > ../crates/vectors/stdin: so many
+//! hours that are answered, 320 by default, and so many of each refusal that
+//! a file can reach, 12 by default.
 //!
-//! The list is words of eight hexadecimal digits, each with one byte behind
-//! it, so that word i stands at byte 9 i. A case is a line: the function's
-//! place in the order of `port`, the answer (0, or the refusal's number), how
-//! many lists of arguments, these lists, how many lists are lent, these lists
-//! as they are left. A list is its length and its words; with the top bit of
-//! the length set, just the one word that all are. What is lent only to be
-//! written holds deadbeef before the call. Every NaN is 7fc00000.
+//! An hour is two lengths of two bytes, least significant byte first, of the
+//! file and of the text, then the file, then the text.
 
-use oracle::calls::{Case, COMPARISONS};
-use oracle::ours;
+use oracle::files;
+use oracle::programs;
 use oracle::random::Random;
-use oracle::report::{argument, hex};
+use oracle::report::argument;
+use std::collections::BTreeMap;
+use std::io::Write;
 
-/// Lines longer than this are kept once in a while only.
-const LONG: usize = 800;
+/// Files longer than this, such as those with deciles, are kept now and then.
+const LONG: usize = 400;
 
-fn write_cases(place: usize, name: &str, case: Case) {
-    if !ours::has(name) || name == "rust_walk" {
-        eprintln!("**** NOT WRITTEN: {name} ****");
-        return;
-    }
-    let mut random = Random::new(argument(2, 1));
-    let mut wanted = argument(1, 20);
-    while wanted > 0 {
-        let words = case(&mut random).listed();
-        if words.len() <= LONG || random.once_in(8) {
-            println!("{:08x} {}", place, hex(&words));
-            wanted -= 1;
-        }
-    }
+/// 0 for an hour that is answered.
+fn refusal(text: &str) -> u32 {
+    let number = text.strip_prefix("refused ");
+    number.map_or(0, |n| n.trim_end().parse().unwrap())
 }
 
-fn main() {
-    for (place, (name, case)) in COMPARISONS.iter().enumerate() {
-        write_cases(place, name, *case);
+fn length(bytes: &[u8]) -> [u8; 2] {
+    u16::try_from(bytes.len()).unwrap().to_le_bytes()
+}
+
+fn main() -> std::io::Result<()> {
+    let (answered, refused) = (argument(1, 320), argument(2, 12));
+    let mut random = Random::new(argument(3, 1));
+    let mut kept: BTreeMap<u32, u64> = BTreeMap::new();
+    let mut out = std::io::stdout().lock();
+    for _ in 0..200_000 {
+        let file = files::any_hour(&mut random);
+        // the program lends so much room, one record more than a file has
+        if file.len() > 4160 || (file.len() > LONG && !random.once_in(4)) {
+            continue;
+        }
+        let text = programs::sheet(&file);
+        let number = refusal(&text);
+        let count = kept.entry(number).or_default();
+        if *count >= if number == 0 { answered } else { refused } {
+            continue;
+        }
+        *count += 1;
+        out.write_all(&length(&file))?;
+        out.write_all(&length(text.as_bytes()))?;
+        out.write_all(&file)?;
+        out.write_all(text.as_bytes())?;
     }
+    for (number, count) in &kept {
+        eprintln!("refusal {number}: {count} hours");
+    }
+    Ok(())
 }
