@@ -8,7 +8,7 @@ use borrow.Author.Tests.{le-leb, eqb-false}
 use lib.Dec.{leb, eqb}
 use lib.IntN.{pos}
 use lib.ListN.{getD, length, replicate}
-use lib.Ieee.{Float, binary32, ofBits}
+use lib.Ieee.{Float}
 use Rattle.scalar.specs.F32.{_-f_, _<f_, _>f_, _≥f_}
 use Rattle.scalar.specs.Literals.{f0, f8·5, f10}
 use Rattle.refusal.specs.declared.Outcome.{Outcome}
@@ -25,14 +25,12 @@ use Rattle.layers.specs.declared.LayerParams.{LayerParams}
 use Rattle.layers.specs.declared.LayerMuf.{LayerMuf}
 use Rattle.layers.specs.declared.StateAnswer.{StateAnswer}
 use Rattle.layers.proofs.Counts.{three-at-most}
-use Rattle.muf.specs.declared.MufHour.{MufHour}
 use Rattle.ionogram.specs.Angles.{ANG, NANGX, stepOf, raisedBy, raisedFrom, countBy, countOf, scanBy, sangOf}
 use Rattle.ionogram.specs.Fobby.{roomFor}
 use Rattle.ionogram.specs.declared.Scan.{Scan}
 use Rattle.ionogram.proofs.Counts.{step-range, nangx-range}
 use Rattle.hour.specs.Sheet.{slotSheetOf}
-use Rattle.circuit_sheet.specs.CircuitSheet.{Circuit, paramsOf, shapedOf, slotsOf, mufOf, refusedOf, answeredOf, mufThen, scannedOf, scanThen, circuitSheetOf, readThen, sheetOf}
-use Rattle.circuit_sheet.specs.declared.Sheet.{Sheet}
+use Rattle.circuit_sheet.specs.CircuitSheet.{Circuit, paramsOf, shapedOf, slotsOf}
 
 -- ---- points
 
@@ -80,25 +78,6 @@ unfolding slotsOf ionsetOf shapedOf fromLayersOf
 slots-most c =
     let s = fromLayersOf (paramsOf (c .points)) (c .km) .state in
     set-by (countTaken (s .km)) (shapedOf s (c .shape)) (from-by (countTaken (c .km)) (paramsOf (c .points)) (c .km))
-
-muf-then : (o : Outcome) (s : IonoState) (nang : ℕ) (h : MufHour) → s .kfx ≤ 3 → mufThen o s nang h .slots ≤ 3
-unfolding answeredOf refusedOf
-muf-then Outcome.Answered s nang h l = l
-muf-then (Outcome.Refused r) s nang h l = omega arith
-
-scan-then : (x : Scan) (c : Circuit) → scanThen x c .slots ≤ 3
-unfolding scannedOf refusedOf
-scan-then (Scan.Angles nang) c = let s = slotsOf c in muf-then (mufOf c s .outcome) s nang (mufOf c s .hour) (slots-most c)
-scan-then (Scan.Refused r) c = omega arith
-
-read-then : (o : Outcome) (c : Circuit) → readThen o c .slots ≤ 3
-unfolding circuitSheetOf refusedOf
-read-then Outcome.Answered c = scan-then (sangOf (ofBits binary32 (c .gcdkm)) (ofBits binary32 (c .amind))) c
-read-then (Outcome.Refused r) c = omega arith
-
-pub three-slots : (f : List ℕ) → sheetOf f .slots ≤ 3
-unfolding sheetOf
-three-slots f = let a = readOf old f in read-then (a .outcome) (a .circuit)
 
 -- ---- angles
 

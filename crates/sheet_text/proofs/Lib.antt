@@ -1,2 +1,4 @@
+pub mod CallExamples
 pub mod Lengths
+pub mod SlotCount
 pub mod Tenths

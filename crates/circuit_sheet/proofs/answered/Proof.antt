@@ -1,3 +1,4 @@
+-- The three slots in turn, each from the same state.
 use Rattle.circuit_sheet.specs.CircuitSheet.{answeredOf}
 use borrow.Author.Needs.{needs}
 use Rattle.circuit_sheet.proofs.answered.Statement.{statement}

@@ -1,3 +1,4 @@
+-- As many numbers are lent as there are points.
 use Rattle.circuit_sheet.proofs.Sizes.{es-lent, column-lent}
 use Rattle.circuit_sheet.specs.CircuitSheet.{mufOf}
 use borrow.Author.Needs.{needs}

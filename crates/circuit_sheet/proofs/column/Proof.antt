@@ -1,3 +1,4 @@
+-- The five numbers are read at the places of the definition.
 use Rattle.circuit_sheet.specs.CircuitSheet.{columnOf}
 use borrow.Author.Needs.{needs}
 use Rattle.circuit_sheet.proofs.column.Statement.{statement}

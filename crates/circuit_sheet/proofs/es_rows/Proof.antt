@@ -1,3 +1,4 @@
+-- The twenty numbers are read at the places of the definition.
 use Rattle.circuit_sheet.specs.CircuitSheet.{esOf}
 use borrow.Author.Needs.{needs}
 use Rattle.circuit_sheet.proofs.es_rows.Statement.{statement}

@@ -1,3 +1,4 @@
+-- Three numbers each, one after the other.
 use Rattle.circuit_sheet.specs.CircuitSheet.{layersAt}
 use borrow.Author.Needs.{needs}
 use Rattle.circuit_sheet.proofs.layers_at.Statement.{statement}

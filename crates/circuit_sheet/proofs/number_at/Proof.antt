@@ -1,3 +1,4 @@
+-- The word is there, since there are 75.
 use Rattle.circuit_sheet.specs.CircuitSheet.{numberAt}
 use borrow.Author.Needs.{needs}
 use Rattle.circuit_sheet.proofs.number_at.Statement.{statement}

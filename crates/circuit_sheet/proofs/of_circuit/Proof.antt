@@ -1,3 +1,4 @@
+-- The answer of `sang` decides.
 use Rattle.circuit_sheet.specs.CircuitSheet.{circuitSheetOf}
 use borrow.Author.Needs.{needs}
 use Rattle.circuit_sheet.proofs.of_circuit.Statement.{statement}

@@ -1,3 +1,4 @@
+-- The reader's outcome decides; a circuit has at most five points.
 use Rattle.circuit_sheet.proofs.Ranges.{points-most}
 use Rattle.circuit_sheet.specs.CircuitSheet.{sheetOf}
 use borrow.Author.Needs.{needs}

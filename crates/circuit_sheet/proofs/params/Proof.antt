@@ -1,3 +1,4 @@
+-- Each point starts fifteen words after the one before.
 use Rattle.circuit_sheet.specs.CircuitSheet.{paramsOf}
 use borrow.Author.Needs.{needs}
 use Rattle.circuit_sheet.proofs.params.Statement.{statement}

@@ -1,3 +1,4 @@
+-- Each number is that of its bits.
 use Rattle.circuit_sheet.specs.CircuitSheet.{pathOf}
 use borrow.Author.Needs.{needs}
 use Rattle.circuit_sheet.proofs.path.Statement.{statement}

@@ -1,3 +1,4 @@
+-- The hour is that of a refused MUF: all zeros.
 use Rattle.muf.specs.Hour as muf
 use Rattle.circuit_sheet.specs.CircuitSheet.{refusedOf}
 use borrow.Author.Needs.{needs}

@@ -1,3 +1,4 @@
+-- The MUF's outcome decides.
 use Rattle.circuit_sheet.specs.CircuitSheet.{scannedOf}
 use borrow.Author.Needs.{needs}
 use Rattle.circuit_sheet.proofs.scanned.Statement.{statement}

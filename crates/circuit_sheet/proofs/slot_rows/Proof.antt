@@ -1,3 +1,4 @@
+-- The slot is tested as the definition does, and its cells are 1,200 zeros.
 use borrow.Author.Tests.{lt-ltb, le-ltb}
 use Rattle.circuit_sheet.specs.CircuitSheet.{rowsOf}
 use borrow.Author.Needs.{needs}

@@ -1,3 +1,4 @@
+-- Each call is given what the one before answered.
 use Rattle.circuit_sheet.specs.CircuitSheet.{slotsOf}
 use borrow.Author.Needs.{needs}
 use Rattle.circuit_sheet.proofs.slots.Statement.{statement}

@@ -1,3 +1,4 @@
+-- Three numbers in a row.
 use Rattle.circuit_sheet.specs.CircuitSheet.{threeAt}
 use borrow.Author.Needs.{needs}
 use Rattle.circuit_sheet.proofs.three_at.Statement.{statement}

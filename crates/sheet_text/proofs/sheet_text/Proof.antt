@@ -7,9 +7,9 @@ use lib.Seq.{length-take-le}
 use borrow.Author.Needs.{needs}
 use Rattle.lines.proofs.Placing.{put-length}
 use Rattle.lines.proofs.Decimals.{length-refused}
-use Rattle.circuit_sheet.proofs.Ranges.{three-slots}
 use Rattle.sheet_text.specs.SheetText.{answeredText, sheetText}
 use Rattle.sheet_text.proofs.Lengths.{text-fits}
+use Rattle.sheet_text.proofs.SlotCount.{three-slots}
 use Rattle.sheet_text.proofs.sheet_text.Statement.{statement}
 use Rattle.sheet_text.proofs.sheet_text.Tie as tie
 
