@@ -1,36 +1,41 @@
--- A file that is not turned away has 1 to 5 points, they make at most three slots, and at most 40 angles are scanned. So neither `from_layers` nor `ionset` nor a slot sheet is refused: 5, 6 and 8 are no answer of `sheet`.
-use mathlib.Core.Bool.{Bool, true, false, _&&_}
+-- A file that is not turned away has 1 to 5 points, they make at most three slots, and at most 40 angles are scanned. So neither `from_layers` nor `ionset` nor a slot sheet is refused, and the MUF's lists reach: 5, 6, 8 and 10 are no answer of `sheet`.
+use mathlib.Core.Bool.{Bool, true, false, false≢true}
 use mathlib.Core.Path.{_≡_, refl, sym, ap, _∙_}
-use mathlib.Core.List.{List}
+use mathlib.Core.List.{List, map}
 use Prim.Native.Nat.{ℕ, zero, suc, _+_, _-_, _*_, _≤_, _<_}
 use native.Mathlib.Omega.{arith}
-use borrow.Author.Tests.{le-leb, eqb-false}
+use borrow.Author.Tests.{le-leb, leb-true, leb-false, lt-ltb, eq-eqb, eqb-false}
 use lib.Dec.{leb, eqb}
 use lib.IntN.{pos}
-use lib.ListN.{getD, length, replicate}
-use lib.Ieee.{Float}
-use Rattle.scalar.specs.F32.{_-f_, _<f_, _>f_, _≥f_}
+use lib.ListN.{getD, length, length-map, replicate, take}
+use lib.Ieee.{Float, binary32, ofBits}
+use Rattle.scalar.specs.F32.{_-f_, _<f_, _≤f_, _>f_, _≥f_}
 use Rattle.scalar.specs.Literals.{f0, f8·5, f10}
 use Rattle.refusal.specs.declared.Outcome.{Outcome}
 use Rattle.circuit.specs.declared.Chain.{Chain}
 use Rattle.circuit.specs.Record.{old}
 use Rattle.circuit.specs.Chain.{chainOf}
 use Rattle.circuit.specs.Read.{readOf, circuitOf, noCircuit}
-use Rattle.circuit.proofs.Followed.{followed, read-answered, read-refused}
+use Rattle.circuit.proofs.Followed.{Followed, followed, count-range, read-answered, read-refused}
+use Rattle.circuit.proofs.Lists.{length-read}
 use Rattle.layers.specs.State.{at}
 use Rattle.layers.specs.FromLayers.{countTaken, pointSet, pointsSet, emptyOf, fromLayersBy, fromLayersOf}
-use Rattle.layers.specs.Ionset.{tooClose, f1KeptBy, f1By, f1Settled, f2Settled, slotSettled, slotsSettled, ionsetBy, ionsetOf}
+use Rattle.layers.specs.Ionset.{layerFrom, twoSlots, threeSlots, assignedBy, assignedOf, tooClose, f1KeptBy, f1By, f1Settled, f2Settled, slotSettled, slotsSettled, ionsetBy, ionsetOf}
 use Rattle.layers.specs.declared.IonoState.{IonoState}
 use Rattle.layers.specs.declared.LayerParams.{LayerParams}
 use Rattle.layers.specs.declared.LayerMuf.{LayerMuf}
 use Rattle.layers.specs.declared.StateAnswer.{StateAnswer}
 use Rattle.layers.proofs.Counts.{three-at-most}
+use Rattle.layer_mufs.specs.Controlling.{compareEBy, compareE, controllingOf}
+use Rattle.layer_mufs.proofs.Small.{controlling-small}
 use Rattle.ionogram.specs.Angles.{ANG, NANGX, stepOf, raisedBy, raisedFrom, countBy, countOf, scanBy, sangOf}
 use Rattle.ionogram.specs.Fobby.{roomFor}
 use Rattle.ionogram.specs.declared.Scan.{Scan}
 use Rattle.ionogram.proofs.Counts.{step-range, nangx-range}
 use Rattle.hour.specs.Sheet.{slotSheetOf}
-use Rattle.circuit_sheet.specs.CircuitSheet.{Circuit, paramsOf, shapedOf, slotsOf}
+use Rattle.muf.specs.Curmuf.{listsReach}
+use Rattle.circuit_sheet.specs.CircuitSheet.{Circuit, paramsOf, columnOf, shapedOf, slotsOf}
+use Rattle.circuit_sheet.proofs.Sizes.{column-lent}
 
 -- ---- points
 
@@ -40,6 +45,19 @@ most-by f k e Outcome.Answered a =
     let h = followed f (ap (λ (c : Chain). c .outcome) (sym e) ∙ a) .head in
     rw (read-answered f k e a) (h .most)
 most-by f k e (Outcome.Refused r) a = rw (read-refused f k e r a) (omega arith)
+
+some-km : (f : List ℕ) (k : Chain) → k ≡ chainOf old f → (o : Outcome) → k .outcome ≡ o → readOf old f .outcome ≡ Outcome.Answered → 1 ≤ readOf old f .circuit .km
+unfolding circuitOf
+some-km f k e Outcome.Answered a q =
+    let h = followed f (ap (λ (c : Chain). c .outcome) (sym e) ∙ a) .head in
+    rw (read-answered f k e a) (h .some)
+some-km f k e (Outcome.Refused r) a q =
+    let n : Outcome.Refused r ≡ Outcome.Answered = rw (read-refused f k e r a) at q in
+    let z : _≡_ {A = ℕ} 0 1 = cc in
+    absurd (omega arith)
+
+pub points-some : (f : List ℕ) → readOf old f .outcome ≡ Outcome.Answered → 1 ≤ readOf old f .circuit .km
+points-some f a = some-km f (chainOf old f) refl (chainOf old f .outcome) refl a
 
 pub points-most : (f : List ℕ) → readOf old f .circuit .km ≤ 5
 points-most f = most-by f (chainOf old f) refl (chainOf old f .outcome) refl
@@ -115,17 +133,54 @@ few gcdkm amind = scan-by (eqb (stepOf gcdkm) 0) amind (stepOf gcdkm) refl (step
 pub angles-most : (gcdkm amind : Float) (nang : ℕ) → sangOf gcdkm amind ≡ Scan.Angles nang → nang ≤ 40
 angles-most gcdkm amind nang e = rw e at (few gcdkm amind)
 
--- ---- so nothing is refused but by the file, `sang` and the MUF
+-- ---- the controlling slot is one of those that the points make, and these are no more than the points
 
-some-by : (f : List ℕ) (k : Chain) → k ≡ chainOf old f → (o : Outcome) → k .outcome ≡ o → readOf old f .outcome ≡ Outcome.Answered → countTaken (readOf old f .circuit .km) ≡ true
-unfolding circuitOf countTaken
-some-by f k e Outcome.Answered a q =
-    let h = followed f (ap (λ (c : Chain). c .outcome) (sym e) ∙ a) .head in
-    rw (read-answered f k e a, le-leb _ _ (h .some), le-leb _ _ (h .most))
-some-by f k e (Outcome.Refused r) a q =
-    let n : Outcome.Refused r ≡ Outcome.Answered = rw (read-refused f k e r a) at q in
-    let z : _≡_ {A = ℕ} 0 1 = cc in
-    absurd (omega arith)
+slots-for : Bool → Bool → ℕ
+slots-for true q = 1
+slots-for false true = 2
+slots-for false false = 3
+
+assigned-kfx : (p q : Bool) (s : IonoState) → assignedBy p q s .kfx ≡ slots-for p q
+unfolding twoSlots threeSlots layerFrom slots-for
+assigned-kfx true q s = refl
+assigned-kfx false true s = refl
+assigned-kfx false false s = refl
+
+compare-by : (b : Bool) → compareEBy b 1 < 2
+compare-by true = omega arith
+compare-by false = omega arith
+
+-- with one, two or three slots the controlling one is below 1, 2 or 3
+controlling-by : (p q : Bool) (s : IonoState) → s .kfx ≡ slots-for p q → controllingOf s < slots-for p q
+unfolding slots-for controllingOf compareE
+controlling-by true q s e = rw e (omega arith)
+controlling-by false true s e = rw e (compare-by (at (s .fi) 0 -f at (s .fi) 3 ≤f f0))
+controlling-by false false s e = controlling-small s
+
+under-points : (p q : Bool) (km : ℕ) → leb km 1 ≡ p → leb km 3 ≡ q → 1 ≤ km → slots-for p q ≤ km
+unfolding slots-for
+under-points true q km e f h = h
+under-points false true km e f h = let l = leb-false km 1 e in omega arith
+under-points false false km e f h = let l = leb-false km 3 f in omega arith
+
+set-by-km : (b : Bool) (t : IonoState) → b ≡ true → ionsetBy b t .state .kfx ≡ slots-for (leb (t .km) 1) (leb (t .km) 3)
+unfolding assignedOf
+set-by-km true t e = settled-kfx (assignedOf t) (assignedOf t .kfx) ∙ assigned-kfx (leb (t .km) 1) (leb (t .km) 3) t
+set-by-km false t e = absurd (false≢true e)
+
+set-kfx : (t : IonoState) (n : ℕ) → t .km ≡ n → countTaken n ≡ true → ionsetOf t .state .kfx ≡ slots-for (leb n 1) (leb n 3)
+unfolding ionsetOf
+set-kfx t n e k = set-by-km (countTaken (t .km)) t (ap countTaken e ∙ k) ∙ ap (λ (n : ℕ). slots-for (leb n 1) (leb n 3)) e
+
+deciles-by : (f : List ℕ) (k : Chain) → k ≡ chainOf old f → (o : Outcome) → k .outcome ≡ o → length (readOf old f .circuit .deciles) ≡ 576
+unfolding circuitOf noCircuit
+deciles-by f k e Outcome.Answered a =
+    let t : Followed f k = rw e (followed f (rw (← e) a)) in
+    let n = count-range f k t a in
+    rw (read-answered f k e a) (length-read 576 old f (k .order) _ 12 _ (omega arith))
+deciles-by f k e (Outcome.Refused r) a = rw (read-refused f k e r a)
+
+-- ---- so nothing is refused but by the file, `sang`, and the MUF's input, hops and deciles
 
 points-km : (s : IonoState) (params : List LayerParams) (n : ℕ) → pointsSet s params n .km ≡ s .km
 unfolding pointsSet pointSet
@@ -140,7 +195,8 @@ module _ (f : List ℕ) (answered : readOf old f .outcome ≡ Outcome.Answered) 
   made = fromLayersOf (paramsOf (circuit .points)) (circuit .km)
 
   taken : countTaken (circuit .km) ≡ true
-  taken = some-by f (chainOf old f) refl (chainOf old f .outcome) refl answered
+  unfolding countTaken
+  taken = rw (le-leb _ _ (points-some f answered), le-leb _ _ (points-most f))
 
   pub made-answered : made .outcome ≡ Outcome.Answered
   unfolding fromLayersOf
@@ -149,6 +205,28 @@ module _ (f : List ℕ) (answered : readOf old f .outcome ≡ Outcome.Answered) 
   pub set-answered : ionsetOf (shapedOf (made .state) (circuit .shape)) .outcome ≡ Outcome.Answered
   unfolding ionsetOf shapedOf fromLayersOf emptyOf
   set-answered = rw (taken, points-km (emptyOf (circuit .km)) (paramsOf (circuit .points)) (circuit .km), taken)
+
+  made-km : shapedOf (made .state) (circuit .shape) .km ≡ circuit .km
+  unfolding shapedOf fromLayersOf emptyOf
+  made-km = rw taken (points-km (emptyOf (circuit .km)) (paramsOf (circuit .points)) (circuit .km))
+
+  slots-are : slotsOf circuit .kfx ≡ slots-for (leb (circuit .km) 1) (leb (circuit .km) 3)
+  unfolding slotsOf
+  slots-are = set-kfx _ (circuit .km) made-km taken
+
+  controlling-under : controllingOf (slotsOf circuit) < circuit .km
+  controlling-under =
+      let p = leb (circuit .km) 1 in
+      let q = leb (circuit .km) 3 in
+      omega (arith, controlling-by p q (slotsOf circuit) slots-are, under-points p q (circuit .km) refl refl (points-some f answered))
+
+  pub lists-reach : listsReach (controllingOf (slotsOf circuit)) (length (map (ofBits binary32) (circuit .deciles))) (length (take (circuit .km) (columnOf (circuit .points) 13))) (length (take (circuit .km) (columnOf (circuit .points) 14))) ≡ true
+  unfolding listsReach
+  lists-reach =
+      let d = length-map (circuit .deciles) (ofBits binary32) ∙ deciles-by f (chainOf old f) refl (chainOf old f .outcome) refl in
+      let m = points-most f in
+      let u = controlling-under in
+      rw (eq-eqb _ _ d, ← column-lent (circuit .points) 13 _ (circuit .km) refl m, ← column-lent (circuit .points) 14 _ (circuit .km) refl m, lt-ltb _ _ u)
 
 pub sheet-answered : (s : IonoState) (k nang : ℕ) (lines : List LayerMuf) → k ≤ 2 → nang ≤ 40
     → slotSheetOf s k nang lines (replicate 1200 (pos 0)) .outcome ≡ Outcome.Answered

@@ -11,7 +11,7 @@ use Rattle.refusal.specs.declared.Outcome.{Outcome}
 use Rattle.circuit.specs.Record.{old}
 use Rattle.circuit.specs.Read.{readOf}
 use Rattle.circuit.specs.declared.Circuit as file
-use Rattle.layers.specs.State.{zeroState, withIedp}
+use Rattle.layers.specs.State.{withIedp}
 use Rattle.layers.specs.FromLayers.{fromLayersOf}
 use Rattle.layers.specs.Ionset.{ionsetOf}
 use Rattle.layers.specs.declared.IonoState.{IonoState}

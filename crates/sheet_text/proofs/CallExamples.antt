@@ -2,7 +2,7 @@
 use mathlib.Core.Path.{_≡_, refl}
 use mathlib.Core.List.{List, [], _∷_, map}
 use Prim.Native.Nat.{ℕ}
-use lib.Ieee.{Float, binary32, ofBits, le, lt, eq}
+use lib.Ieee.{binary32, ofBits, le, lt, eq}
 use Rattle.lines.specs.Text.{decimalIn, decimalOf}
 use Rattle.sheet_text.specs.Call.{dash, point, tenthsOf, cutText, callField}
 

@@ -1,6 +1,6 @@
 -- Ten times an f32 below 1000 is a number of binary64: its significand has at most 28 digits. So the product in f64 is exact, and its whole part is the definition's.
 use mathlib.Core.Path.{_≡_, refl, sym, ap, _∙_, subst}
-use mathlib.Core.Bool.{Bool, true, false, not, _&&_, _||_, false≢true}
+use mathlib.Core.Bool.{Bool, true, false, not, _&&_, false≢true}
 use Prim.Native.Nat.{ℕ, zero, suc, _+_, _-_, _*_, _/_, _%_, _^_, _≤_, _<_, min}
 use native.Mathlib.Nat.{mul-pos, mul-one, mul-assoc, lt-of-lt-of-le, div-lt-iff-lt-mul, pow-le-pow-right, not-le-of-lt, zero-div}
 use native.Mathlib.Omega.{arith}
@@ -8,8 +8,8 @@ use borrow.Author.Tests.{ltb-true, ltb-false, eqb-true}
 use lib.IntN.{ℤ, pos, negsuc}
 use lib.Dec.{T, ltb, leb, eqb, lt→ltb, ltb→lt, leb→le, eqb→eq, lit<, lit≤}
 use lib.Pow.{pow-lt, pow-add, pow-pos, shl-lt}
-use lib.Ieee.{Float, nan, inf, fin, binary32, binary64, up, down, unlike, round, mul, lt, le, eq, fits, isNan, ofBits, toUnsigned}
-use lib.Ieee.Fits.{up-pos, down-pos, and-l, and-r, and-i, fits-widens}
+use lib.Ieee.{Float, nan, inf, fin, binary32, binary64, up, down, unlike, mul, lt, le, eq, fits, isNan, ofBits, toUnsigned}
+use lib.Ieee.Fits.{down-pos, and-l, and-r, and-i, fits-widens}
 use lib.Ieee.Exact.{HasValue, round-exact}
 use lib.Ieee.Nearest.{div-same}
 use Rattle.scalar.specs.F32.{_≤f_, _<f_}

@@ -1,7 +1,7 @@
 // The `call` field.
-ghost use Prim.Native.Nat.{ℕ, _+_, _≤_};
+ghost use Prim.Native.Nat.{_+_, _≤_};
 ghost use mathlib.Core.Path.{_≡_};
-ghost use mathlib.Core.Bool.{true, _&&_};
+ghost use mathlib.Core.Bool.{true};
 ghost use lib.ListN.{length};
 ghost use Rattle.scalar.specs.F32.{_≤f_, _<f_};
 ghost use Rattle.scalar.specs.Literals.{f0, f1000};

@@ -1,14 +1,12 @@
 // What `sheet` prints of a circuit file, as bytes.
 mod call;
 
-ghost use Prim.Native.Nat.{ℕ, _+_, _*_, _≤_, _<_};
+ghost use Prim.Native.Nat.{_+_, _≤_, _<_};
 ghost use mathlib.Core.Path.{_≡_};
 ghost use lib.ListN.{length};
-ghost use Rattle.refusal.specs.declared.Outcome.{Outcome};
 ghost use Rattle.io.specs.Counts.{Counts};
 ghost use Rattle.lines.specs.Text.{Put};
-ghost use Rattle.circuit_sheet.specs.CircuitSheet.{sheetOf};
-ghost use Rattle.sheet_text.specs.SheetText.{bitsField, natural, mufFields, mufLine, callLine, rowFields, rowLine, rowLines, slotLine, slotText, slotTexts, answeredText, sheetText};
+ghost use Rattle.sheet_text.specs.SheetText.{bitsField, natural, mufFields, mufLine, callLine, rowFields, rowLine, rowLines, slotText, slotTexts, answeredText, sheetText};
 use circuit_sheet::Sheet;
 use ionogram::Ionogram;
 use muf::MufHour;

@@ -6,8 +6,8 @@ use native.Mathlib.Omega.{arith}
 use lib.Dec.{T}
 use lib.IntN.{ℤ, pos, negsuc, natAbs}
 use lib.Signed.{ltZ, nonNeg, mag}
-use mir.Syntax.{w32, w64}
-use mir.Val.{Fits, toZ, ofZ}
+use mir.Syntax.{w64}
+use mir.Val.{Fits}
 use mir.Facts.{toZ-ofZ}
 use borrow.Author.Needs.{needs}
 use borrow.Author.Tests.{ltb-true}

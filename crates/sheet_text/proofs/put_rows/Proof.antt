@@ -3,8 +3,6 @@ use Prim.Native.Nat.{_≤_, _-_}
 use native.Mathlib.Nat.{le-antisymm}
 use native.Mathlib.Numerals.{add-one}
 use native.Mathlib.Omega.{arith}
-use borrow.Author.Needs.{needs}
-use mathlib.Core.List.{[]}
 use mathlib.Core.Path.{refl}
 use Rattle.lines.specs.Text.{Put}
 use Rattle.lines.proofs.Placing.{put-then, put-length}

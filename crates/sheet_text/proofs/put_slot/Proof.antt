@@ -1,7 +1,7 @@
 -- The line and the rows are put one after the other; a slot number is one digit.
 use native.Mathlib.Omega.{arith}
 use borrow.Author.Needs.{needs}
-use mathlib.Core.List.{[], _∷_, append-assoc}
+use mathlib.Core.List.{[], _∷_}
 use Rattle.lines.specs.Text.{lineFeed}
 use Rattle.lines.proofs.Placing.{put-then}
 use Rattle.sheet_text.specs.SheetText.{slotWord, slotLine, slotText}
