@@ -292,8 +292,8 @@ fn calls() {
     let below = frequencies(scalar::bits(-1.0), zero, scalar::bits(-2.0));
     print(b"MUF below 0\n", below, 128);
     print(
-        b"a MUF just below 707.6\n",
-        changed(2, scalar::bits(222.5)),
+        b"a MUF just below 634.8\n",
+        changed(2, scalar::bits(199.609375)),
         128,
     );
     print(b"MUF above 1000\n", changed(2, scalar::bits(340.0)), 128);
