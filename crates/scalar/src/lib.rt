@@ -68,20 +68,32 @@ pub fn abs(x: f32) -> f32
     x
 }
 
-// The Rust's `x as i32`. The cast of what is left after the tests loses only the fraction.
+// The Rust's `x as i32`, from the pattern of x: its leading digit and the 23 that follow, at the top
+// of a word, are shifted down until only the whole part is left.
 pub fn trunc(x: f32) -> i32
     ensures { λ r. ⌜ r ≡ truncOf x ⌝ }
 {
     if x != x {
         return 0;
     }
-    if x >= 2147483648.0 {
-        return 2147483647;
+    let b = f32::to_bits(x);
+    let size = b % 0x8000_0000;
+    // below 1
+    if size < 0x3f80_0000 {
+        return 0;
     }
-    if x < -2147483648.0 {
+    // from 2^31 on, the infinities too
+    if size >= 0x4f00_0000 {
+        if b < 0x8000_0000 {
+            return 2147483647;
+        }
         return -2147483648;
     }
-    std::num::truncating_f32_to_i64(x) as i32
+    let whole = (0x8000_0000 + b % 0x80_0000 * 256) >> (158 - size / 0x80_0000);
+    if b < 0x8000_0000 {
+        return whole as i32;
+    }
+    -(whole as i32)
 }
 
 // The square root, correctly rounded: NaN of NaN and below zero, either zero of itself.
