@@ -1,4 +1,4 @@
--- The cut to an i32 by the pattern. A normal float is d * 2 ^ x units of 2 ^ -149, for d of 24 digits: below 1 where x is under 126, from 2 ^ 31 on where x is 157 or more, and between them its whole part is d * 2 ^ 8 / 2 ^ k with x + k = 157. Assumes nothing.
+-- The cut to an i32 by the pattern. A normal float is d * 2 ^ x units of 2 ^ -149, for a d of 24 digits: from 2 ^ 31 on where x is 157 or more, else its whole part is d * 2 ^ 8 / 2 ^ k with x + k = 157. That is 0 where k is above 31, and then every larger k will do. Assumes nothing.
 use mathlib.Core.Path.{_≡_, refl, sym, ap, ap₂, _∙_, subst}
 use mathlib.Core.Logic.{_⊎_, inl, inr}
 use mathlib.Core.Bool.{Bool, true, false, not, cond, true≢false, false≢true}
@@ -6,12 +6,10 @@ use Prim.Native.Nat.{ℕ, zero, suc, _+_, _-_, _*_, _/_, _%_, _^_, _≤_, _<_, m
 use native.Mathlib.Nat.{le-of-eq, le-trans, lt-of-lt-of-le, eq-or-lt-of-le, mul-comm, mul-assoc, mul-le-mul, mul-div-mul-right, div-eq-of-lt, le-div-iff-mul-le, div-lt-iff-lt-mul}
 use native.Mathlib.Omega.{arith}
 use lib.IntN.{ℤ, pos, negsuc, negℤ}
-use lib.Dec.{T, leb, eqb·suc-zero, le→leb}
+use lib.Dec.{T, leb, ltb, eqb·suc-zero, ltb→lt, nltb→le}
 use lib.Pow.{pow-add, pow-pos, pow-mono, shl-lt}
-use lib.Arith.{lt→nleb}
 use lib.Ieee.{Float, nan, inf, fin, binary32, up, down, isNan, ofFields, ofBits, toSigned}
 use lib.Ieee.Fits.{down-pos}
-use lib.Ieee.Bits.{is-true, is-false}
 use lib.Ieee.Exact.{HasValue}
 use Rattle.scalar.specs.Scalar.{truncOf}
 use Rattle.scalar.proofs.Patterns.{ofBits-is, fields-low, fields-mid}
@@ -94,24 +92,31 @@ from-end s (suc x) t lo hi n = go (eq-or-lt-of-le hi)
         trunc-at (ofFields binary32 s (suc x) t) s ((2 ^ 23 + t) * 2 ^ x) (fields-mid s x t k)
         ∙ at-end s ((2 ^ 23 + t) * 2 ^ x / 2 ^ 149) (reaches (2 ^ 23 + t) x (digits-low t) (omega arith))
 
--- between them, with the leading digit at the top of 32
-abbrev pub shifted : ℕ → ℕ → ℕ
-shifted x t = (2147483648 + t * 256) / 2 ^ (158 - x)
+-- below it, with the leading digit at the top of 32
+abbrev shifted : ℕ → ℕ → ℕ
+shifted x t = (2147483648 + t * 256) / 2 ^ min (158 - x) 63
 
 shift-is : (d x k : ℕ) → x + k ≡ 157 → d * 2 ^ x / 2 ^ 149 ≡ d * 2 ^ 8 / 2 ^ k
 shift-is d x k e =
     whole (d * 2 ^ x) (2 ^ 149) (d * 2 ^ 8) (2 ^ k) (pow-pos 149) (pow-pos k)
     (mul-assoc d (2 ^ x) (2 ^ k) ∙ ap (λ (y : ℕ). d * y) (sym (pow-add 2 x k) ∙ ap (λ (y : ℕ). 2 ^ y) e ∙ pow-add 2 8 149) ∙ sym (mul-assoc d (2 ^ 8) (2 ^ 149)))
 
-pub shifted-lt : (x t : ℕ) → x < 158 → t < 2 ^ 23 → shifted x t < 2147483648
-shifted-lt x t l h = div-lt-iff-lt-mul (pow-pos (158 - x)) .1 (go (2 ^ (158 - x)) (pow-mono {i = 1} {j = 158 - x} (omega arith)))
+shifted-lt : (x t : ℕ) → x < 158 → t < 2 ^ 23 → shifted x t < 2147483648
+shifted-lt x t l h = div-lt-iff-lt-mul (pow-pos (min (158 - x) 63)) .1 (go (2 ^ min (158 - x) 63) (pow-mono {i = 1} {j = min (158 - x) 63} (omega arith)))
   where
     go : (p : ℕ) → 2 ≤ p → 2147483648 + t * 256 < 2147483648 * p
     go p g = omega arith
 
+shifted-out : (x t : ℕ) → x < 127 → t < 2 ^ 23 → shifted x t ≡ 0
+shifted-out x t l h = div-eq-of-lt (lt-of-lt-of-le {m = 2 ^ 32} (omega arith) (pow-mono {i = 32} {j = min (158 - x) 63} (omega arith)))
+
 abbrev pub signed : Bool → ℕ → ℤ
 signed true q = negℤ (pos q)
 signed false q = pos q
+
+no-sign : (s : Bool) → signed s 0 ≡ pos 0
+no-sign true = refl
+no-sign false = refl
 
 in-ends : (s : Bool) (q : ℕ) → q < 2147483648 → kept s q ≡ signed s q
 in-ends true q h = ap (λ (n : ℕ). negℤ (pos n)) (go q h)
@@ -123,25 +128,26 @@ in-ends false q h = ap pos (go q h)
     go : (q : ℕ) → q < 2147483648 → min q 2147483647 ≡ q
     go q h = omega arith
 
-between : (s : Bool) (x t : ℕ) → 127 ≤ x → x < 158 → t < 2 ^ 23 → truncOf (ofFields binary32 s x t) ≡ signed s (shifted x t)
-between s zero t lo hi h = absurd (omega arith)
-between s (suc x) t lo hi h =
+from-one : (s : Bool) (x t : ℕ) → 127 ≤ x → x < 158 → t < 2 ^ 23 → truncOf (ofFields binary32 s x t) ≡ signed s (shifted x t)
+from-one s zero t lo hi h = absurd (omega arith)
+from-one s (suc x) t lo hi h =
     trunc-at (ofFields binary32 s (suc x) t) s ((2 ^ 23 + t) * 2 ^ x) (fields-mid s x t (omega arith))
-    ∙ ap (λ (q : ℕ). kept s q) (shift-is (2 ^ 23 + t) x (158 - suc x) (omega arith) ∙ ap (λ (y : ℕ). y / 2 ^ (158 - suc x)) (top t))
+    ∙ ap (λ (q : ℕ). kept s q) (shift-is (2 ^ 23 + t) x (min (158 - suc x) 63) (omega arith) ∙ ap (λ (y : ℕ). y / 2 ^ min (158 - suc x) 63) (top t))
     ∙ in-ends s (shifted (suc x) t) (shifted-lt (suc x) t hi h)
   where
     top : (t : ℕ) → (2 ^ 23 + t) * 2 ^ 8 ≡ 2147483648 + t * 256
     top t = omega arith
 
+below-end : (s : Bool) (x t : ℕ) → x < 158 → t < 2 ^ 23 → truncOf (ofFields binary32 s x t) ≡ signed s (shifted x t)
+below-end s x t hi h = go (ltb x 127) (ltb→lt x 127) (nltb→le x 127)
+  where
+    go : (u : Bool) → (T u → x < 127) → (T (not u) → 127 ≤ x) → truncOf (ofFields binary32 s x t) ≡ signed s (shifted x t)
+    go true l k = below-one s x t (l tt) h ∙ sym (ap (λ (q : ℕ). signed s q) (shifted-out x t (l tt) h) ∙ no-sign s)
+    go false l k = from-one s x t (k tt) hi h
+
 -- ---- by the pattern
 by-fields : (s : Bool) (b : ℕ) → leb (2 ^ 31) b ≡ s → ofBits binary32 b ≡ ofFields binary32 s (b % 2 ^ 31 / 2 ^ 23) (b % 2 ^ 23)
 by-fields s b e = ofBits-is b ∙ ap (λ (s : Bool). ofFields binary32 s (b % 2 ^ 31 / 2 ^ 23) (b % 2 ^ 23)) e
-
-last : (b : ℕ) → b % 2 ^ 23 < 2 ^ 23
-last b = omega arith
-
-pub cut-below : (b : ℕ) → b % 2 ^ 31 < 0x3f80_0000 → truncOf (ofBits binary32 b) ≡ pos 0
-cut-below b h = ap truncOf (ofBits-is b) ∙ below-one (leb (2 ^ 31) b) (b % 2 ^ 31 / 2 ^ 23) (b % 2 ^ 23) (omega arith) (last b)
 
 pub cut-end : (s : Bool) (b : ℕ) → leb (2 ^ 31) b ≡ s → 0x4f00_0000 ≤ b % 2 ^ 31 → T (not (isNan (ofBits binary32 b))) → truncOf (ofBits binary32 b) ≡ end s
 cut-end s b e h n =
@@ -154,18 +160,19 @@ cut-end s b e h n =
     high : (b : ℕ) → b % 2 ^ 31 / 2 ^ 23 ≤ 255
     high b = omega arith
 
-pub record Cut (b : ℕ) : Type 0 where
-  pub under : shifted (b % 2 ^ 31 / 2 ^ 23) (b % 2 ^ 23) < 2147483648
-  pub is : (s : Bool) → leb (2 ^ 31) b ≡ s → truncOf (ofBits binary32 b) ≡ signed s (shifted (b % 2 ^ 31 / 2 ^ 23) (b % 2 ^ 23))
+-- w is the whole part of the value of b, and an i32
+pub record Cut (b w : ℕ) : Type 0 where
+  pub under : w < 2147483648
+  pub is : (s : Bool) → leb (2 ^ 31) b ≡ s → truncOf (ofBits binary32 b) ≡ signed s w
 
-pub cut-between : (b : ℕ) → 0x3f80_0000 ≤ b % 2 ^ 31 → b % 2 ^ 31 < 0x4f00_0000 → Cut b
-cut-between b lo hi = record {
-    under = shifted-lt (b % 2 ^ 31 / 2 ^ 23) (b % 2 ^ 23) (high b hi) (last b);
-    is = λ s e. ap truncOf (by-fields s b e) ∙ between s (b % 2 ^ 31 / 2 ^ 23) (b % 2 ^ 23) (low b lo) (high b hi) (last b);
+pub cut-under : (b : ℕ) → b % 2 ^ 31 < 0x4f00_0000 → Cut b (shifted (b % 2 ^ 31 / 2 ^ 23) (b % 2 ^ 23))
+cut-under b h = record {
+    under = shifted-lt (b % 2 ^ 31 / 2 ^ 23) (b % 2 ^ 23) (field b h) (last b);
+    is = λ s e. ap truncOf (by-fields s b e) ∙ below-end s (b % 2 ^ 31 / 2 ^ 23) (b % 2 ^ 23) (field b h) (last b);
   }
   where
-    low : (b : ℕ) → 0x3f80_0000 ≤ b % 2 ^ 31 → 127 ≤ b % 2 ^ 31 / 2 ^ 23
-    low b h = omega arith
+    field : (b : ℕ) → b % 2 ^ 31 < 0x4f00_0000 → b % 2 ^ 31 / 2 ^ 23 < 158
+    field b h = omega arith
 
-    high : (b : ℕ) → b % 2 ^ 31 < 0x4f00_0000 → b % 2 ^ 31 / 2 ^ 23 < 158
-    high b h = omega arith
+    last : (b : ℕ) → b % 2 ^ 23 < 2 ^ 23
+    last b = omega arith

@@ -2,7 +2,7 @@
 use borrow.Author.Needs.{needs}
 use mathlib.Core.Path.{_≡_, refl, sym, ap, _∙_, subst}
 use mathlib.Core.Bool.{true, false, not}
-use Prim.Native.Nat.{ℕ, zero, suc, _-_, _%_, _/_, _^_, _≤_, _<_}
+use Prim.Native.Nat.{ℕ, zero, suc, _+_, _*_, _%_, _/_, _^_, _≤_, _<_}
 use native.Mathlib.Omega.{arith}
 use lib.IntN.{ℤ, pos, negℤ, _-ℤ_, +ℤ-idl}
 use lib.Dec.{T, leb, le→leb}
@@ -15,7 +15,7 @@ use lib.Ieee.{Float, nan, binary32, fits, isNan, ofBits, toBits}
 use lib.Ieee.Bits.{is-true, is-false, ofBits-toBits}
 use Rattle.scalar.specs.Scalar.{truncOf}
 use Rattle.scalar.proofs.Nan.{differs, not-nan}
-use Rattle.scalar.proofs.Truncation.{Cut, cut-below, cut-end, cut-between, shifted}
+use Rattle.scalar.proofs.Truncation.{Cut, cut-end, cut-under}
 use Rattle.scalar.proofs.trunc.Statement.{statement}
 use Rattle.scalar.proofs.trunc.Tie as tie
 
@@ -47,32 +47,35 @@ minus : (b : ℕ) → 2 ^ 31 ≤ b → leb (2 ^ 31) b ≡ true
 minus b h = is-true (leb (2 ^ 31) b) (le→leb (2 ^ 31) b h)
 
 returns-2 : tie.Need-returns-2
-returns-2 c = let s = c .before .before in sym (cut-below (b s) (c .if2 .taken)) ∙ ap truncOf (is s)
+returns-2 c = let s = c .before .before .before in sym (cut-end false (b s) (plus (b s) (c .if3 .taken)) (c .before .if2 .taken) (number (c .before .before))) ∙ ap truncOf (is s)
 
 returns-3 : tie.Need-returns-3
-returns-3 c = let s = c .before .before .before .before in sym (cut-end false (b s) (plus (b s) (c .if4 .taken)) (c .before .if3 .taken) (number (c .before .before .before))) ∙ ap truncOf (is s)
+returns-3 c = let s = c .before .before .before in sym (cut-end true (b s) (minus (b s) (c .if3 .left)) (c .before .if2 .taken) (number (c .before .before))) ∙ ap truncOf (is s)
 
-returns-4 : tie.Need-returns-4
-returns-4 c = let s = c .before .before .before .before in sym (cut-end true (b s) (minus (b s) (c .if4 .left)) (c .before .if3 .taken) (number (c .before .before .before))) ∙ ap truncOf (is s)
+mul-digits : tie.Need-mul-digits
+mul-digits c = search needs
 
-mul-whole : tie.Need-mul-whole
-mul-whole c = search needs
+add-digits : tie.Need-add-digits
+add-digits c = search needs
 
-add-whole : tie.Need-add-whole
-add-whole c = search needs
+cast-whole : tie.Need-cast-whole
+cast-whole c = search needs
 
-sub-whole : tie.Need-sub-whole
-sub-whole c = search needs
+places-requires : tie.Need-places-requires
+places-requires c κs = search needs
+
+cast-whole-2 : tie.Need-cast-whole-2
+cast-whole-2 c = search needs
 
 shr-whole : tie.Need-shr-whole
 shr-whole c = search needs
 
 -- the whole part, which is an i32 with either sign
-cut : (c : tie.Else3) → Cut (b (c .before .before .before))
-cut c = cut-between (b (c .before .before .before)) (c .before .if2 .left) (c .if3 .left)
+abbrev whole : tie.Start → ℕ → ℕ
+whole s k = (2147483648 + b s % 2 ^ 23 * 256) / 2 ^ k
 
-abbrev whole : tie.Start → ℕ
-whole s = shifted (b s % 2 ^ 31 / 2 ^ 23) (b s % 2 ^ 23)
+cut : (c : tie.After-places) → Cut (b (c .before .before .before)) (whole (c .before .before .before) (c .places .result))
+cut c = let s = c .before .before .before in subst (λ (k : ℕ). Cut (b s) (whole s k)) (sym (c .places .ensures)) (cut-under (b s) (c .before .if2 .left))
 
 negated-in : (n : ℕ) → n < 2 ^ 31 → mag (negℤ (pos n)) < 2 ^ 31
 negated-in zero h = h
@@ -87,24 +90,25 @@ turned-fits n h = record { sfits = subst (λ (z : ℤ). mag z < 2 ^ 31) (sym (tu
 cast-result : tie.Need-cast-result
 cast-result c = record { sfits = cut (c .before) .under }
 
-returns-5 : tie.Need-returns-5
-returns-5 c =
+returns-4 : tie.Need-returns-4
+returns-4 c =
     let s = c .before .before .before .before in
-    toZ-pos w32 (cut (c .before) .under) ∙ sym (cut (c .before) .is false (plus (b s) (c .if5 .taken))) ∙ ap truncOf (is s)
+    toZ-pos w32 (cut (c .before) .under) ∙ sym (cut (c .before) .is false (plus (b s) (c .if4 .taken))) ∙ ap truncOf (is s)
 
 cast-result-2 : tie.Need-cast-result-2
 cast-result-2 c = record { sfits = cut (c .before) .under }
 
 sub-result : tie.Need-sub-result
-sub-result c = let s = c .before .before .before .before in turned-fits (whole s) (cut (c .before) .under)
+sub-result c = turned-fits (whole (c .before .before .before .before) (c .before .places .result)) (cut (c .before) .under)
 
-returns-6 : tie.Need-returns-6
-returns-6 c =
+returns-5 : tie.Need-returns-5
+returns-5 c =
     let s = c .before .before .before .before in
+    let w = whole s (c .before .places .result) in
     let h = cut (c .before) .under in
-    toZ-ofZ (turned-fits (whole s) h) ∙ turned (whole s) h ∙ sym (cut (c .before) .is true (minus (b s) (c .if5 .left))) ∙ ap truncOf (is s)
+    toZ-ofZ (turned-fits w h) ∙ turned w h ∙ sym (cut (c .before) .is true (minus (b s) (c .if4 .left))) ∙ ap truncOf (is s)
 
 pub trunc-spec : {M : Type 1} → statement M
 trunc-spec =
     tie.close
-    (tie.spec returns float-to-bits-b returns-2 returns-3 returns-4 mul-whole add-whole sub-whole shr-whole cast-result returns-5 cast-result-2 sub-result returns-6)
+    (tie.spec returns float-to-bits-b returns-2 returns-3 mul-digits add-digits cast-whole places-requires cast-whole-2 shr-whole cast-result returns-4 cast-result-2 sub-result returns-5)
