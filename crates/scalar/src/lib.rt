@@ -3,6 +3,7 @@
 mod root;
 
 ghost use mathlib.Core.Path.{_≡_};
+ghost use Prim.Native.Nat.{_-_, _≤_, min as least};
 ghost use lib.Ieee.{binary32, ofBits, toBits};
 ghost use Rattle.scalar.specs.Scalar.{minOf, maxOf, absOf, truncOf};
 ghost use Rattle.scalar.specs.Root.{sqrtOf};
@@ -68,20 +69,41 @@ pub fn abs(x: f32) -> f32
     x
 }
 
-// The Rust's `x as i32`. The cast of what is left after the tests loses only the fraction.
+// How far 32 digits are shifted down for the whole part to be left, by the exponent's field: out of
+// a word of 64 at most, where the float is below 1 and none is left.
+fn places(field: u32) -> u32
+    requires { ⌜ field ≤ 158 ⌝ }
+    ensures { λ r. ⌜ r ≡ least (158 - field) 63 ⌝ }
+{
+    if field < 95 {
+        return 63;
+    }
+    158 - field
+}
+
+// The Rust's `x as i32`, from the pattern of x: its leading digit and the 23 that follow, at the top
+// of 32, are shifted down until only the whole part is left.
 pub fn trunc(x: f32) -> i32
     ensures { λ r. ⌜ r ≡ truncOf x ⌝ }
 {
     if x != x {
         return 0;
     }
-    if x >= 2147483648.0 {
-        return 2147483647;
-    }
-    if x < -2147483648.0 {
+    let b = f32::to_bits(x);
+    let size = b % 0x8000_0000;
+    // from 2^31 on, the infinities too
+    if size >= 0x4f00_0000 {
+        if b < 0x8000_0000 {
+            return 2147483647;
+        }
         return -2147483648;
     }
-    std::num::truncating_f32_to_i64(x) as i32
+    let digits = 0x8000_0000 + b % 0x80_0000 * 256;
+    let whole = digits as u64 >> places(size / 0x80_0000);
+    if b < 0x8000_0000 {
+        return whole as i32;
+    }
+    -(whole as i32)
 }
 
 // The square root, correctly rounded: NaN of NaN and below zero, either zero of itself.

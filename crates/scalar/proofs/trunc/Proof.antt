@@ -1,28 +1,23 @@
--- `scalar::trunc` meets its contract: each way out is a lemma of `proofs/Truncation.antt`. Assumes nothing.
+-- `scalar::trunc` meets its contract: each way out is a lemma of `proofs/Truncation.antt`, at the pattern of x. Assumes nothing.
+use borrow.Author.Needs.{needs}
 use mathlib.Core.Path.{_≡_, refl, sym, ap, _∙_, subst}
-use mathlib.Core.Bool.{true, false}
-use lib.IntN.{ℤ, pos}
-use Prim.Native.Nat.{_^_, _<_}
-use native.Mathlib.Nat.{lt-trans}
-use lib.Dec.{lit<}
+use mathlib.Core.Bool.{true, false, not}
+use Prim.Native.Nat.{ℕ, zero, suc, _+_, _*_, _%_, _/_, _^_, _≤_, _<_}
+use native.Mathlib.Omega.{arith}
+use lib.IntN.{ℤ, pos, negℤ, _-ℤ_, +ℤ-idl}
+use lib.Dec.{T, leb, le→leb}
+use lib.Arith.{lt→nleb}
 use lib.Signed.{mag}
-use mir.Syntax.{w32, w64}
+use mir.Syntax.{w32}
 use mir.Val.{SFits, toZ, ofZ}
-use mir.Facts.{toZ-ofZ}
-use lib.Ieee.{Float, nan, fin, binary32, ofBits, neg}
+use mir.Facts.{toZ-ofZ, toZ-pos}
+use lib.Ieee.{Float, nan, binary32, fits, isNan, ofBits, toBits}
+use lib.Ieee.Bits.{is-true, is-false, ofBits-toBits}
 use Rattle.scalar.specs.Scalar.{truncOf}
-use Rattle.scalar.proofs.Nan.{differs}
-use Rattle.scalar.proofs.Truncation.{Inside, inside, from-top, under-bottom, trunc-fits}
+use Rattle.scalar.proofs.Nan.{differs, not-nan}
+use Rattle.scalar.proofs.Truncation.{Cut, cut-end, cut-under}
 use Rattle.scalar.proofs.trunc.Statement.{statement}
 use Rattle.scalar.proofs.trunc.Tie as tie
-
-top-is : ofBits binary32 0x4f00_0000 ≡ fin false 1 (pos 31)
-unfolding ofBits
-top-is = refl
-
-bottom-is : neg (ofBits binary32 0x4f00_0000) ≡ fin true 1 (pos 31)
-unfolding ofBits neg
-bottom-is = refl
 
 nan-cut : pos 0 ≡ truncOf nan
 unfolding truncOf
@@ -31,37 +26,89 @@ nan-cut = refl
 returns : tie.Need-returns
 returns c = nan-cut ∙ ap truncOf (sym (differs (c .before .args .x) (c .if1 .taken)))
 
+float-to-bits-b : tie.Need-float-to-bits-b
+float-to-bits-b c = not-nan (c .before .args .x) (c .if1 .left)
+
+-- what owning an f32 tells: the format holds it. So x is what its pattern stands for
+abbrev b : tie.Start → ℕ
+b c = toBits binary32 (c .args .x)
+
+is : (c : tie.Start) → ofBits binary32 (b c) ≡ c .args .x
+is c = ofBits-toBits binary32 (c .args .x) (subst T (sym (c .good .0 .1)) tt)
+
+number : (c : tie.Else1) → T (not (isNan (ofBits binary32 (b (c .before)))))
+number c = subst (λ (v : Float). T (not (isNan v))) (sym (is (c .before))) (not-nan (c .before .args .x) (c .if1 .left))
+
+-- the sign, as the code tests it
+plus : (b : ℕ) → b < 2 ^ 31 → leb (2 ^ 31) b ≡ false
+plus b h = is-false (leb (2 ^ 31) b) (lt→nleb (2 ^ 31) b h)
+
+minus : (b : ℕ) → 2 ^ 31 ≤ b → leb (2 ^ 31) b ≡ true
+minus b h = is-true (leb (2 ^ 31) b) (le→leb (2 ^ 31) b h)
+
 returns-2 : tie.Need-returns-2
-returns-2 c = from-top (c .before .before .args .x) (rw top-is at (c .if2 .taken))
+returns-2 c = let s = c .before .before .before in sym (cut-end false (b s) (plus (b s) (c .if3 .taken)) (c .before .if2 .taken) (number (c .before .before))) ∙ ap truncOf (is s)
 
 returns-3 : tie.Need-returns-3
-returns-3 c = under-bottom (c .before .before .before .args .x) (rw bottom-is at (c .if3 .taken))
+returns-3 c = let s = c .before .before .before in sym (cut-end true (b s) (minus (b s) (c .if3 .left)) (c .before .if2 .taken) (number (c .before .before))) ∙ ap truncOf (is s)
 
-between : (c : tie.Else3) → Inside (c .before .before .before .args .x)
-between c = inside (c .before .before .before .args .x) (c .before .before .if1 .left) (rw top-is at (c .before .if2 .left)) (rw bottom-is at (c .if3 .left))
+mul-digits : tie.Need-mul-digits
+mul-digits c = search needs
 
-truncating-f32-to-i64-requires : tie.Need-truncating-f32-to-i64-requires
-truncating-f32-to-i64-requires c κs = (between c .low, between c .high)
+add-digits : tie.Need-add-digits
+add-digits c = search needs
 
--- the callee's result is the answer, and both words hold it
-module _ (c : tie.After-truncating-f32-to-i64) where
-  abbrev x : Float
-  x = c .before .before .before .before .args .x
+cast-whole : tie.Need-cast-whole
+cast-whole c = search needs
 
-  result-is : c .truncating-f32-to-i64 .result ≡ truncOf x
-  result-is = c .truncating-f32-to-i64 .ensures ∙ between (c .before) .same
+places-requires : tie.Need-places-requires
+places-requires c κs = search needs
 
-  narrow : SFits w32 (c .truncating-f32-to-i64 .result)
-  narrow = record { sfits = subst (λ (z : ℤ). mag z < 2 ^ 31) (sym result-is) (trunc-fits x) }
+cast-whole-2 : tie.Need-cast-whole-2
+cast-whole-2 c = search needs
 
-  read-back : toZ w64 (ofZ w64 (c .truncating-f32-to-i64 .result)) ≡ c .truncating-f32-to-i64 .result
-  read-back = toZ-ofZ (record { sfits = lt-trans (narrow .sfits) (lit< tt) })
+shr-whole : tie.Need-shr-whole
+shr-whole c = search needs
+
+-- the whole part, which is an i32 with either sign
+abbrev whole : tie.Start → ℕ → ℕ
+whole s k = (2147483648 + b s % 2 ^ 23 * 256) / 2 ^ k
+
+cut : (c : tie.After-places) → Cut (b (c .before .before .before)) (whole (c .before .before .before) (c .places .result))
+cut c = let s = c .before .before .before in subst (λ (k : ℕ). Cut (b s) (whole s k)) (sym (c .places .ensures)) (cut-under (b s) (c .before .if2 .left))
+
+negated-in : (n : ℕ) → n < 2 ^ 31 → mag (negℤ (pos n)) < 2 ^ 31
+negated-in zero h = h
+negated-in (suc n) h = omega arith
+
+turned : (n : ℕ) → n < 2 ^ 31 → pos 0 -ℤ toZ w32 n ≡ negℤ (pos n)
+turned n h = ap (λ (z : ℤ). pos 0 -ℤ z) (toZ-pos w32 h) ∙ +ℤ-idl (negℤ (pos n))
+
+turned-fits : (n : ℕ) → n < 2 ^ 31 → SFits w32 (pos 0 -ℤ toZ w32 n)
+turned-fits n h = record { sfits = subst (λ (z : ℤ). mag z < 2 ^ 31) (sym (turned n h)) (negated-in n h) }
 
 cast-result : tie.Need-cast-result
-cast-result c = subst (λ (z : ℤ). SFits w32 z) (sym (read-back c)) (narrow c)
+cast-result c = record { sfits = cut (c .before) .under }
 
 returns-4 : tie.Need-returns-4
-returns-4 c = ap (λ (z : ℤ). toZ w32 (ofZ w32 z)) (read-back c) ∙ toZ-ofZ (narrow c) ∙ result-is c
+returns-4 c =
+    let s = c .before .before .before .before in
+    toZ-pos w32 (cut (c .before) .under) ∙ sym (cut (c .before) .is false (plus (b s) (c .if4 .taken))) ∙ ap truncOf (is s)
+
+cast-result-2 : tie.Need-cast-result-2
+cast-result-2 c = record { sfits = cut (c .before) .under }
+
+sub-result : tie.Need-sub-result
+sub-result c = turned-fits (whole (c .before .before .before .before) (c .before .places .result)) (cut (c .before) .under)
+
+returns-5 : tie.Need-returns-5
+returns-5 c =
+    let s = c .before .before .before .before in
+    let w = whole s (c .before .places .result) in
+    let h = cut (c .before) .under in
+    toZ-ofZ (turned-fits w h) ∙ turned w h ∙ sym (cut (c .before) .is true (minus (b s) (c .if4 .left))) ∙ ap truncOf (is s)
 
 pub trunc-spec : {M : Type 1} → statement M
-trunc-spec = tie.close (tie.spec returns returns-2 returns-3 truncating-f32-to-i64-requires cast-result returns-4)
+trunc-spec =
+    tie.close
+    (tie.spec returns float-to-bits-b returns-2 returns-3 mul-digits add-digits cast-whole places-requires cast-whole-2 shr-whole cast-result returns-4 cast-result-2 sub-result returns-5)
