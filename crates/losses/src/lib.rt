@@ -87,8 +87,9 @@ fn cusp(mut f: Factors, ion: Ionogram, d: Decay, ih: usize) -> Factors
     let next = ih + 1;
     let after = ih + 2;
     let hm = ion.hprim[after] - ion.htrue[after];
-    let r = cusp_loss(f.cf, ion.htrue[ih], ion.hprim[ih], d, hm);
-    let t = cusp_loss(f.cf, ion.htrue[next], ion.hprim[next], d, hm);
+    let a = f.cf;
+    let r = cusp_loss(a, ion.htrue[ih], ion.hprim[ih], d, hm);
+    let t = cusp_loss(a, ion.htrue[next], ion.hprim[next], d, hm);
     f.cf = t.cf;
     f.afac[ih] = r.a;
     f.afac[next] = t.a;
@@ -96,15 +97,7 @@ fn cusp(mut f: Factors, ion: Ionogram, d: Decay, ih: usize) -> Factors
     f
 }
 
-fn tail_loss(
-    cf: f32,
-    htrue: f32,
-    hprim: f32,
-    htmuf: f32,
-    hm: f32,
-    d: Decay,
-    floor: f32,
-) -> Loss
+fn tail_loss(cf: f32, htrue: f32, hprim: f32, htmuf: f32, hm: f32, d: Decay, floor: f32) -> Loss
     ensures { λ r. ⌜ r ≡ tailLoss cf htrue hprim htmuf hm d floor ⌝ }
 {
     if htrue - htmuf <= 0.0 {
