@@ -19,6 +19,7 @@ use Rattle.ionogram.specs.declared.Ionogram.{Ionogram}
 use Rattle.ionogram.specs.declared.IonogramAnswer.{IonogramAnswer}
 use Rattle.losses.specs.declared.Factors.{Factors}
 use Rattle.losses.specs.declared.Decay.{Decay}
+use Rattle.losses.specs.declared.Loss.{Loss}
 
 -- a * e ^ zexp, with zexp = -2 * (htrue - hz) / y, and at least -10
 unfoldable pub decayOf : Float → Decay → Float → Float
@@ -27,26 +28,29 @@ decayOf a d htrue =
     a *f expOf zexp
 
 -- c * (hprim - htrue - hm)
-unfoldable pub factorOf : Float → Ionogram → ℕ → Float → Float
-factorOf c ion ih hm = c *f (at (ion .hprim) ih -f at (ion .htrue) ih -f hm)
+unfoldable pub factorOf : Float → Float → Float → Float → Float
+factorOf c htrue hprim hm = c *f (hprim -f htrue -f hm)
 
-unfoldable pub stored : Factors → ℕ → Float → Float → Factors
-stored f ih cf a = record { cf = cf; afac = set (f .afac) ih a }
+unfoldable pub stored : Factors → ℕ → Loss → Factors
+stored f ih r = record { cf = r .cf; afac = set (f .afac) ih (r .a) }
 
--- the height at the layer's MUF, and the virtual height's excess there
+-- the virtual height's excess at the layer's MUF
 abbrev pub excess : LayerMuf → Float
 excess l = l .hpmuf -f l .htmuf
 
 -- ---- E layer: rows 0 to 9, of which cf keeps the last constant worked out
 
-abbrev pub eRowBy : Bool → Factors → Ionogram → LayerMuf → Decay → ℕ → Factors
-eRowBy true f ion l d ih = stored f ih (f .cf) f0
-eRowBy false f ion l d ih =
-    let cf = decayOf f0·2 d (at (ion .htrue) ih) in
-    stored f ih cf (factorOf cf ion ih (excess l))
+abbrev pub eLossBy : Bool → Float → Float → Float → Float → Decay → Loss
+eLossBy true cf htrue hprim hm d = record { cf = cf; a = f0 }
+eLossBy false cf htrue hprim hm d =
+    let c = decayOf f0·2 d htrue in
+    record { cf = c; a = factorOf c htrue hprim hm }
 
-unfoldable pub eRow : Factors → Ionogram → LayerMuf → Decay → ℕ → Factors
-eRow f ion l d ih = eRowBy (at (ion .htrue) ih -f l .htmuf ≤f f0) f ion l d ih
+unfoldable pub eLoss : Float → Float → Float → Float → Float → Decay → Loss
+eLoss cf htrue hprim htmuf hm d = eLossBy (htrue -f htmuf ≤f f0) cf htrue hprim hm d
+
+abbrev pub eRow : Factors → Ionogram → LayerMuf → Decay → ℕ → Factors
+eRow f ion l d ih = stored f ih (eLoss (f .cf) (at (ion .htrue) ih) (at (ion .hprim) ih) (l .htmuf) (excess l) d)
 
 unfoldable pub eRows : Factors → Ionogram → LayerMuf → Decay → ℕ → Factors
 eRows f ion l d zero = f
@@ -54,28 +58,34 @@ eRows f ion l d (suc n) = eRow (eRows f ion l d n) ion l d n
 
 -- ---- a cusp: two rows from `ih`, whose constant starts from that of the rows below, and a zero row after them
 
-unfoldable pub cuspRow : Factors → Ionogram → Float → Decay → Float → ℕ → Factors
-cuspRow f ion a d hm ih =
-    let c = maxOf (decayOf a d (at (ion .htrue) ih)) f0·05 in
-    stored f ih c (factorOf c ion ih hm)
+unfoldable pub cuspLoss : Float → Float → Float → Decay → Float → Loss
+cuspLoss a htrue hprim d hm =
+    let c = maxOf (decayOf a d htrue) f0·05 in
+    record { cf = c; a = factorOf c htrue hprim hm }
+
+abbrev pub cuspRow : Factors → Ionogram → Float → Decay → Float → ℕ → Factors
+cuspRow f ion a d hm ih = stored f ih (cuspLoss a (at (ion .htrue) ih) (at (ion .hprim) ih) d hm)
 
 unfoldable pub cuspOf : Factors → Ionogram → Decay → ℕ → Factors
 cuspOf f ion d ih =
     let a = f .cf in
     let hm = at (ion .hprim) (ih + 2) -f at (ion .htrue) (ih + 2) in
     let g = cuspRow (cuspRow f ion a d hm ih) ion a d hm (ih + 1) in
-    stored g (ih + 2) (g .cf) f0
+    stored g (ih + 2) (record { cf = g .cf; a = f0 })
 
 -- ---- the n rows of a layer from row `first` on: zero up to the height at its MUF; cf keeps the last constant worked out
 
-abbrev pub tailRowBy : Bool → Factors → Ionogram → LayerMuf → Decay → Float → ℕ → Factors
-tailRowBy true f ion l d floor ih = stored f ih (f .cf) f0
-tailRowBy false f ion l d floor ih =
-    let c = maxOf (decayOf f0·1 d (at (ion .htrue) ih)) floor in
-    stored f ih c (factorOf c ion ih (excess l))
+abbrev pub tailLossBy : Bool → Float → Float → Float → Float → Decay → Float → Loss
+tailLossBy true cf htrue hprim hm d floor = record { cf = cf; a = f0 }
+tailLossBy false cf htrue hprim hm d floor =
+    let c = maxOf (decayOf f0·1 d htrue) floor in
+    record { cf = c; a = factorOf c htrue hprim hm }
 
-unfoldable pub tailRow : Factors → Ionogram → LayerMuf → Decay → Float → ℕ → Factors
-tailRow f ion l d floor ih = tailRowBy (at (ion .htrue) ih -f l .htmuf ≤f f0) f ion l d floor ih
+unfoldable pub tailLoss : Float → Float → Float → Float → Float → Decay → Float → Loss
+tailLoss cf htrue hprim htmuf hm d floor = tailLossBy (htrue -f htmuf ≤f f0) cf htrue hprim hm d floor
+
+abbrev pub tailRow : Factors → Ionogram → LayerMuf → Decay → Float → ℕ → Factors
+tailRow f ion l d floor ih = stored f ih (tailLoss (f .cf) (at (ion .htrue) ih) (at (ion .hprim) ih) (l .htmuf) (excess l) d floor)
 
 unfoldable pub tailRows : Factors → Ionogram → LayerMuf → Decay → Float → ℕ → ℕ → Factors
 tailRows f ion l d floor first zero = f

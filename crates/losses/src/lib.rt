@@ -2,7 +2,7 @@
 // reflections from above the height at each layer's MUF.
 ghost use mathlib.Core.Path.{_≡_};
 ghost use Prim.Native.Nat.{_+_, _<_, _≤_};
-ghost use Rattle.losses.specs.Alosfv.{decayOf, factorOf, stored, eRow, eRows, cuspRow, cuspOf, tailRow, tailRows, withoutF1, withF1, aboveOf, notBelowZero, notBelowZeros, withAfac, alosfvOf, alosfvAnswer};
+ghost use Rattle.losses.specs.Alosfv.{decayOf, factorOf, eLoss, eRows, cuspLoss, cuspOf, tailLoss, tailRows, withoutF1, withF1, aboveOf, notBelowZero, notBelowZeros, withAfac, alosfvOf, alosfvAnswer};
 use ionogram::Ionogram;
 use ionogram::IonogramAnswer;
 use layers::IonoState;
@@ -14,6 +14,12 @@ use refusal::Refusal;
 pub struct Factors {
     pub cf: f32,
     pub afac: [f32; 30],
+}
+
+// One row's factor, and the last constant worked out up to it.
+pub struct Loss {
+    pub cf: f32,
+    pub a: f32,
 }
 
 // How the constant falls with the height: from the height hz, by the semithickness y.
@@ -29,31 +35,25 @@ fn decayed(a: f32, d: Decay, htrue: f32) -> f32
     a * exponential::exp(zexp)
 }
 
-fn factor(c: f32, ion: Ionogram, ih: usize, hm: f32) -> f32
-    requires { ⌜ ih < 30 ⌝ }
-    ensures { λ r. ⌜ r ≡ factorOf c ion ih hm ⌝ }
+fn factor(c: f32, htrue: f32, hprim: f32, hm: f32) -> f32
+    ensures { λ r. ⌜ r ≡ factorOf c htrue hprim hm ⌝ }
 {
-    c * (ion.hprim[ih] - ion.htrue[ih] - hm)
+    c * (hprim - htrue - hm)
 }
 
-fn store(mut f: Factors, ih: usize, cf: f32, a: f32) -> Factors
-    requires { ⌜ ih < 30 ⌝ }
-    ensures { λ r. ⌜ r ≡ stored f ih cf a ⌝ }
+// Of a row's two heights. By numbers, as every row's below: an ionogram handed down for each row would
+// be copied each time.
+fn e_loss(cf: f32, htrue: f32, hprim: f32, htmuf: f32, hm: f32, d: Decay) -> Loss
+    ensures { λ r. ⌜ r ≡ eLoss cf htrue hprim htmuf hm d ⌝ }
 {
-    f.cf = cf;
-    f.afac[ih] = a;
-    f
-}
-
-fn e_row(f: Factors, ion: Ionogram, l: LayerMuf, d: Decay, ih: usize) -> Factors
-    requires { ⌜ ih < 30 ⌝ }
-    ensures { λ r. ⌜ r ≡ eRow f ion l d ih ⌝ }
-{
-    if ion.htrue[ih] - l.htmuf <= 0.0 {
-        return store(f, ih, f.cf, 0.0);
+    if htrue - htmuf <= 0.0 {
+        return Loss { cf, a: 0.0 };
     }
-    let cf = decayed(0.2, d, ion.htrue[ih]);
-    store(f, ih, cf, factor(cf, ion, ih, l.hpmuf - l.htmuf))
+    let c = decayed(0.2, d, htrue);
+    Loss {
+        cf: c,
+        a: factor(c, htrue, hprim, hm),
+    }
 }
 
 fn e_rows(f: Factors, ion: Ionogram, l: LayerMuf, d: Decay) -> Factors
@@ -61,39 +61,53 @@ fn e_rows(f: Factors, ion: Ionogram, l: LayerMuf, d: Decay) -> Factors
 {
     let mut g = f;
     for ih in 0..10 {
-        g = e_row(g, ion, l, d, ih);
+        let hm = l.hpmuf - l.htmuf;
+        let r = e_loss(g.cf, ion.htrue[ih], ion.hprim[ih], l.htmuf, hm, d);
+        g.cf = r.cf;
+        g.afac[ih] = r.a;
     }
     g
 }
 
-fn cusp_row(f: Factors, ion: Ionogram, a: f32, d: Decay, hm: f32, ih: usize) -> Factors
-    requires { ⌜ ih < 30 ⌝ }
-    ensures { λ r. ⌜ r ≡ cuspRow f ion a d hm ih ⌝ }
+fn cusp_loss(a: f32, htrue: f32, hprim: f32, d: Decay, hm: f32) -> Loss
+    ensures { λ r. ⌜ r ≡ cuspLoss a htrue hprim d hm ⌝ }
 {
-    let c = scalar::max(decayed(a, d, ion.htrue[ih]), 0.05);
-    store(f, ih, c, factor(c, ion, ih, hm))
+    let c = scalar::max(decayed(a, d, htrue), 0.05);
+    Loss {
+        cf: c,
+        a: factor(c, htrue, hprim, hm),
+    }
 }
 
 // Continuity at a cusp between two layers.
-fn cusp(f: Factors, ion: Ionogram, d: Decay, ih: usize) -> Factors
+fn cusp(mut f: Factors, ion: Ionogram, d: Decay, ih: usize) -> Factors
     requires { ⌜ ih < 28 ⌝ }
     ensures { λ r. ⌜ r ≡ cuspOf f ion d ih ⌝ }
 {
+    let next = ih + 1;
     let after = ih + 2;
     let hm = ion.hprim[after] - ion.htrue[after];
-    let g = cusp_row(cusp_row(f, ion, f.cf, d, hm, ih), ion, f.cf, d, hm, ih + 1);
-    store(g, after, g.cf, 0.0)
+    let a = f.cf;
+    let r = cusp_loss(a, ion.htrue[ih], ion.hprim[ih], d, hm);
+    let t = cusp_loss(a, ion.htrue[next], ion.hprim[next], d, hm);
+    f.cf = t.cf;
+    f.afac[ih] = r.a;
+    f.afac[next] = t.a;
+    f.afac[after] = 0.0;
+    f
 }
 
-fn tail_row(f: Factors, ion: Ionogram, l: LayerMuf, d: Decay, floor: f32, ih: usize) -> Factors
-    requires { ⌜ ih < 30 ⌝ }
-    ensures { λ r. ⌜ r ≡ tailRow f ion l d floor ih ⌝ }
+fn tail_loss(cf: f32, htrue: f32, hprim: f32, htmuf: f32, hm: f32, d: Decay, floor: f32) -> Loss
+    ensures { λ r. ⌜ r ≡ tailLoss cf htrue hprim htmuf hm d floor ⌝ }
 {
-    if ion.htrue[ih] - l.htmuf <= 0.0 {
-        return store(f, ih, f.cf, 0.0);
+    if htrue - htmuf <= 0.0 {
+        return Loss { cf, a: 0.0 };
     }
-    let c = scalar::max(decayed(0.1, d, ion.htrue[ih]), floor);
-    store(f, ih, c, factor(c, ion, ih, l.hpmuf - l.htmuf))
+    let c = scalar::max(decayed(0.1, d, htrue), floor);
+    Loss {
+        cf: c,
+        a: factor(c, htrue, hprim, hm),
+    }
 }
 
 fn tail_rows(
@@ -110,7 +124,11 @@ fn tail_rows(
 {
     let mut g = f;
     for i in 0..n {
-        g = tail_row(g, ion, l, d, floor, first + i);
+        let ih = first + i;
+        let hm = l.hpmuf - l.htmuf;
+        let r = tail_loss(g.cf, ion.htrue[ih], ion.hprim[ih], l.htmuf, hm, d, floor);
+        g.cf = r.cf;
+        g.afac[ih] = r.a;
     }
     g
 }

@@ -1,29 +1,47 @@
 -- After i turns the rows from the first up to first + i are done.
-use mathlib.Core.Path.{_≡_, refl, ap, _∙_}
 use Prim.Native.Nat.{_≤_, _<_, _+_, _-_}
+use borrow.Author.Needs.{needs}
+use mathlib.Core.Path.{_≡_, refl, ap, _∙_}
 use native.Mathlib.Nat.{le-antisymm}
 use native.Mathlib.Numerals.{add-one}
 use native.Mathlib.Omega.{arith}
-use borrow.Author.Needs.{needs}
-use Rattle.losses.specs.Alosfv.{tailRows}
+use Rattle.losses.specs.Alosfv.{stored, tailRows}
 use Rattle.losses.proofs.tail_rows.Statement.{statement}
 use Rattle.losses.proofs.tail_rows.Tie as tie
 
 abbrev Inv-loop : tie.InvT-loop
-Inv-loop ion l d floor first n g₀ i₀ g i = (i ≤ n) × (g ≡ tailRows g₀ ion l d floor first i)
+Inv-loop l d floor first n ion g₀ i₀ g i = (i ≤ n) × (g ≡ tailRows g₀ ion l d floor first i)
 
 abbrev μ-loop : tie.MeasureT-loop
-μ-loop ion l d floor first n g₀ i₀ g i = n - i
+μ-loop l d floor first n ion g₀ i₀ g i = n - i
 
 loop-holds : tie.Need-loop-holds Inv-loop μ-loop
 unfolding tailRows
 loop-holds c = (omega arith, refl)
 
-add-tail-row : tie.Need-add-tail-row Inv-loop μ-loop
-add-tail-row c = omega arith
+add-ih : tie.Need-add-ih Inv-loop μ-loop
+add-ih c = omega arith
 
-tail-row-requires : tie.Need-tail-row-requires Inv-loop μ-loop
-tail-row-requires c κs = search needs
+mul-tail-loss : tie.Need-mul-tail-loss Inv-loop μ-loop
+mul-tail-loss c = omega arith
+
+element-copy-out-tail-loss : tie.Need-element-copy-out-tail-loss Inv-loop μ-loop
+element-copy-out-tail-loss c = omega arith
+
+mul-tail-loss-2 : tie.Need-mul-tail-loss-2 Inv-loop μ-loop
+mul-tail-loss-2 c = omega arith
+
+element-copy-out-tail-loss-2 : tie.Need-element-copy-out-tail-loss-2 Inv-loop μ-loop
+element-copy-out-tail-loss-2 c = omega arith
+
+tail-loss-requires : tie.Need-tail-loss-requires Inv-loop μ-loop
+tail-loss-requires c κs = search needs
+
+mul-g : tie.Need-mul-g Inv-loop μ-loop
+mul-g c = omega arith
+
+element-write-g : tie.Need-element-write-g Inv-loop μ-loop
+element-write-g c = omega arith
 
 add-i : tie.Need-add-i Inv-loop μ-loop
 add-i c = omega arith
@@ -32,8 +50,8 @@ loop-less : tie.Need-loop-less Inv-loop μ-loop
 loop-less c = omega arith
 
 loop-again : tie.Need-loop-again Inv-loop μ-loop
-unfolding tailRows
-loop-again c = (omega arith, rw (add-one _, ← c .before .before .loop .inv .1, ← c .tail-row .ensures))
+unfolding stored tailRows
+loop-again c = (omega arith, rw (add-one _, ← c .before .before .before .before .before .loop .inv .1, ← c .tail-loss .ensures))
 
 returns : tie.Need-returns Inv-loop μ-loop
 returns c = c .before .loop .inv .1 ∙ ap (tailRows _ _ _ _ _ _) (le-antisymm (c .before .loop .inv .0) (c .loop-test .left))
@@ -45,8 +63,14 @@ tail-rows-spec =
     Inv-loop
     μ-loop
     loop-holds
-    add-tail-row
-    tail-row-requires
+    add-ih
+    mul-tail-loss
+    element-copy-out-tail-loss
+    mul-tail-loss-2
+    element-copy-out-tail-loss-2
+    tail-loss-requires
+    mul-g
+    element-write-g
     add-i
     loop-less
     loop-again
