@@ -167,9 +167,9 @@ pub record Cut (b w : ℕ) : Type 0 where
 
 pub cut-under : (b : ℕ) → b % 2 ^ 31 < 0x4f00_0000 → Cut b (shifted (b % 2 ^ 31 / 2 ^ 23) (b % 2 ^ 23))
 cut-under b h = record {
-    under = shifted-lt (b % 2 ^ 31 / 2 ^ 23) (b % 2 ^ 23) (field b h) (last b);
-    is = λ s e. ap truncOf (by-fields s b e) ∙ below-end s (b % 2 ^ 31 / 2 ^ 23) (b % 2 ^ 23) (field b h) (last b);
-  }
+  under = shifted-lt (b % 2 ^ 31 / 2 ^ 23) (b % 2 ^ 23) (field b h) (last b);
+  is = λ s e. ap truncOf (by-fields s b e) ∙ below-end s (b % 2 ^ 31 / 2 ^ 23) (b % 2 ^ 23) (field b h) (last b);
+}
   where
     field : (b : ℕ) → b % 2 ^ 31 < 0x4f00_0000 → b % 2 ^ 31 / 2 ^ 23 < 158
     field b h = omega arith
