@@ -23,7 +23,7 @@ pub record Reduced (n c A q : ℕ) : Type 0 where
   pub x₀ : ℕ
   pub y₀ : ℕ
   pub R : ℕ
-  pub entry : Entry x₀ y₀ A
+  pub entry : Entry 1 x₀ y₀ A
   pub eR : R + y₀ * c ≡ x₀ * n
   pub far : 64 * (c + n) ≤ x₀ * c + y₀ * n
   pub q-low : q * (x₀ * c + y₀ * n) ≤ R * 2 ^ 56
@@ -159,7 +159,7 @@ module _ (n c A q p o v : ℕ) (X : Reduced n c A q) (Z : Sizes A q (cubeOf q) p
       let w = w₁ A q (cubeOf q) p o v Z J (X .most) (X .large) (X .entry .most) small in
       subst (λ (y : ℕ). SinLe y (2 ^ 56) n c) (at₁ A q (cubeOf q) p o v Z J (X .most) (X .large) (X .entry .most) small)
       (below (2 ^ 56) w (w / 2 ^ 33 + 2) (pow-pos 56) (fits₁ A q (cubeOf q) p o v Z J (X .most) (X .large) (X .entry .most) small) (wide-ok w)
-      (X .x₀) (X .y₀) A (X .entry .C) (X .entry .S) (X .entry .a₂) (X .entry .a₃) c n (X .R) q (cubeOf q) (X .entry .fit) (X .eR) (X .far)
+      1 (X .x₀) (X .y₀) A (X .entry .C) (X .entry .S) (X .entry .a₂) (X .entry .a₃) c n (X .R) (X .entry .fit) (X .eR) (omega (arith, X .far)) q (cubeOf q)
       (X .q-low) (cube-high q (le-trans q-fits (lit≤ tt))) (room₁ A q (cubeOf q) p o v Z J (X .most) (X .large) (X .entry .most) small))
 
   pub end-ge : SinGe (64 * p + 60 * v) (2 ^ 56) n c
@@ -168,7 +168,7 @@ module _ (n c A q p o v : ℕ) (X : Reduced n c A q) (Z : Sizes A q (cubeOf q) p
       let F = fits₂ A q (cubeOf q) p o v Z J (X .most) (X .large) (X .entry .most) small in
       subst (λ (y : ℕ). SinGe y (2 ^ 56) n c) (at₂ A q (cubeOf q) p o v Z J (X .most) (X .large) (X .entry .most) small)
       (over (2 ^ 56) w (w / 2 ^ 33 + 2) (pow-pos 56) (F .0) (wide-ok w)
-      (X .x₀) (X .y₀) A (X .entry .C) (X .entry .S) (X .entry .a₂) (X .entry .a₃) c n (X .R) q (cubeOf q) (X .entry .fit) (X .eR) (X .far)
+      1 (X .x₀) (X .y₀) A (X .entry .C) (X .entry .S) (X .entry .a₂) (X .entry .a₃) c n (X .R) (X .entry .fit) (X .eR) (omega (arith, X .far)) q (cubeOf q)
       (q / 2 ^ 29 + 1) (X .q-high) (omega (arith, X .most)) (F .1) (omega (arith, small, Z .o-v, v-large A q (cubeOf q) p o v Z J (X .most) (X .large) (X .entry .most), Z .v-o)) (x-ok q) (cube-low q) (room₂ A q (cubeOf q) p o v Z J (X .most) (X .large) (X .entry .most) small))
 
   -- the angle stays below 2

@@ -32,48 +32,49 @@ sound [] t = tt
 sound (x ∷ []) t = tt
 sound (x ∷ y ∷ r) t = (leb→le x y (and-l (leb x y) (allLe r) t), sound r (and-r (leb x y) (allLe r) t))
 
--- of an angle A whose tangent is y / x
-abbrev rules : (x y A p₀ p₁ p₂ p₃ : ℕ) → List ℕ
-rules x y A p₀ p₁ p₂ p₃ =
+-- of an angle A whose tangent is y / x, these being m times numbers of up to 256 or so
+abbrev rules : (m x y A p₀ p₁ p₂ p₃ : ℕ) → List ℕ
+rules m x y A p₀ p₁ p₂ p₃ =
     p₂ ∷ p₀
     ∷ p₃ ∷ p₁
     ∷ (x * (p₁ - p₃)) ∷ (y * (p₀ - p₂) + 80 * (x + y))
     ∷ (y * (p₀ - p₂)) ∷ (x * (p₁ - p₃) + 80 * (x + y))
     ∷ (p₀ + p₁ + p₂ + p₃) ∷ (512 * 2 ^ 56)
     ∷ (x + y) ∷ (129 * x)
-    ∷ (x * (64 * 2 ^ 56)) ∷ (256 * (p₀ - p₂))
+    ∷ (x * (64 * 2 ^ 56)) ∷ (256 * (m * (p₀ - p₂)))
     ∷ 1 ∷ x
     ∷ A ∷ (2 ^ 57 - 2 ^ 50)
-    ∷ (y * 2 ^ 48) ∷ A
+    ∷ (y * 2 ^ 48) ∷ (m * A)
+    ∷ 1 ∷ m
     ∷ []
 
-unfoldable pub good : (x y A : ℕ) → Bool
+unfoldable pub good : (m x y A : ℕ) → Bool
 unfolding portion
-good x y A = allLe (rules x y A (part 0 A) (part 1 A) (part 2 A) (part 3 A))
+good m x y A = allLe (rules m x y A (part 0 A) (part 1 A) (part 2 A) (part 3 A))
 
-pub angle : (i : ℕ) → i < 128 → T (good 128 i (getD angles i 0))
+pub angle : (i : ℕ) → i < 128 → T (good 1 128 i (getD angles i 0))
 unfolding good angles portion num full class
-angle i h = table.entry (λ i A. good 128 i A) angles tt i h
+angle i h = table.entry (λ i A. good 1 128 i A) angles tt i h
 
-pub steep-angle : (i : ℕ) → i < 129 → T (good (i + 1) 128 (getD steep i 0))
+pub steep-angle : (i : ℕ) → i < 129 → T (good 1 (i + 1) 128 (getD steep i 0))
 unfolding good steep portion num full class
-steep-angle i h = table.entry (λ i A. good (i + 1) 128 A) steep tt i h
+steep-angle i h = table.entry (λ i A. good 1 (i + 1) 128 A) steep tt i h
 
 -- the angle of a table's entry, with what the proof needs of it
-pub record Entry (x₀ y₀ A : ℕ) : Type 0 where
+pub record Entry (m x₀ y₀ A : ℕ) : Type 0 where
   pub C : ℕ
   pub S : ℕ
   pub a₂ : ℕ
   pub a₃ : ℕ
-  pub fit : Angle x₀ y₀ A (2 ^ 56) C S a₂ a₃
+  pub fit : Angle m x₀ y₀ A (2 ^ 56) C S a₂ a₃
   pub most : A ≤ 2 ^ 57 - 2 ^ 50
-  pub least : y₀ * 2 ^ 48 ≤ A
+  pub least : y₀ * 2 ^ 48 ≤ m * A
 
-pub entry : (x y A : ℕ) → T (good x y A) → Entry x y A
+pub entry : (m x y A : ℕ) → T (good m x y A) → Entry m x y A
 unfolding good
-entry x y A t = go (part 0 A) (part 1 A) (part 2 A) (part 3 A) (sharp A) (sound (rules x y A (part 0 A) (part 1 A) (part 2 A) (part 3 A)) t)
+entry m x y A t = go (part 0 A) (part 1 A) (part 2 A) (part 3 A) (sharp A) (sound (rules m x y A (part 0 A) (part 1 A) (part 2 A) (part 3 A)) t)
   where
-    go : (p₀ p₁ p₂ p₃ : ℕ) → (A ≤ 2 ^ 57 → Enc4 A (2 ^ 56) (2 ^ 62) p₀ p₁ p₂ p₃ (p₀ + 2) (p₁ + 2) (p₂ + 2) (p₃ + 2)) → AllLe (rules x y A p₀ p₁ p₂ p₃) → Entry x y A
+    go : (p₀ p₁ p₂ p₃ : ℕ) → (A ≤ 2 ^ 57 → Enc4 A (2 ^ 56) (2 ^ 62) p₀ p₁ p₂ p₃ (p₀ + 2) (p₁ + 2) (p₂ + 2) (p₃ + 2)) → AllLe (rules m x y A p₀ p₁ p₂ p₃) → Entry m x y A
     go p₀ p₁ p₂ p₃ E s₀ =
         let s₄ = s₀ .1 .1 .1 .1 in
         let e₀ : p₂ + (p₀ - p₂) ≡ p₀ = omega (arith, s₀ .0) in
@@ -84,6 +85,7 @@ entry x y A t = go (part 0 A) (part 1 A) (part 2 A) (part 3 A) (sharp A) (sound 
           a₂ = p₂;
           a₃ = p₃;
           fit = record {
+            scale-pos = s₄ .1 .1 .1 .1 .1 .1 .0;
             enc = subst₂ (λ (u v : ℕ). Enc4 A (2 ^ 56) (2 ^ 62) u v p₂ p₃ (u + 2) (v + 2) (p₂ + 2) (p₃ + 2)) (sym e₀) (sym e₁) (E (omega (arith, s₄ .1 .1 .1 .1 .0)));
             left-pos = s₄ .1 .1 .1 .0;
             slope-low = s₀ .1 .1 .0;

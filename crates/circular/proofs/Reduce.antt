@@ -17,9 +17,9 @@ use Rattle.series.proofs.SmallAngle.{div-high}
 use Rattle.circular.proofs.Angle.{Reduced}
 
 -- ---- below 2 ^ -7
-zero-entry : Entry 128 0 0
+zero-entry : Entry 1 128 0 0
 unfolding angles
-zero-entry = entry 128 0 0 (angle 0 (lit< tt))
+zero-entry = entry 1 128 0 0 (angle 0 (lit< tt))
 
 pub low-reduced : (q : ℕ) → 2 ^ 43 ≤ q → q ≤ 2 ^ 49 → Reduced q (2 ^ 56) 0 q
 low-reduced q l h =
@@ -128,8 +128,8 @@ module _ (n c d : ℕ) (top : n ≤ c) (pos : 0 < d) (fine : d * 2 ^ 8 ≤ c) (c
           final : (q : ℕ) → d * 2 ^ 56 ≤ (q + 1) * d * (255 * 2 ^ 10) → 2 ^ 38 * d ≤ q * d
           final q h = omega (arith, h)
 
-  pub E : Entry 128 i (getD angles i 0)
-  E = entry 128 i (getD angles i 0) (angle i i-lt)
+  pub E : Entry 1 128 i (getD angles i 0)
+  E = entry 1 128 i (getD angles i 0) (angle i i-lt)
 
   q-large : 2 ^ 43 ≤ getD angles i 0 + q
   q-large = split i 1 (λ k. at-zero (getD angles i 0) i q k P-q) (λ k. later i (getD angles i 0) q k (E .least))
@@ -147,7 +147,7 @@ module _ (n c d : ℕ) (top : n ≤ c) (pos : 0 < d) (fine : d * 2 ^ 8 ≤ c) (c
           no : (i : ℕ) → suc i < 1 → ⊥
           no i l = omega arith
 
-      later : (i A q : ℕ) → 1 ≤ i → i * 2 ^ 48 ≤ A → 2 ^ 43 ≤ A + q
+      later : (i A q : ℕ) → 1 ≤ i → i * 2 ^ 48 ≤ 1 * A → 2 ^ 43 ≤ A + q
       later i A q a b = omega arith
 
   pub gentle-reduced : Reduced n c (getD angles i 0) q
@@ -288,8 +288,8 @@ module _ (n c d : ℕ) (top : c ≤ n) (pos : 0 < d) (fine : d * 2 ^ 8 ≤ n) (c
       go : (q r e : ℕ) → r * 2 ^ 56 ≤ (q + 1) * e → d ≤ r → (q + 1) * e ≤ (q + 1) * (d * (2 ^ 18 - 2 ^ 10)) → 2 ^ 38 * d ≤ q * d
       go q r e a b f = omega (arith, a, b, f)
 
-  pub steep-entry : Entry (at + 1) 128 (getD steep at 0)
-  steep-entry = entry (at + 1) 128 (getD steep at 0) (steep-angle at at-lt)
+  pub steep-entry : Entry 1 (at + 1) 128 (getD steep at 0)
+  steep-entry = entry 1 (at + 1) 128 (getD steep at 0) (steep-angle at at-lt)
 
   den-is : den ≡ (at + 1) * c + 128 * n
   den-is = go at
@@ -316,7 +316,7 @@ module _ (n c d : ℕ) (top : c ≤ n) (pos : 0 < d) (fine : d * 2 ^ 8 ≤ n) (c
       far : (i : ℕ) → 64 * (c + n) ≤ (i + 1) * c + 128 * n
       far i = omega arith
 
-      large : (A q : ℕ) → 128 * 2 ^ 48 ≤ A → 2 ^ 43 ≤ A + q
+      large : (A q : ℕ) → 128 * 2 ^ 48 ≤ 1 * A → 2 ^ 43 ≤ A + q
       large A q k = omega arith
 
   pub steep-roomy : 2 ^ 34 ≤ n → 2 ^ 26 ≤ d → Roomy n c (getD steep at 0) quo steep-reduced

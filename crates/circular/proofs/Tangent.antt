@@ -1,4 +1,4 @@
--- What the table's angle, the quotient q and the small angle w must satisfy for the tangent of their sum to be at most, or at least, x = n / c.
+-- What the table's angle and the small angle w must satisfy for the tangent of their sum to be at most, or at least, x = n / c.
 -- The tangent of the table's angle is y₀ / x₀ and its cosine and sine are C and S (in units of 1 / U, a₀ = a₂ + C and a₁ = a₃ + S the classes);
 -- sine and cosine of w are σ and κ (in units of 1 / B).
 use mathlib.Core.Path.{_≡_, refl, sym, ap, ap₂, _∙_, subst}
@@ -79,40 +79,41 @@ module _ (x₀ y₀ C S σ κ c n R E τ : ℕ) (X : 0 < x₀) (eR : R + y₀ * 
       subst (λ (x : ℕ). C * κ * n + (c + n) * E ≤ x) (sym sum)
       (le-of-mul-le-mul-right {k = x₀} (go-ge (κ * c) (σ * n) (C * σ * c) (C * κ * n) (y₀ * C) (C * κ * R) ((c + n) * E) s (subst (λ (x : ℕ). C * κ * R + Z ≤ x) left h) right) X)
 
--- ---- q / B is R / P, within 1 / B
-quotient-le : (B C P σ κ R q ρ z : ℕ) → 0 < B → q * P ≤ R * B → (σ + ρ) * B ≤ κ * q → z ≤ C * P * ρ → C * σ * P + z ≤ C * κ * R
-quotient-le B C P σ κ R q ρ z b v h k = le-of-mul-le-mul-right {k = B} (omega (arith, mul-le-mul-left (C * κ) v, mul-le-mul-left (C * P) h, mul-le-mul-right B k)) b
+-- ---- the tangent of w is R / P, with room for the errors z
+room-le : (C P σ κ R ρ z : ℕ) → (σ + ρ) * P ≤ κ * R → z ≤ C * P * ρ → C * σ * P + z ≤ C * κ * R
+room-le C P σ κ R ρ z h k = omega (arith, mul-le-mul-left C h, k)
 
-quotient-ge : (B C P σ κ R q ρ z : ℕ) → 0 < B → R * B ≤ (q + 1) * P → κ * (q + 1) + B * ρ ≤ σ * B → z ≤ C * P * ρ → C * κ * R + z ≤ C * σ * P
-quotient-ge B C P σ κ R q ρ z b v h k = le-of-mul-le-mul-right {k = B} (omega (arith, mul-le-mul-left (C * κ) v, mul-le-mul-left (C * P) h, mul-le-mul-right B k)) b
+room-ge : (C P σ κ R ρ z : ℕ) → κ * R + ρ * P ≤ σ * P → z ≤ C * P * ρ → C * κ * R + z ≤ C * σ * P
+room-ge C P σ κ R ρ z h k = omega (arith, mul-le-mul-left C h, k)
 
 -- ---- all the errors of enclosures and table are below ρ = 1291 + 33 D units
-errors : (x₀ B C P σ κ c n E D τ : ℕ) → τ ≤ 10320 * x₀ → κ ≤ 2 * B → σ ≤ 2 * B → x₀ * (64 * B) ≤ 256 * C → 64 * (c + n) ≤ P → E ≤ 512 * (B * D) + 4 * B + 8 * D → 8 * D ≤ 8 * (B * D)
+errors : (m x₀ B C P σ κ c n E D τ : ℕ) → 0 < m → τ ≤ 10320 * x₀ → κ ≤ 2 * B → σ ≤ 2 * B → x₀ * (64 * B) ≤ 256 * (m * C) → 64 * (m * (c + n)) ≤ P → E ≤ 512 * (B * D) + 4 * B + 8 * D → 8 * D ≤ 8 * (B * D)
     → τ * (κ * c + σ * n) + x₀ * ((c + n) * E) ≤ C * P * (1291 + 33 * D)
-errors x₀ B C P σ κ c n E D τ t k s u p e d =
+errors m x₀ B C P σ κ c n E D τ M t k s u p e d =
     let a : κ * c + σ * n ≤ 2 * B * (c + n) = omega (arith, mul-le-mul-right c k, mul-le-mul-right n s) in
     let b : τ * (κ * c + σ * n) ≤ 10320 * x₀ * (2 * B * (c + n)) = mul-le-mul t a in
     let f : (c + n) * E ≤ (c + n) * (520 * (B * D) + 4 * B) = mul-le-mul-left (c + n) (omega arith) in
-    let g : x₀ * (64 * B) * (64 * (c + n)) ≤ 256 * C * P = mul-le-mul u p in
-    let h : 16 * (x₀ * B * (c + n)) ≤ C * P = omega arith in
+    let g : x₀ * (64 * B) * (64 * (m * (c + n))) ≤ 256 * (m * C) * P = mul-le-mul u p in
+    let h : 16 * (x₀ * B * (c + n)) ≤ C * P = le-of-mul-le-mul-right {k = m} (omega (arith, g)) M in
     omega (arith, b, mul-le-mul-left x₀ f, mul-le-mul-right (1291 + 33 * D) h)
 
--- ---- together
-pub record Angle (x₀ y₀ A B C S a₂ a₃ : ℕ) : Type 0 where
+-- ---- together; x₀ and y₀ are m times numbers of up to 256 or so
+pub record Angle (m x₀ y₀ A B C S a₂ a₃ : ℕ) : Type 0 where
+  pub scale-pos : 0 < m
   pub enc : Enc4 A B (64 * B) (a₂ + C) (a₃ + S) a₂ a₃ (a₂ + C + 2) (a₃ + S + 2) (a₂ + 2) (a₃ + 2)
   pub left-pos : 0 < x₀
   pub slope-low : x₀ * S ≤ y₀ * C + 80 * (x₀ + y₀)
   pub slope-high : y₀ * C ≤ x₀ * S + 80 * (x₀ + y₀)
   pub sum : a₂ + C + (a₃ + S) + a₂ + a₃ ≤ 512 * B
   pub steep : x₀ + y₀ ≤ 129 * x₀
-  pub cosine : x₀ * (64 * B) ≤ 256 * C
+  pub cosine : x₀ * (64 * B) ≤ 256 * (m * C)
 
-module _ (x₀ y₀ A B C S a₂ a₃ σ κ f g D c n R q : ℕ) (b : 0 < B) (T : Angle x₀ y₀ A B C S a₂ a₃)
+module _ (m x₀ y₀ A B C S a₂ a₃ σ κ f g D c n R : ℕ) (b : 0 < B) (T : Angle m x₀ y₀ A B C S a₂ a₃)
     (W : Enc4 (σ + g) B B (κ + f) (σ + g) f g (κ + f + D) (σ + g + D) (f + D) (g + D))
-    (eR : R + y₀ * c ≡ x₀ * n) (far : 64 * (c + n) ≤ x₀ * c + y₀ * n) (total : σ + g + (κ + f) + g + f ≤ 2 * B) where
+    (eR : R + y₀ * c ≡ x₀ * n) (far : 64 * (m * (c + n)) ≤ x₀ * c + y₀ * n) (total : σ + g + (κ + f) + g + f ≤ 2 * B) where
   error : 80 * (x₀ + y₀) * (κ * c + σ * n) + x₀ * ((c + n) * Err a₂ a₃ C S σ κ f g D) ≤ C * (x₀ * c + y₀ * n) * (1291 + 33 * D)
   error =
-      errors x₀ B C (x₀ * c + y₀ * n) σ κ c n (Err a₂ a₃ C S σ κ f g D) D (80 * (x₀ + y₀)) (omega (arith, T .steep)) (omega arith) (omega arith) (T .cosine) far
+      errors m x₀ B C (x₀ * c + y₀ * n) σ κ c n (Err a₂ a₃ C S σ κ f g D) D (80 * (x₀ + y₀)) (T .scale-pos) (omega (arith, T .steep)) (omega arith) (omega arith) (T .cosine) far
       (omega (arith, mul-le-mul-left D (T .sum))) (mul-le-mul-left 8 (go B D b))
     where
       go : (B D : ℕ) → 0 < B → D ≤ B * D
@@ -130,8 +131,8 @@ module _ (x₀ y₀ A B C S a₂ a₃ σ κ f g D c n R q : ℕ) (b : 0 < B) (T 
   joined = plus A (σ + g) B (64 * B) (a₂ + C) (a₃ + S) a₂ a₃ (a₂ + C + 2) (a₃ + S + 2) (a₂ + 2) (a₃ + 2) B (κ + f) (σ + g) f g (κ + f + D) (σ + g + D) (f + D) (g + D) b (T .enc) W
 
   -- tan (A + w) is at most n / c
-  pub tan-le : q * (x₀ * c + y₀ * n) ≤ R * B → (σ + (1291 + 33 * D)) * B ≤ κ * q → SinLe (A + (σ + g)) B n c
-  tan-le v h =
+  pub tan-le : (σ + (1291 + 33 * D)) * (x₀ * c + y₀ * n) ≤ κ * R → SinLe (A + (σ + g)) B n c
+  tan-le h =
       sin-le (A + (σ + g)) B (64 * B * B)
       ((a₂ + C) * (κ + f) + (a₃ + S) * g + a₂ * f + a₃ * (σ + g))
       ((a₂ + C) * (σ + g) + (a₃ + S) * (κ + f) + a₂ * g + a₃ * f)
@@ -144,11 +145,11 @@ module _ (x₀ y₀ A B C S a₂ a₃ σ κ f g D c n R q : ℕ) (b : 0 < B) (T 
       b (mul-pos (mul-pos (omega arith) b) b) joined n c
       (close-le ((a₂ + C + 2) * (σ + g + D) + (a₃ + S + 2) * (κ + f + D) + (a₂ + 2) * (g + D) + (a₃ + 2) * (f + D)) ((a₂ + C + 2) * (f + D) + (a₃ + S + 2) * (σ + g + D) + (a₂ + 2) * (κ + f + D) + (a₃ + 2) * (g + D)) ((a₂ + C) * g + (a₃ + S) * f + a₂ * (σ + g) + a₃ * (κ + f)) ((a₂ + C) * (κ + f) + (a₃ + S) * g + a₂ * f + a₃ * (σ + g)) (C * σ + S * κ) (C * κ) (S * σ) (Err a₂ a₃ C S σ κ f g D) c n (eq-1 a₂ a₃ C S σ κ f g D) (eq-2 a₂ a₃ C S σ κ f g D)
       (slope-le x₀ y₀ C S σ κ c n R (Err a₂ a₃ C S σ κ f g D) (80 * (x₀ + y₀)) (T .left-pos) eR (T .slope-low)
-      (quotient-le B C (x₀ * c + y₀ * n) σ κ R q (1291 + 33 * D) (80 * (x₀ + y₀) * (κ * c + σ * n) + x₀ * ((c + n) * (Err a₂ a₃ C S σ κ f g D))) b v h error)))
+      (room-le C (x₀ * c + y₀ * n) σ κ R (1291 + 33 * D) (80 * (x₀ + y₀) * (κ * c + σ * n) + x₀ * ((c + n) * (Err a₂ a₃ C S σ κ f g D))) h error)))
 
   -- and at least
-  pub tan-ge : R * B ≤ (q + 1) * (x₀ * c + y₀ * n) → κ * (q + 1) + B * (1291 + 33 * D) ≤ σ * B → SinGe (A + (σ + g)) B n c
-  tan-ge v h =
+  pub tan-ge : κ * R + (1291 + 33 * D) * (x₀ * c + y₀ * n) ≤ σ * (x₀ * c + y₀ * n) → SinGe (A + (σ + g)) B n c
+  tan-ge h =
       sin-ge (A + (σ + g)) B (64 * B * B)
       ((a₂ + C) * (κ + f) + (a₃ + S) * g + a₂ * f + a₃ * (σ + g))
       ((a₂ + C) * (σ + g) + (a₃ + S) * (κ + f) + a₂ * g + a₃ * f)
@@ -161,4 +162,4 @@ module _ (x₀ y₀ A B C S a₂ a₃ σ κ f g D c n R q : ℕ) (b : 0 < B) (T 
       b (mul-pos (mul-pos (omega arith) b) b) joined n c
       (close-ge ((a₂ + C + 2) * (g + D) + (a₃ + S + 2) * (f + D) + (a₂ + 2) * (σ + g + D) + (a₃ + 2) * (κ + f + D)) ((a₂ + C + 2) * (κ + f + D) + (a₃ + S + 2) * (g + D) + (a₂ + 2) * (f + D) + (a₃ + 2) * (σ + g + D)) ((a₂ + C) * (σ + g) + (a₃ + S) * (κ + f) + a₂ * g + a₃ * f) ((a₂ + C) * f + (a₃ + S) * (σ + g) + a₂ * (κ + f) + a₃ * g) (C * σ + S * κ) (C * κ) (S * σ) (Err a₂ a₃ C S σ κ f g D) c n (eq-3 a₂ a₃ C S σ κ f g D) (eq-0 a₂ a₃ C S σ κ f g D)
       (slope-ge x₀ y₀ C S σ κ c n R (Err a₂ a₃ C S σ κ f g D) (80 * (x₀ + y₀)) (T .left-pos) eR (T .slope-high)
-      (quotient-ge B C (x₀ * c + y₀ * n) σ κ R q (1291 + 33 * D) (80 * (x₀ + y₀) * (κ * c + σ * n) + x₀ * ((c + n) * (Err a₂ a₃ C S σ κ f g D))) b v h error)))
+      (room-ge C (x₀ * c + y₀ * n) σ κ R (1291 + 33 * D) (80 * (x₀ + y₀) * (κ * c + σ * n) + x₀ * ((c + n) * (Err a₂ a₃ C S σ κ f g D))) h error)))

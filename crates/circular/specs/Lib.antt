@@ -2,3 +2,4 @@ pub mod SinCos
 pub mod Atan
 pub mod Asin
 pub mod Answers
+pub mod Arcs
