@@ -69,16 +69,16 @@ wide-le w v h = omega arith
 pub part-le : (q v : ℕ) → q ≤ 2 ^ 31 * v → q / 2 ^ 29 ≤ 4 * v
 part-le q v h = omega arith
 
--- ---- the rounding of s = A + (q - j): p is the significand times o, o a 64th of its unit, and v that of the result's unit
-pub record Sizes (A q j p o v : ℕ) : Type 0 where
-  pub s-over : 64 * p ≤ A + (q - j) + 32 * o
-  pub s-under : A + (q - j) ≤ 64 * p + 32 * o
+-- ---- the rounding of an angle s: p is the significand times o, o a 64th of its unit, and v that of the result's unit
+pub record Sizes (s p o v : ℕ) : Type 0 where
+  pub s-over : 64 * p ≤ s + 32 * o
+  pub s-under : s ≤ 64 * p + 32 * o
   pub p-most : p ≤ 2 ^ 24 * o
   pub p-least : 2 ^ 23 * o ≤ p
   pub o-v : o ≤ v
   pub v-o : v ≤ 2 * o
 
-module _ (A q j p o v : ℕ) (Z : Sizes A q j p o v) (J : 4 * j ≤ q) (most : q ≤ 2 ^ 49 + 2 ^ 41) (large : 2 ^ 43 ≤ A + q) (A-most : A ≤ 2 ^ 57 - 2 ^ 50) where
+module _ (A q j p o v : ℕ) (Z : Sizes (A + (q - j)) p o v) (J : 4 * j ≤ q) (most : q ≤ 2 ^ 49 + 2 ^ 41) (large : 2 ^ 43 ≤ A + q) (A-most : A ≤ 2 ^ 57 - 2 ^ 50) where
   o-small : (A ≡ 0) ⊎ (2 ^ 38 ≤ q) → 736 * o ≤ q
   o-small (inl e) = omega (arith, Z .s-over, Z .p-least)
   o-small (inr l) = omega (arith, Z .s-over, Z .p-least)
@@ -144,7 +144,7 @@ pub x-ok : (q : ℕ) → q ≤ (q / 2 ^ 29 + 1) * 2 ^ 29
 x-ok q = omega arith
 
 -- ---- the two ends, 60 v below and above the rounded angle
-module _ (n c A q p o v : ℕ) (X : Reduced n c A q) (Z : Sizes A q (cubeOf q) p o v) where
+module _ (n c A q p o v : ℕ) (X : Reduced n c A q) (Z : Sizes (angleOf A q) p o v) where
   pub q-fits : q ≤ 2 ^ 50
   q-fits = omega (arith, X .most)
 
@@ -178,28 +178,25 @@ module _ (n c A q p o v : ℕ) (X : Reduced n c A q) (Z : Sizes A q (cubeOf q) p
       go : (A q j : ℕ) → 64 * p ≤ A + (q - j) + 32 * o → v ≤ 2 * o → 736 * o ≤ q → q ≤ 2 ^ 49 + 2 ^ 41 → A ≤ 2 ^ 57 - 2 ^ 50 → 64 * p + 60 * v ≤ 2 ^ 57
       go A q j a b d e f = omega (arith, a, b, d, e, f)
 
--- ---- the same in the units of the statement: s = A + (q - q³ / 3), rounded
-module _ (n c A q : ℕ) (X : Reduced n c A q) (big : 2 ^ 30 ≤ angleOf A q) (fits : angleOf A q < 2 ^ 64) where
-  abbrev pub s : ℕ
-  s = angleOf A q
+-- ---- a rounded angle s in the units of the statement
+abbrev pub o : ℕ → ℕ
+o s = 2 ^ (34 - leadingZeros 64 s)
 
-  abbrev pub o : ℕ
-  o = 2 ^ (34 - leadingZeros 64 s)
+-- the result's unit, in units of 2 ^ -50
+abbrev pub v : ℕ → ℕ
+v s = 2 ^ (size (mant s * place s) - 24 - 99)
 
-  -- the result's unit, in units of 2 ^ -50
-  abbrev pub v : ℕ
-  v = 2 ^ (size (mant s * place s) - 24 - 99)
-
+module _ (s : ℕ) (big : 2 ^ 30 ≤ s) (fits : s < 2 ^ 64) where
   exps : (133 - leadingZeros 64 s ≤ size (mant s * place s) - 24) × (size (mant s * place s) - 24 ≤ 133 - leadingZeros 64 s + 1)
   exps = ulp-exp (mant s) (133 - leadingZeros 64 s) (rounded s big fits .least) (rounded s big fits .most)
 
-  pub sizes : Sizes A q (cubeOf q) (mant s * o) o v
+  pub sizes : Sizes s (mant s * o s) (o s) (v s)
   sizes =
       record {
         s-over = rounded s big fits .over;
         s-under = rounded s big fits .under;
-        p-most = mul-le-mul-right o (rounded s big fits .most);
-        p-least = mul-le-mul-right o (rounded s big fits .least);
+        p-most = mul-le-mul-right (o s) (rounded s big fits .most);
+        p-least = mul-le-mul-right (o s) (rounded s big fits .least);
         o-v = pow-mono (low (leadingZeros 64 s) (size (mant s * place s)) (exps .0));
         v-o = le-trans (pow-mono (high (leadingZeros 64 s) (size (mant s * place s)) (rounded s big fits .few) (exps .1))) (le-of-eq (pow-add 2 1 (34 - leadingZeros 64 s)));
       }
@@ -210,29 +207,34 @@ module _ (n c A q : ℕ) (X : Reduced n c A q) (big : 2 ^ 30 ≤ angleOf A q) (f
       high : (l z : ℕ) → l ≤ 33 → z - 24 ≤ 133 - l + 1 → z - 24 - 99 ≤ 1 + (34 - l)
       high l z h k = omega arith
 
-  unit-is : 2 ^ (size (mant s * place s) - 24) ≡ 2 ^ 99 * v
+  unit-is : 2 ^ (size (mant s * place s) - 24) ≡ 2 ^ 99 * v s
   unit-is = ap (λ (x : ℕ). 2 ^ x) (go (leadingZeros 64 s) (size (mant s * place s)) (rounded s big fits .few) (exps .0)) ∙ pow-add 2 99 (size (mant s * place s) - 24 - 99)
     where
       go : (l z : ℕ) → l ≤ 33 → 133 - l ≤ z - 24 → z - 24 ≡ 99 + (z - 24 - 99)
       go l z h k = omega arith
 
-  pub low-is : (64 * (mant s * o) - 60 * v) * 2 ^ 97 ≡ 16 * (mant s * place s) - 15 * 2 ^ (size (mant s * place s) - 24)
-  low-is = go (mant s) o v (place s) (2 ^ (size (mant s * place s) - 24)) (place-is s (rounded s big fits .few)) unit-is
+  pub low-is : (64 * (mant s * o s) - 60 * v s) * 2 ^ 97 ≡ 16 * (mant s * place s) - 15 * 2 ^ (size (mant s * place s) - 24)
+  low-is = go (mant s) (o s) (v s) (place s) (2 ^ (size (mant s * place s) - 24)) (place-is s (rounded s big fits .few)) unit-is
     where
       go : (m o v P U : ℕ) → P ≡ 2 ^ 99 * o → U ≡ 2 ^ 99 * v → (64 * (m * o) - 60 * v) * 2 ^ 97 ≡ 16 * (m * P) - 15 * U
       go m o v P U e f = omega (arith, ap (λ (x : ℕ). m * x) e)
 
-  pub high-is : (64 * (mant s * o) + 60 * v) * 2 ^ 97 ≡ 16 * (mant s * place s) + 15 * 2 ^ (size (mant s * place s) - 24)
-  high-is = go (mant s) o v (place s) (2 ^ (size (mant s * place s) - 24)) (place-is s (rounded s big fits .few)) unit-is
+  pub high-is : (64 * (mant s * o s) + 60 * v s) * 2 ^ 97 ≡ 16 * (mant s * place s) + 15 * 2 ^ (size (mant s * place s) - 24)
+  high-is = go (mant s) (o s) (v s) (place s) (2 ^ (size (mant s * place s) - 24)) (place-is s (rounded s big fits .few)) unit-is
     where
       go : (m o v P U : ℕ) → P ≡ 2 ^ 99 * o → U ≡ 2 ^ 99 * v → (64 * (m * o) + 60 * v) * 2 ^ 97 ≡ 16 * (m * P) + 15 * U
       go m o v P U e f = omega (arith, ap (λ (x : ℕ). m * x) e)
 
+-- ---- the two ends of s = A + (q - q³ / 3), rounded
+module _ (n c A q : ℕ) (X : Reduced n c A q) (big : 2 ^ 30 ≤ angleOf A q) (fits : angleOf A q < 2 ^ 64) where
+  abbrev s : ℕ
+  s = angleOf A q
+
   pub angle-le : SinLe (16 * (mant s * place s) - 15 * 2 ^ (size (mant s * place s) - 24)) (16 * 2 ^ 149) n c
-  angle-le = subst (λ (y : ℕ). SinLe y (16 * 2 ^ 149) n c) low-is (le-scaled (64 * (mant s * o) - 60 * v) (2 ^ 56) n c (2 ^ 97) (end-le n c A q (mant s * o) o v X sizes))
+  angle-le = subst (λ (y : ℕ). SinLe y (16 * 2 ^ 149) n c) (low-is s big fits) (le-scaled (64 * (mant s * o s) - 60 * v s) (2 ^ 56) n c (2 ^ 97) (end-le n c A q (mant s * o s) (o s) (v s) X (sizes s big fits)))
 
   pub angle-ge : SinGe (16 * (mant s * place s) + 15 * 2 ^ (size (mant s * place s) - 24)) (16 * 2 ^ 149) n c
-  angle-ge = subst (λ (y : ℕ). SinGe y (16 * 2 ^ 149) n c) high-is (ge-scaled (64 * (mant s * o) + 60 * v) (2 ^ 56) n c (2 ^ 97) (end-ge n c A q (mant s * o) o v X sizes))
+  angle-ge = subst (λ (y : ℕ). SinGe y (16 * 2 ^ 149) n c) (high-is s big fits) (ge-scaled (64 * (mant s * o s) + 60 * v s) (2 ^ 56) n c (2 ^ 97) (end-ge n c A q (mant s * o s) (o s) (v s) X (sizes s big fits)))
 
   pub angle-2 : 16 * (mant s * place s) + 15 * 2 ^ (size (mant s * place s) - 24) ≤ 2 * (16 * 2 ^ 149)
-  angle-2 = subst (λ (y : ℕ). y ≤ 2 * (16 * 2 ^ 149)) high-is (mul-le-mul-right (2 ^ 97) (end-2 n c A q (mant s * o) o v X sizes))
+  angle-2 = subst (λ (y : ℕ). y ≤ 2 * (16 * 2 ^ 149)) (high-is s big fits) (mul-le-mul-right (2 ^ 97) (end-2 n c A q (mant s * o s) (o s) (v s) X (sizes s big fits)))
