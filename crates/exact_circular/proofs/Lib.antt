@@ -7,7 +7,6 @@ pub mod Waves
 pub mod Ends
 pub mod Atan
 pub mod Fine
-pub mod AsinEnds
 pub mod SineRoom
-pub mod Asin
+pub mod SmallCircle
 pub mod Literal
