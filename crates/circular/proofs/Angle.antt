@@ -119,16 +119,16 @@ module _ (A q j p o v : ℕ) (Z : Sizes (A + (q - j)) p o v) (J : 4 * j ≤ q) (
     pub q-less : q ≤ 2 ^ 31 * v
     q-less = omega (arith, Z .s-under, Z .p-most, Z .o-v)
 
-    room₁ : w₁ + (j + 3 + (1291 + 33 * wide w₁)) ≤ q
+    room₁ : w₁ + (j + 3 + (2571 + 33 * wide w₁)) ≤ q
     room₁ = go w₁ (wide w₁) core₁ (wide-le w₁ v less₁)
       where
-        go : (w d : ℕ) → w + j + 28 * v ≤ q → 33 * d ≤ 9 * v + 66 → w + (j + 3 + (1291 + 33 * d)) ≤ q
+        go : (w d : ℕ) → w + j + 28 * v ≤ q → 33 * d ≤ 9 * v + 66 → w + (j + 3 + (2571 + 33 * d)) ≤ q
         go w d a e = omega (arith, v-large)
 
-    room₂ : q + (2 + (q / 2 ^ 29 + 1) + (1291 + 33 * wide w₂)) ≤ w₂ + j
+    room₂ : q + (2 + (q / 2 ^ 29 + 1) + (2571 + 33 * wide w₂)) ≤ w₂ + j
     room₂ = go w₂ (wide w₂) (q / 2 ^ 29) core₂ (wide-le w₂ v less₂) (part-le q v q-less)
       where
-        go : (w d x : ℕ) → q + 28 * v ≤ w + j → 33 * d ≤ 9 * v + 66 → x ≤ 4 * v → q + (2 + (x + 1) + (1291 + 33 * d)) ≤ w + j
+        go : (w d x : ℕ) → q + 28 * v ≤ w + j → 33 * d ≤ 9 * v + 66 → x ≤ 4 * v → q + (2 + (x + 1) + (2571 + 33 * d)) ≤ w + j
         go w d x a e f = omega (arith, v-large)
 
     pub fits₁ : 120 * w₁ ≤ 2 ^ 56

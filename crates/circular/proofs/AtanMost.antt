@@ -27,7 +27,7 @@ gentle-most : (i : ℕ) → i < 128 → getD angles i 0 ≤ 2 ^ 56
 unfolding angles
 gentle-most i h = leb→le (getD angles i 0) (2 ^ 56) (table.entry (λ i A. leb A (2 ^ 56)) angles tt i h)
 
-or-cases : (a b : Bool) → T (a || b) → T a ⊎ T b
+pub or-cases : (a b : Bool) → T (a || b) → T a ⊎ T b
 or-cases true b t = inl tt
 or-cases false b t = inr t
 

@@ -88,16 +88,16 @@ module _ (B w D : ℕ) (b : 0 < B) (W : 120 * w ≤ B) (d : w + 2 ^ 33 ≤ D * 2
 
   module _ (m x₀ y₀ A C S a₂ a₃ c n R : ℕ) (T : Angle m x₀ y₀ A B C S a₂ a₃) (eR : R + y₀ * c ≡ x₀ * n) (far : 64 * (m * (c + n)) ≤ x₀ * c + y₀ * n) where
     -- from sine and cosine of w
-    pub tan-below : (σ + (1291 + 33 * D)) * (x₀ * c + y₀ * n) ≤ κ * R → SinLe (A + w) B n c
+    pub tan-below : (σ + (2571 + 33 * D)) * (x₀ * c + y₀ * n) ≤ κ * R → SinLe (A + w) B n c
     tan-below h = subst (λ (x : ℕ). SinLe (A + x) B n c) eσ (tan-le m x₀ y₀ A B C S a₂ a₃ σ κ f g D c n R b T angle eR far total h)
 
-    pub tan-over : κ * R + (1291 + 33 * D) * (x₀ * c + y₀ * n) ≤ σ * (x₀ * c + y₀ * n) → SinGe (A + w) B n c
+    pub tan-over : κ * R + (2571 + 33 * D) * (x₀ * c + y₀ * n) ≤ σ * (x₀ * c + y₀ * n) → SinGe (A + w) B n c
     tan-over h = subst (λ (x : ℕ). SinGe (A + x) B n c) eσ (tan-ge m x₀ y₀ A B C S a₂ a₃ σ κ f g D c n R b T angle eR far total h)
 
     -- from the quotient q
     module _ (q j : ℕ) where
-      pub below : q * (x₀ * c + y₀ * n) ≤ R * B → q * q * q ≤ 3 * (B * B) * (j + 2) → w + (j + 3 + (1291 + 33 * D)) ≤ q → SinLe (A + w) B n c
-      below v J h = tan-below (quotient-le B (x₀ * c + y₀ * n) σ κ R q (1291 + 33 * D) b v (poly-le w q B f g k D σ κ j (1291 + 33 * D) b parts eσ eκ J h))
+      pub below : q * (x₀ * c + y₀ * n) ≤ R * B → q * q * q ≤ 3 * (B * B) * (j + 2) → w + (j + 3 + (2571 + 33 * D)) ≤ q → SinLe (A + w) B n c
+      below v J h = tan-below (quotient-le B (x₀ * c + y₀ * n) σ κ R q (2571 + 33 * D) b v (poly-le w q B f g k D σ κ j (2571 + 33 * D) b parts eσ eκ J h))
 
-      pub over : (x : ℕ) → R * B ≤ (q + 1) * (x₀ * c + y₀ * n) → 120 * q ≤ B → w ≤ 2 * q → 5 ≤ q → q ≤ x * 2 ^ 29 → 3 * (B * B) * j ≤ q * q * q → q + (2 + x + (1291 + 33 * D)) ≤ w + j → SinGe (A + w) B n c
-      over x v Q two five X J h = tan-over (quotient-ge B (x₀ * c + y₀ * n) σ κ R q (1291 + 33 * D) b v (poly-ge w q B f g k D σ κ j (1291 + 33 * D) b parts eσ eκ x Q W two five X J h))
+      pub over : (x : ℕ) → R * B ≤ (q + 1) * (x₀ * c + y₀ * n) → 120 * q ≤ B → w ≤ 2 * q → 5 ≤ q → q ≤ x * 2 ^ 29 → 3 * (B * B) * j ≤ q * q * q → q + (2 + x + (2571 + 33 * D)) ≤ w + j → SinGe (A + w) B n c
+      over x v Q two five X J h = tan-over (quotient-ge B (x₀ * c + y₀ * n) σ κ R q (2571 + 33 * D) b v (poly-ge w q B f g k D σ κ j (2571 + 33 * D) b parts eσ eκ x Q W two five X J h))

@@ -86,16 +86,16 @@ room-le C P σ κ R ρ z h k = omega (arith, mul-le-mul-left C h, k)
 room-ge : (C P σ κ R ρ z : ℕ) → κ * R + ρ * P ≤ σ * P → z ≤ C * P * ρ → C * κ * R + z ≤ C * σ * P
 room-ge C P σ κ R ρ z h k = omega (arith, mul-le-mul-left C h, k)
 
--- ---- all the errors of enclosures and table are below ρ = 1291 + 33 D units
-errors : (m x₀ B C P σ κ c n E D τ : ℕ) → 0 < m → τ ≤ 10320 * x₀ → κ ≤ 2 * B → σ ≤ 2 * B → x₀ * (64 * B) ≤ 256 * (m * C) → 64 * (m * (c + n)) ≤ P → E ≤ 512 * (B * D) + 4 * B + 8 * D → 8 * D ≤ 8 * (B * D)
-    → τ * (κ * c + σ * n) + x₀ * ((c + n) * E) ≤ C * P * (1291 + 33 * D)
+-- ---- all the errors of enclosures and table are below ρ = 2571 + 33 D units
+errors : (m x₀ B C P σ κ c n E D τ : ℕ) → 0 < m → τ ≤ 20560 * x₀ → κ ≤ 2 * B → σ ≤ 2 * B → x₀ * (64 * B) ≤ 256 * (m * C) → 64 * (m * (c + n)) ≤ P → E ≤ 512 * (B * D) + 4 * B + 8 * D → 8 * D ≤ 8 * (B * D)
+    → τ * (κ * c + σ * n) + x₀ * ((c + n) * E) ≤ C * P * (2571 + 33 * D)
 errors m x₀ B C P σ κ c n E D τ M t k s u p e d =
     let a : κ * c + σ * n ≤ 2 * B * (c + n) = omega (arith, mul-le-mul-right c k, mul-le-mul-right n s) in
-    let b : τ * (κ * c + σ * n) ≤ 10320 * x₀ * (2 * B * (c + n)) = mul-le-mul t a in
+    let b : τ * (κ * c + σ * n) ≤ 20560 * x₀ * (2 * B * (c + n)) = mul-le-mul t a in
     let f : (c + n) * E ≤ (c + n) * (520 * (B * D) + 4 * B) = mul-le-mul-left (c + n) (omega arith) in
     let g : x₀ * (64 * B) * (64 * (m * (c + n))) ≤ 256 * (m * C) * P = mul-le-mul u p in
     let h : 16 * (x₀ * B * (c + n)) ≤ C * P = le-of-mul-le-mul-right {k = m} (omega (arith, g)) M in
-    omega (arith, b, mul-le-mul-left x₀ f, mul-le-mul-right (1291 + 33 * D) h)
+    omega (arith, b, mul-le-mul-left x₀ f, mul-le-mul-right (2571 + 33 * D) h)
 
 -- ---- together; x₀ and y₀ are m times numbers of up to 256 or so
 pub record Angle (m x₀ y₀ A B C S a₂ a₃ : ℕ) : Type 0 where
@@ -105,13 +105,13 @@ pub record Angle (m x₀ y₀ A B C S a₂ a₃ : ℕ) : Type 0 where
   pub slope-low : x₀ * S ≤ y₀ * C + 80 * (x₀ + y₀)
   pub slope-high : y₀ * C ≤ x₀ * S + 80 * (x₀ + y₀)
   pub sum : a₂ + C + (a₃ + S) + a₂ + a₃ ≤ 512 * B
-  pub steep : x₀ + y₀ ≤ 129 * x₀
+  pub steep : x₀ + y₀ ≤ 257 * x₀
   pub cosine : x₀ * (64 * B) ≤ 256 * (m * C)
 
 module _ (m x₀ y₀ A B C S a₂ a₃ σ κ f g D c n R : ℕ) (b : 0 < B) (T : Angle m x₀ y₀ A B C S a₂ a₃)
     (W : Enc4 (σ + g) B B (κ + f) (σ + g) f g (κ + f + D) (σ + g + D) (f + D) (g + D))
     (eR : R + y₀ * c ≡ x₀ * n) (far : 64 * (m * (c + n)) ≤ x₀ * c + y₀ * n) (total : σ + g + (κ + f) + g + f ≤ 2 * B) where
-  error : 80 * (x₀ + y₀) * (κ * c + σ * n) + x₀ * ((c + n) * Err a₂ a₃ C S σ κ f g D) ≤ C * (x₀ * c + y₀ * n) * (1291 + 33 * D)
+  error : 80 * (x₀ + y₀) * (κ * c + σ * n) + x₀ * ((c + n) * Err a₂ a₃ C S σ κ f g D) ≤ C * (x₀ * c + y₀ * n) * (2571 + 33 * D)
   error =
       errors m x₀ B C (x₀ * c + y₀ * n) σ κ c n (Err a₂ a₃ C S σ κ f g D) D (80 * (x₀ + y₀)) (T .scale-pos) (omega (arith, T .steep)) (omega arith) (omega arith) (T .cosine) far
       (omega (arith, mul-le-mul-left D (T .sum))) (mul-le-mul-left 8 (go B D b))
@@ -131,7 +131,7 @@ module _ (m x₀ y₀ A B C S a₂ a₃ σ κ f g D c n R : ℕ) (b : 0 < B) (T 
   joined = plus A (σ + g) B (64 * B) (a₂ + C) (a₃ + S) a₂ a₃ (a₂ + C + 2) (a₃ + S + 2) (a₂ + 2) (a₃ + 2) B (κ + f) (σ + g) f g (κ + f + D) (σ + g + D) (f + D) (g + D) b (T .enc) W
 
   -- tan (A + w) is at most n / c
-  pub tan-le : (σ + (1291 + 33 * D)) * (x₀ * c + y₀ * n) ≤ κ * R → SinLe (A + (σ + g)) B n c
+  pub tan-le : (σ + (2571 + 33 * D)) * (x₀ * c + y₀ * n) ≤ κ * R → SinLe (A + (σ + g)) B n c
   tan-le h =
       sin-le (A + (σ + g)) B (64 * B * B)
       ((a₂ + C) * (κ + f) + (a₃ + S) * g + a₂ * f + a₃ * (σ + g))
@@ -145,10 +145,10 @@ module _ (m x₀ y₀ A B C S a₂ a₃ σ κ f g D c n R : ℕ) (b : 0 < B) (T 
       b (mul-pos (mul-pos (omega arith) b) b) joined n c
       (close-le ((a₂ + C + 2) * (σ + g + D) + (a₃ + S + 2) * (κ + f + D) + (a₂ + 2) * (g + D) + (a₃ + 2) * (f + D)) ((a₂ + C + 2) * (f + D) + (a₃ + S + 2) * (σ + g + D) + (a₂ + 2) * (κ + f + D) + (a₃ + 2) * (g + D)) ((a₂ + C) * g + (a₃ + S) * f + a₂ * (σ + g) + a₃ * (κ + f)) ((a₂ + C) * (κ + f) + (a₃ + S) * g + a₂ * f + a₃ * (σ + g)) (C * σ + S * κ) (C * κ) (S * σ) (Err a₂ a₃ C S σ κ f g D) c n (eq-1 a₂ a₃ C S σ κ f g D) (eq-2 a₂ a₃ C S σ κ f g D)
       (slope-le x₀ y₀ C S σ κ c n R (Err a₂ a₃ C S σ κ f g D) (80 * (x₀ + y₀)) (T .left-pos) eR (T .slope-low)
-      (room-le C (x₀ * c + y₀ * n) σ κ R (1291 + 33 * D) (80 * (x₀ + y₀) * (κ * c + σ * n) + x₀ * ((c + n) * (Err a₂ a₃ C S σ κ f g D))) h error)))
+      (room-le C (x₀ * c + y₀ * n) σ κ R (2571 + 33 * D) (80 * (x₀ + y₀) * (κ * c + σ * n) + x₀ * ((c + n) * (Err a₂ a₃ C S σ κ f g D))) h error)))
 
   -- and at least
-  pub tan-ge : κ * R + (1291 + 33 * D) * (x₀ * c + y₀ * n) ≤ σ * (x₀ * c + y₀ * n) → SinGe (A + (σ + g)) B n c
+  pub tan-ge : κ * R + (2571 + 33 * D) * (x₀ * c + y₀ * n) ≤ σ * (x₀ * c + y₀ * n) → SinGe (A + (σ + g)) B n c
   tan-ge h =
       sin-ge (A + (σ + g)) B (64 * B * B)
       ((a₂ + C) * (κ + f) + (a₃ + S) * g + a₂ * f + a₃ * (σ + g))
@@ -162,4 +162,4 @@ module _ (m x₀ y₀ A B C S a₂ a₃ σ κ f g D c n R : ℕ) (b : 0 < B) (T 
       b (mul-pos (mul-pos (omega arith) b) b) joined n c
       (close-ge ((a₂ + C + 2) * (g + D) + (a₃ + S + 2) * (f + D) + (a₂ + 2) * (σ + g + D) + (a₃ + 2) * (κ + f + D)) ((a₂ + C + 2) * (κ + f + D) + (a₃ + S + 2) * (g + D) + (a₂ + 2) * (f + D) + (a₃ + 2) * (σ + g + D)) ((a₂ + C) * (σ + g) + (a₃ + S) * (κ + f) + a₂ * g + a₃ * f) ((a₂ + C) * f + (a₃ + S) * (σ + g) + a₂ * (κ + f) + a₃ * g) (C * σ + S * κ) (C * κ) (S * σ) (Err a₂ a₃ C S σ κ f g D) c n (eq-3 a₂ a₃ C S σ κ f g D) (eq-0 a₂ a₃ C S σ κ f g D)
       (slope-ge x₀ y₀ C S σ κ c n R (Err a₂ a₃ C S σ κ f g D) (80 * (x₀ + y₀)) (T .left-pos) eR (T .slope-high)
-      (room-ge C (x₀ * c + y₀ * n) σ κ R (1291 + 33 * D) (80 * (x₀ + y₀) * (κ * c + σ * n) + x₀ * ((c + n) * (Err a₂ a₃ C S σ κ f g D))) h error)))
+      (room-ge C (x₀ * c + y₀ * n) σ κ R (2571 + 33 * D) (80 * (x₀ + y₀) * (κ * c + σ * n) + x₀ * ((c + n) * (Err a₂ a₃ C S σ κ f g D))) h error)))

@@ -9,4 +9,5 @@ pub mod Atan
 pub mod Fine
 pub mod SineRoom
 pub mod SmallCircle
+pub mod Nodes
 pub mod Literal
