@@ -10,4 +10,5 @@ pub mod Fine
 pub mod SineRoom
 pub mod SmallCircle
 pub mod Nodes
+pub mod AsinEnds
 pub mod Literal
