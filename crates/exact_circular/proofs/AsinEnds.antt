@@ -305,3 +305,76 @@ module _ (X r A s p o v : ℕ) (T : Turned X r A s) (Z : Sizes (arcOf A s) p o v
     where
       square : (s : ℕ) → s ≤ 2 ^ 49 → 14400 * (s * s) ≤ 2 ^ 56 * 2 ^ 56
       square s h = le-trans (mul-le-mul-left 14400 (mul-le-mul h h)) (lit≤ tt)
+
+  R₁ : ℕ
+  R₁ = T .R - T .y₀ * 16
+
+  R₁-is : R₁ + T .y₀ * 16 ≡ T .R
+  unfolding R₁
+  R₁-is = go (T .R) (T .y₀ * 16) (T .R-large)
+    where
+      go : (x y : ℕ) → y ≤ x → x - y + y ≡ x
+      go x y h = omega arith
+
+  e₁ : R₁ + T .y₀ * (8 * r + 16) ≡ T .x₀ * X
+  e₁ = go (T .x₀) (T .y₀) (T .R) R₁ R₁-is (T .eR)
+    where
+      go : (x y R R' : ℕ) → R' + y * 16 ≡ R → R + y * (8 * r) ≡ x * X → R' + y * (8 * r + 16) ≡ x * X
+      go x y R R' e f = omega (arith, e, f)
+
+  abbrev N₁ : ℕ
+  N₁ = (8 * r + 16) * (8 * r + 16) + X * X
+
+  N₁-most : N₁ ≤ 2 ^ 70 + 2 ^ 40 + 2 ^ 8
+  N₁-most = omega (arith, C .low, C .r-lt)
+
+  N₁-least : 2 ^ 69 ≤ N₁
+  N₁-least = omega (arith, C .high)
+
+  R-most : T .R ≤ 2 ^ 60 + 2 ^ 11
+  R-most = go (T .R) (T .s-high) (T .most)
+    where
+      go : (R : ℕ) → R ≤ (s + 1) * 2 ^ 11 → s ≤ 2 ^ 49 → R ≤ 2 ^ 60 + 2 ^ 11
+      go R a b = omega arith
+
+  far₁ : 64 * (2 ^ 25 * (8 * r + 16 + X)) ≤ T .x₀ * (8 * r + 16) + T .y₀ * X
+  far₁ = far M N₁ R₁ (T .x₀ * (8 * r + 16) + T .y₀ * X) (8 * r + 16) X (sides (T .x₀) (T .y₀) (8 * r + 16) X R₁ e₁) refl (T .norm-high) N₁-least (go (T .R) (T .y₀ * 16) R₁ R₁-is R-most)
+    where
+      go : (R y R' : ℕ) → R' + y ≡ R → R ≤ 2 ^ 60 + 2 ^ 11 → R' ≤ 2 ^ 61
+      go R y R' a b = omega arith
+
+  y-most : T .y₀ * 2 ^ 23 ≤ 2 ^ 31 * v
+  y-most = y-v X r A s p o v T Z
+
+  leg₁ : (σ₁ + ρ W₁) * (2 ^ 67 + 2 ^ 38) ≤ (2 ^ 56 - 2) * R₁
+  unfolding W₁
+  leg₁ = leg-low (σ₁ + ρ W₁) s (T .y₀) (T .R) R₁ v (go σ₁ (ρ W₁) sine₁ (ρ-v W₁ v wide₁ large)) (more A (sum-v X r A s p o v T Z)) (T .s-low) (T .s-high) R₁-is y-most large
+    where
+      large : 2 ^ 12 ≤ 2 * v + 2
+      large = v-large X r A s p o v T Z
+
+      wide₁ : W₁ ≤ 2 ^ 31 * v
+      wide₁ = less₁ X r A s p o v T Z
+
+      go : (x y : ℕ) → x + 27 * v ≤ s → y ≤ 11 * v → x + y + 16 * v ≤ s
+      go x y a b = omega arith
+
+      more : (A : ℕ) → A + s ≤ 2 ^ 31 * v → s ≤ 2 ^ 31 * v
+      more A h = omega arith
+
+  pub lower : SinLe (64 * p - 60 * v) (2 ^ 56) X (8 * r + 16)
+  unfolding W₁
+  lower =
+      let D = W₁ / 2 ^ 33 + 2 in
+      let P = step.parts (2 ^ 56) W₁ D (pow-pos 56) f₁ (wide-ok W₁) in
+      let eσ = step.eσ (2 ^ 56) W₁ D (pow-pos 56) f₁ (wide-ok W₁) in
+      let eκ = step.eκ (2 ^ 56) W₁ D (pow-pos 56) f₁ (wide-ok W₁) in
+      let f = step.f (2 ^ 56) W₁ D (pow-pos 56) f₁ (wide-ok W₁) in
+      let g = step.g (2 ^ 56) W₁ D (pow-pos 56) f₁ (wide-ok W₁) in
+      let k = step.k (2 ^ 56) W₁ D (pow-pos 56) f₁ (wide-ok W₁) in
+      let κ = step.κ (2 ^ 56) W₁ D (pow-pos 56) f₁ (wide-ok W₁) in
+      let c : (2 ^ 56 - 2) * (2 ^ 56 - 2) ≤ κ * κ + (σ₁ + ρ W₁) * (σ₁ + ρ W₁) = circle-low W₁ (2 ^ 56) f g k D σ₁ κ (ρ W₁) P eσ eκ (lit≤ tt) f₁ (ρ-wide W₁) (2 ^ 56 - 2) refl in
+      subst (λ (y : ℕ). SinLe y (2 ^ 56) X (8 * r + 16)) (at₁ X r A s p o v T Z)
+      (step.tan-below (2 ^ 56) W₁ D (pow-pos 56) f₁ (wide-ok W₁)
+      (2 ^ 25) (T .x₀) (T .y₀) A (T .entry .C) (T .entry .S) (T .entry .a₂) (T .entry .a₃) (8 * r + 16) X R₁ (T .entry .fit) e₁ far₁
+      (under-tangent (σ₁ + ρ W₁) κ (T .x₀ * (8 * r + 16) + T .y₀ * X) R₁ (2 ^ 67 + 2 ^ 38) (2 ^ 56 - 2) c (le-trans (le-of-eq (sides (T .x₀) (T .y₀) (8 * r + 16) X R₁ e₁)) (le-trans (mul-le-mul (T .norm-low) N₁-most) (lit≤ tt))) leg₁))
