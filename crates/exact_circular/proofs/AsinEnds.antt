@@ -15,7 +15,7 @@ use Rattle.circular.proofs.Angle.{Sizes, wide-le, wide-ok}
 use Rattle.circular.proofs.Angles.{Entry}
 use Rattle.circular.proofs.Cosine.{Cosine}
 use Rattle.circular.proofs.Step as step
-use Rattle.exact_circular.proofs.SmallCircle.{root-le, twice, circle-low, circle-high, under-tangent, over-tangent, sides}
+use Rattle.exact_circular.proofs.SmallCircle.{root-le, twice, W², g-w, circle-low, circle-high, under-tangent, over-tangent, sides}
 
 -- the sine X and the cosine 8 r, brought by the table's angle A to a small angle whose sine is s * 2 ^ -56
 pub record Turned (X r A s : ℕ) : Type 0 where
@@ -378,3 +378,113 @@ module _ (X r A s p o v : ℕ) (T : Turned X r A s) (Z : Sizes (arcOf A s) p o v
       (step.tan-below (2 ^ 56) W₁ D (pow-pos 56) f₁ (wide-ok W₁)
       (2 ^ 25) (T .x₀) (T .y₀) A (T .entry .C) (T .entry .S) (T .entry .a₂) (T .entry .a₃) (8 * r + 16) X R₁ (T .entry .fit) e₁ far₁
       (under-tangent (σ₁ + ρ W₁) κ (T .x₀ * (8 * r + 16) + T .y₀ * X) R₁ (2 ^ 67 + 2 ^ 38) (2 ^ 56 - 2) c (le-trans (le-of-eq (sides (T .x₀) (T .y₀) (8 * r + 16) X R₁ e₁)) (le-trans (mul-le-mul (T .norm-low) N₁-most) (lit≤ tt))) leg₁))
+
+  -- ---- above
+  W₂ : ℕ
+  W₂ = w₂ X r A s p o v T Z
+
+  f₂ : 120 * W₂ ≤ 2 ^ 56
+  unfolding W₂
+  f₂ = fits₂ X r A s p o v T Z
+
+  abbrev D₂ : ℕ
+  D₂ = W₂ / 2 ^ 33 + 2
+
+  abbrev g₂ : ℕ
+  g₂ = step.g (2 ^ 56) W₂ D₂ (pow-pos 56) f₂ (wide-ok W₂)
+
+  abbrev σ₂ : ℕ
+  σ₂ = step.σ (2 ^ 56) W₂ D₂ (pow-pos 56) f₂ (wide-ok W₂)
+
+  abbrev κ₂ : ℕ
+  κ₂ = step.κ (2 ^ 56) W₂ D₂ (pow-pos 56) f₂ (wide-ok W₂)
+
+  abbrev k₂ : ℕ
+  k₂ = step.k (2 ^ 56) W₂ D₂ (pow-pos 56) f₂ (wide-ok W₂)
+
+  abbrev h₂ : ℕ
+  h₂ = step.f (2 ^ 56) W₂ D₂ (pow-pos 56) f₂ (wide-ok W₂)
+
+  large : 2 ^ 12 ≤ 2 * v + 2
+  large = v-large X r A s p o v T Z
+
+  wide₂ : W₂ ≤ 2 ^ 31 * v
+  unfolding W₂
+  wide₂ = less₂ X r A s p o v T Z
+
+  sine₂ : s + 26 * v ≤ σ₂
+  unfolding W₂
+  sine₂ =
+      let P = step.parts (2 ^ 56) W₂ D₂ (pow-pos 56) f₂ (wide-ok W₂) in
+      let eσ = step.eσ (2 ^ 56) W₂ D₂ (pow-pos 56) f₂ (wide-ok W₂) in
+      let eκ = step.eκ (2 ^ 56) W₂ D₂ (pow-pos 56) f₂ (wide-ok W₂) in
+      over-sine s (sixthOf s) W₂ g₂ σ₂ v (2 ^ 56 * 2 ^ 56) (pow-pos 112) (sixth-high s (T .most)) (P .g-low)
+      (W² W₂ (2 ^ 56) h₂ g₂ k₂ D₂ σ₂ κ₂ (ρ W₂) P eσ eκ (lit≤ tt) f₂ (ρ-wide W₂)) (g-w W₂ (2 ^ 56) h₂ g₂ k₂ D₂ σ₂ κ₂ (ρ W₂) P eσ eκ (lit≤ tt) f₂ (ρ-wide W₂)) eσ (core₂ X r A s p o v T Z) wide₂ large
+
+  τ₂ : ℕ
+  τ₂ = σ₂ - ρ W₂
+
+  ρ₂ : ρ W₂ ≤ 11 * v
+  ρ₂ = ρ-v W₂ v wide₂ large
+
+  τ₂-is : τ₂ + ρ W₂ ≡ σ₂
+  unfolding τ₂
+  τ₂-is = go σ₂ (ρ W₂) sine₂ ρ₂
+    where
+      go : (x y : ℕ) → s + 26 * v ≤ x → y ≤ 11 * v → x - y + y ≡ x
+      go x y a b = omega arith
+
+  σ₂-w : σ₂ ≤ W₂
+  σ₂-w = go W₂ g₂
+    where
+      go : (x y : ℕ) → x - y ≤ x
+      go x y = omega arith
+
+  leg₂ : (2 ^ 56 + 2) * (T .R + T .y₀ * 8) ≤ τ₂ * (2 ^ 67 - 2 ^ 38)
+  leg₂ = leg-high τ₂ s (T .y₀) (T .R) v (go σ₂ (ρ W₂) τ₂ sine₂ ρ₂ τ₂-is) (most σ₂ W₂ τ₂ (ρ W₂) σ₂-w wide₂ τ₂-is) (T .s-high) y-most large
+    where
+      go : (x y t : ℕ) → s + 26 * v ≤ x → y ≤ 11 * v → t + y ≡ x → s + 15 * v ≤ t
+      go x y t a b e = omega arith
+
+      most : (x w t y : ℕ) → x ≤ w → w ≤ 2 ^ 31 * v → t + y ≡ x → t ≤ 2 ^ 31 * v
+      most x w t y a b e = omega arith
+
+  module _ (c' : ℕ) (ec : c' + 8 ≡ 8 * r) where
+    e₂ : T .R + T .y₀ * 8 + T .y₀ * c' ≡ T .x₀ * X
+    e₂ = go (T .x₀) (T .y₀) (T .R) (T .eR)
+      where
+        go : (x y R : ℕ) → R + y * (8 * r) ≡ x * X → R + y * 8 + y * c' ≡ x * X
+        go x y R e = omega (arith, e, ap (λ (t : ℕ). y * t) ec)
+
+    abbrev N₂ : ℕ
+    N₂ = c' * c' + X * X
+
+    N₂-least : 2 ^ 70 - 2 ^ 40 ≤ N₂
+    N₂-least = go (X * X) (subst (λ (t : ℕ). 2 ^ 70 ≤ (t + 8) * (t + 8) + X * X) (sym ec) (C .high)) (C .r-lt)
+      where
+        go : (x : ℕ) → 2 ^ 70 ≤ (c' + 8 + 8) * (c' + 8 + 8) + x → r < 2 ^ 32 → 2 ^ 70 - 2 ^ 40 ≤ c' * c' + x
+        go x a b = omega (arith, a, b, ec)
+
+    far₂ : 64 * (2 ^ 25 * (c' + X)) ≤ T .x₀ * c' + T .y₀ * X
+    far₂ = far M N₂ (T .R + T .y₀ * 8) (T .x₀ * c' + T .y₀ * X) c' X (sides (T .x₀) (T .y₀) c' X (T .R + T .y₀ * 8) e₂) refl (T .norm-high) (le-trans (lit≤ tt) N₂-least) (go (T .R) (T .y₀) R-most (T .R-large))
+      where
+        go : (R y : ℕ) → R ≤ 2 ^ 60 + 2 ^ 11 → y * 16 ≤ R → R + y * 8 ≤ 2 ^ 61
+        go R y a b = omega arith
+
+    pub upper : SinGe (64 * p + 60 * v) (2 ^ 56) X c'
+    unfolding W₂
+    upper =
+        let P = step.parts (2 ^ 56) W₂ D₂ (pow-pos 56) f₂ (wide-ok W₂) in
+        let eσ = step.eσ (2 ^ 56) W₂ D₂ (pow-pos 56) f₂ (wide-ok W₂) in
+        let eκ = step.eκ (2 ^ 56) W₂ D₂ (pow-pos 56) f₂ (wide-ok W₂) in
+        let R' = T .R + T .y₀ * 8 in
+        let P' = T .x₀ * c' + T .y₀ * X in
+        let c = circle-high W₂ (2 ^ 56) h₂ g₂ k₂ D₂ σ₂ κ₂ (ρ W₂) P eσ eκ (lit≤ tt) f₂ (ρ-wide W₂) τ₂ τ₂-is in
+        let t : κ₂ * R' ≤ τ₂ * P' = over-tangent τ₂ κ₂ P' R' (2 ^ 67 - 2 ^ 38) (2 ^ 56 + 2) c (le-trans (lit≤ tt) (le-trans (mul-le-mul (T .norm-high) N₂-least) (le-of-eq (sym (sides (T .x₀) (T .y₀) c' X R' e₂))))) leg₂ in
+        subst (λ (y : ℕ). SinGe y (2 ^ 56) X c') (at₂ X r A s p o v T Z)
+        (step.tan-over (2 ^ 56) W₂ D₂ (pow-pos 56) f₂ (wide-ok W₂)
+        (2 ^ 25) (T .x₀) (T .y₀) A (T .entry .C) (T .entry .S) (T .entry .a₂) (T .entry .a₃) c' X R' (T .entry .fit) e₂ far₂
+        (le-trans (add (κ₂ * R') τ₂ (ρ W₂) P' t) (le-of-eq (ap (λ (x : ℕ). x * P') τ₂-is))))
+      where
+        add : (x t y P : ℕ) → x ≤ t * P → x + y * P ≤ (t + y) * P
+        add x t y P h = omega (arith, h)

@@ -29,13 +29,13 @@ module _ (w B f g k D σ κ ρ : ℕ) (P : Parts w B f g k D) (eσ : σ + g ≡ 
   b : 0 < B
   b = omega arith
 
-  W² : 14400 * (w * w) ≤ B * B
+  pub W² : 14400 * (w * w) ≤ B * B
   W² = omega (arith, mul-le-mul W W)
 
   f-w : 240 * f ≤ w
   f-w = le-of-mul-le-mul-right {k = B} (omega (arith, P .f-low, mul-le-mul-right w W)) b
 
-  g-w : 86400 * g ≤ w
+  pub g-w : 86400 * g ≤ w
   g-w = le-of-mul-le-mul-right {k = B * B} (omega (arith, P .g-low, mul-le-mul-right w W²)) (mul-pos b b)
 
   W³ : 1728000 * (w * w * w) ≤ B * B * B
