@@ -2,4 +2,3 @@ pub mod SinCos
 pub mod Atan
 pub mod Asin
 pub mod Answers
-pub mod Arcs

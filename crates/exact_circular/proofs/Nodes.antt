@@ -9,7 +9,7 @@ use lib.ListN.{getD}
 use Rattle.series.specs.Series.{full, num, class}
 use Rattle.series.proofs.Entries as table
 use Rattle.series.proofs.Sharp.{portion}
-use Rattle.circular.specs.Arcs.{cosines, arcs, halfPi}
+use Rattle.circular.specs.Asin.{cosines, arcs, halfPi}
 use Rattle.circular.proofs.Angles.{good, Entry, entry}
 use Rattle.circular.proofs.AtanMost.{or-cases}
 
