@@ -8,7 +8,7 @@ pub mod Angle
 pub mod Reduce
 pub mod AtanBits
 pub mod Cosine
+pub mod Arcs
 pub mod AsinBits
 pub mod AtanMost
 pub mod Within
-pub mod Quotient

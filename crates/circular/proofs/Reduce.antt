@@ -37,14 +37,6 @@ low-reduced q l h =
       way = inl refl;
     }
 
--- room around a reduced tangent: what stays true of it where the denominator is 16 larger or 8 smaller
-pub record Roomy (n c A q : ℕ) (red : Reduced n c A q) : Type 0 where
-  pub P-large : 2 ^ 41 ≤ red .x₀ * c + red .y₀ * n
-  pub x-most : red .x₀ ≤ 129
-  pub R-large : red .y₀ * 16 ≤ red .R
-  pub far-more : 64 * (c + 16 + n) ≤ red .x₀ * (c + 16) + red .y₀ * n
-  pub far-less : (c' : ℕ) → c' + 8 ≡ c → 64 * (c' + n) ≤ red .x₀ * c' + red .y₀ * n
-
 -- ---- a tangent n / c up to 1, and the margin d
 module _ (n c d : ℕ) (top : n ≤ c) (pos : 0 < d) (fine : d * 2 ^ 8 ≤ c) (coarse : c ≤ d * 2 ^ 10) (least : c ≤ n * 2 ^ 12) where
   abbrev i : ℕ
@@ -169,45 +161,6 @@ module _ (n c d : ℕ) (top : n ≤ c) (pos : 0 < d) (fine : d * 2 ^ 8 ≤ c) (c
       far : (y : ℕ) → 64 * (c + n) ≤ 128 * c + y
       far y = omega arith
 
-  pub gentle-roomy : 2 ^ 34 ≤ c → 2 ^ 26 ≤ d → Roomy n c (getD angles i 0) q gentle-reduced
-  unfolding gentle-reduced
-  gentle-roomy large wide =
-      record {
-        P-large = big (i * n) large;
-        x-most = lit≤ tt;
-        R-large = rest i R i-lt R-least wide;
-        far-more = more (i * n);
-        far-less = λ c' e. split c' n (λ l. less c' e (nearly c' e l)) (λ l. plain c' (i * n) l);
-      }
-    where
-      big : (y : ℕ) → 2 ^ 34 ≤ c → 2 ^ 41 ≤ 128 * c + y
-      big y h = omega arith
-
-      rest : (i R : ℕ) → i < 128 → d ≤ R → 2 ^ 26 ≤ d → i * 16 ≤ R
-      rest i R a b e = omega arith
-
-      more : (y : ℕ) → 64 * (c + 16 + n) ≤ 128 * (c + 16) + y
-      more y = omega arith
-
-      plain : (c' y : ℕ) → n ≤ c' → 64 * (c' + n) ≤ 128 * c' + y
-      plain c' y l = omega arith
-
-      -- n is within 8 of c, so the table's entry is far up
-      nearly : (c' : ℕ) → c' + 8 ≡ c → c' < n → 64 ≤ i
-      nearly c' e l = split i 64 (λ k. absurd (no i k (mul-le-mul-right c (below i k)) i-high)) (λ k. k)
-        where
-          below : (i : ℕ) → i < 64 → i ≤ 63
-          below i k = omega arith
-
-          no : (i : ℕ) → i < 64 → i * c ≤ 63 * c → 2 ^ 7 * n - d < i * c + c → ⊥
-          no i k a b = omega (arith, a, b, fine, large, top)
-
-      less : (c' : ℕ) → c' + 8 ≡ c → 64 ≤ i → 64 * (c' + n) ≤ 128 * c' + i * n
-      less c' e k = let m = mul-le-mul-right n k in go (i * n) m
-        where
-          go : (y : ℕ) → 64 * n ≤ y → 64 * (c' + n) ≤ 128 * c' + y
-          go y m = omega arith
-
 -- ---- a tangent n / c from 1 up
 module _ (n c d : ℕ) (top : c ≤ n) (pos : 0 < d) (fine : d * 2 ^ 8 ≤ n) (coarse : 129 * (c + n) ≤ d * (2 ^ 18 - 2 ^ 10)) where
   abbrev at : ℕ
@@ -318,48 +271,6 @@ module _ (n c d : ℕ) (top : c ≤ n) (pos : 0 < d) (fine : d * 2 ^ 8 ≤ n) (c
 
       large : (A q : ℕ) → 128 * 2 ^ 48 ≤ 1 * A → 2 ^ 43 ≤ A + q
       large A q k = omega arith
-
-  pub steep-roomy : 2 ^ 34 ≤ n → 2 ^ 26 ≤ d → Roomy n c (getD steep at 0) quo steep-reduced
-  unfolding steep-reduced
-  steep-roomy large wide =
-      record {
-        P-large = big ((at + 1) * c) large;
-        x-most = one at at-lt;
-        R-large = le-trans (lit≤ tt) (le-trans wide rest-least);
-        far-more = split n (c + 16) (λ l. more (nearly l)) (λ l. plain ((at + 1) * (c + 16)) l);
-        far-less = λ c' e. less c' e ((at + 1) * c');
-      }
-    where
-      big : (y : ℕ) → 2 ^ 34 ≤ n → 2 ^ 41 ≤ y + 128 * n
-      big y h = omega arith
-
-      one : (i : ℕ) → i < 129 → i + 1 ≤ 129
-      one i h = omega arith
-
-      plain : (y : ℕ) → c + 16 ≤ n → 64 * (c + 16 + n) ≤ y + 128 * n
-      plain y l = omega arith
-
-      -- c is within 16 of n, so the table's entry is far down
-      nearly : n < c + 16 → 64 ≤ at + 1
-      nearly l = split at 63 (λ k. absurd (no at (mul-le-mul-right n (below at k)) at-high)) (λ k. up at k)
-        where
-          below : (i : ℕ) → i < 63 → i ≤ 62
-          below i k = omega arith
-
-          up : (i : ℕ) → 63 ≤ i → 64 ≤ i + 1
-          up i k = omega arith
-
-          no : (i : ℕ) → i * n ≤ 62 * n → 2 ^ 7 * c + d < i * n + n → ⊥
-          no i a b = omega (arith, a, b, l, large)
-
-      more : 64 ≤ at + 1 → 64 * (c + 16 + n) ≤ (at + 1) * (c + 16) + 128 * n
-      more k = go ((at + 1) * (c + 16)) (mul-le-mul-right (c + 16) k)
-        where
-          go : (y : ℕ) → 64 * (c + 16) ≤ y → 64 * (c + 16 + n) ≤ y + 128 * n
-          go y m = omega arith
-
-      less : (c' : ℕ) → c' + 8 ≡ c → (y : ℕ) → 64 * (c' + n) ≤ y + 128 * n
-      less c' e y = omega arith
 
 -- ---- what the definition gives, for the patterns of 2 ^ -12 up to 2 ^ 26: x = n / c, and its numerator in units of 2 ^ -149 is n * k
 pub record Case (a : ℕ) : Type 0 where

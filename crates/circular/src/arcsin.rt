@@ -1,21 +1,19 @@
-// The arc sine: the cosine by a whole root, and then the angle by the arc tangent's tables.
+// The arc sine: the cosine by a whole root, and then the angle by the sine of its difference from one of the table's.
 ghost use mathlib.Core.Path.{_≡_};
-ghost use Prim.Native.Nat.{_+_, _-_, _*_, _/_, _^_, _<_, _≤_};
+ghost use Prim.Native.Nat.{_+_, _-_, _*_, _^_, _<_, _≤_};
+ghost use lib.ListN.{getD};
 ghost use Rattle.scalar.specs.Root.{root};
-ghost use Rattle.circular.specs.Atan.{gentleOf, steepOf};
-ghost use Rattle.circular.specs.Asin.{cosineOf, angleAt, asinBits};
-use crate::table::angle_sum;
-use crate::table::gentle_angle;
-use crate::table::long_quotient;
-use crate::table::steep_angle;
-use fixed::high_product;
+ghost use Rattle.circular.specs.Asin.{cosineOf, cosines, gentleArc, steepArc, midArc, lowArc, asinMag, asinBits};
+use crate::nodes::arc_sum;
+use crate::nodes::node_angle;
+use crate::nodes::node_cosine;
 use fixed::pack;
 use fixed::power;
 use fixed::scaled;
 
 // a number not below n's root: the mean of g and n / g
 fn mean(n: u64, g: u64) -> u64
-    requires { ⌜ (0 < g) × (g ≤ 2 ^ 32) × (n < g * 2 ^ 32) ⌝ }
+    requires { ⌜ (0 < g) × (g ≤ 2 ^ 32) × (n < g * (2 ^ 33 - g)) ⌝ }
     ensures { λ r. ⌜ (n < (r + 1) * (r + 1)) × (r < 2 ^ 32) ⌝ }
 {
     (g + n / g) / 2
@@ -29,19 +27,8 @@ fn part(u: u64, c: u64, k: u32) -> u64
     u * c >> k
 }
 
-// For n from 2^63 on, mostly the root itself: the mean after a polynomial for the root of 1 - u / 2^32, which is off
-// by at most one part in 400,000. Of this and of `guess` no proof asks more than what they ensure: `whole_root` corrects them.
-fn large_guess(n: u64) -> u64
-    ensures { λ r. ⌜ (n < (r + 1) * (r + 1)) × (r < 2 ^ 32) ⌝ }
-{
-    let u = 4294967295 - n / 4294967296;
-    let v = part(u, u, 32);
-    let low = 2147309209 + part(u, 536074575, 32);
-    let high = part(v, 300397507 + part(v, 407598307, 32), 32);
-    mean(n, 4294967296 - part(low + high, u, 32))
-}
-
-// the same for any n, in units of 2^k, and off by at most one part in 700 before the mean
+// Mostly n's root itself: the mean after a polynomial in units of 2^k, which is off by at most one part in 700.
+// Of this and of `chord` no proof asks more than what they ensure: `whole_root` corrects them.
 fn guess(n: u64) -> u64
     requires { ⌜ 0 < n ⌝ }
     ensures { λ r. ⌜ (n < (r + 1) * (r + 1)) × (r < 2 ^ 32) ⌝ }
@@ -65,64 +52,94 @@ fn whole_root(n: u64, start: u64) -> u64
     r
 }
 
-// 1 - x^2 in units of 2^-64, for x in units of 2^-35
-fn rest_of_square(x: u64) -> u64
-    requires { ⌜ x < 2 ^ 35 ⌝ }
-    ensures { λ r. ⌜ (r ≡ 2 ^ 64 - 1 - x * x / 2 ^ 6) × (0 < r) ⌝ }
+// 1 - x^2 in units of 2^-64, for the sine x = n * 2^-32
+fn rest_of_square(n: u64) -> u64
+    requires { ⌜ n < 2 ^ 32 ⌝ }
+    ensures { λ r. ⌜ (r ≡ 2 ^ 64 - 1 - n * n) × (0 < r) ⌝ }
 {
-    let w = x * 536870912;
-    18446744073709551615 - high_product(w, w)
+    18446744073709551615 - n * n
 }
 
-// the root of 1 - x^2
-fn cosine(x: u64) -> u64
-    requires { ⌜ x < 2 ^ 35 ⌝ }
-    ensures { λ r. ⌜ r ≡ cosineOf x ⌝ }
+// the cosine to the sine n
+fn cosine(n: u64) -> u64
+    requires { ⌜ n < 2 ^ 32 ⌝ }
+    ensures { λ r. ⌜ r ≡ cosineOf n ⌝ }
 {
-    let n = rest_of_square(x);
-    8 * whole_root(n, guess(n))
+    let m = rest_of_square(n);
+    whole_root(m, guess(m))
 }
 
-// the same, quicker where x is at most the root of 1/2
-fn large_cosine(x: u64) -> u64
-    requires { ⌜ x < 2 ^ 35 ⌝ }
-    ensures { λ r. ⌜ r ≡ cosineOf x ⌝ }
+// the same from a number g near it
+fn near_cosine(n: u64, g: u64) -> u64
+    requires { ⌜ (n < 2 ^ 32) × (0 < g) × (g ≤ 2 ^ 32) × (2 ^ 32 ≤ g + n) ⌝ }
+    ensures { λ r. ⌜ r ≡ cosineOf n ⌝ }
 {
-    let n = rest_of_square(x);
-    8 * whole_root(n, large_guess(n))
+    let m = rest_of_square(n);
+    whole_root(m, mean(m, g))
 }
 
-// the angle with the tangent n / c up to 1
-fn gentle(n: u64, c: u64) -> u64
-    requires { ⌜ (2 ^ 23 ≤ n) × (n ≤ c) × (2 ^ 34 ≤ c) × (c < 2 ^ 35) ⌝ }
-    ensures { λ r. ⌜ r ≡ gentleOf n c (2 ^ 26) ⌝ }
+// The cosine to the sine i / 256 + e * 2^-32, by the chord from the table's i, whose cosine is x, to the next:
+// off by at most one part in 100,000
+fn chord(i: usize, x: u64, e: u64) -> u64
+    requires { ⌜ (1 ≤ i) × (i ≤ 181) × (x ≡ getD cosines i 0) × (2 ^ 16 ≤ e) × (e ≤ 2 ^ 24 + 2 ^ 16) ⌝ }
+    ensures { λ r. ⌜ (0 < r) × (r ≤ 2 ^ 32) × (2 ^ 32 ≤ r + (i * 2 ^ 24 + e)) ⌝ }
 {
-    let i = (128 * n - 67108864) / c;
-    let q = long_quotient(128 * n - i * c, 128 * c + i * n);
-    angle_sum(gentle_angle(i as usize), q)
+    x - (x - node_cosine(i + 1)) * e / 16777216
 }
 
-// the angle with the tangent n / c from 1 up
-fn steep(n: u64, c: u64) -> u64
-    requires { ⌜ (c ≤ n) × (2 ^ 34 ≤ n) × (n < 2 ^ 35) ⌝ }
-    ensures { λ r. ⌜ r ≡ steepOf n c (2 ^ 26) ⌝ }
+// the angle with the sine n up to the root of 1/2
+fn gentle_arc(n: u64) -> u64
+    requires { ⌜ (2 ^ 25 ≤ n) × (n ≤ 3037000499) ⌝ }
+    ensures { λ r. ⌜ r ≡ gentleArc n (cosineOf n) ⌝ }
 {
-    let i = (128 * c + 67108864) / n;
-    let j = i + 1;
-    let q = long_quotient(n * j - 128 * c, c * j + 128 * n);
-    angle_sum(steep_angle(i as usize), q)
+    let i = (n - 65536) / 16777216;
+    let y = i * 16777216;
+    let x = node_cosine(i as usize);
+    let c = near_cosine(n, chord(i as usize, x, n - y));
+    arc_sum(node_angle(i as usize), (x * n - y * c) / 256)
 }
 
-// the angle with the sine x / 2^35, from 2^-12 on and below 1
-fn angle_at(x: u64) -> u64
-    requires { ⌜ (2 ^ 23 ≤ x) × (x < 2 ^ 35) ⌝ }
-    ensures { λ r. ⌜ r ≡ angleAt x ⌝ }
+// the angle with the sine n above it
+fn steep_arc(n: u64) -> u64
+    requires { ⌜ (3037000500 ≤ n) × (n < 2 ^ 32) ⌝ }
+    ensures { λ r. ⌜ r ≡ steepArc n (cosineOf n) ⌝ }
 {
-    // up to this x the sine is not above the cosine
-    if x <= 24296003999 {
-        return gentle(x, large_cosine(x));
+    let c = cosine(n);
+    let j = (c + 65536) / 16777216 + 1;
+    let y = node_cosine(j as usize);
+    arc_sum(
+        113187804032455044 - node_angle(j as usize),
+        (j * 16777216 * n - y * c) / 256,
+    )
+}
+
+// x from 2^-7 on and below 1
+fn mid_arc(n: u64) -> u64
+    requires { ⌜ (2 ^ 25 ≤ n) × (n < 2 ^ 32) ⌝ }
+    ensures { λ r. ⌜ r ≡ midArc n ⌝ }
+{
+    if n <= 3037000499 {
+        return gentle_arc(n);
     }
-    steep(x, cosine(x))
+    steep_arc(n)
+}
+
+// x from 2^-12 to 2^-7: no table
+fn low_arc(a: u32) -> u64
+    requires { ⌜ (0x3980_0000 ≤ a) × (a < 0x3c00_0000) ⌝ }
+    ensures { λ r. ⌜ r ≡ lowArc a ⌝ }
+{
+    arc_sum(0, scaled(a, 94))
+}
+
+fn asin_mag(a: u32) -> u64
+    requires { ⌜ (0x3980_0000 ≤ a) × (a < 0x3f80_0000) ⌝ }
+    ensures { λ r. ⌜ r ≡ asinMag a ⌝ }
+{
+    if a < 0x3c000000 {
+        return low_arc(a);
+    }
+    mid_arc(scaled(a, 118))
 }
 
 // from the bit pattern of x to that of its arc sine
@@ -135,7 +152,7 @@ pub fn asin_bits(b: u32) -> u32
         return b;
     }
     if a < 0x3f800000 {
-        return t + pack(angle_at(scaled(a, 115)));
+        return t + pack(asin_mag(a));
     }
     if a <= 0x3f800000 {
         return t + 0x3fc90fdb;

@@ -8,6 +8,7 @@ ghost use Rattle.circular.specs.Answers.{sinAnswer, cosAnswer, answerNum
 
 pub mod arcsin;
 pub mod arctan;
+pub mod nodes;
 pub mod table;
 pub mod waves;
 

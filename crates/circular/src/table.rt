@@ -1,4 +1,4 @@
-// Angles with their tangents, and the small angle whose tangent is known: what the arc tangent and the arc sine share.
+// The arc tangent's angles with their tangents, and the small angle whose tangent is known.
 ghost use mathlib.Core.Path.{_≡_};
 ghost use Prim.Native.Nat.{_*_, _/_, _^_, _<_, _≤_};
 ghost use lib.ListN.{getD};
@@ -297,38 +297,6 @@ pub fn quotient(n: u64, d: u64) -> u64
 {
     let m = n * 1073741824;
     (m / d) * 67108864 + (m % d) * 67108864 / d
-}
-
-// r / d in units of 2^-28
-fn rest_quotient(r: u64, d: u64) -> u64
-    requires { ⌜ (r < d) × (2 ^ 41 ≤ d) × (d ≤ 2 ^ 44) ⌝ }
-    ensures { λ q. ⌜ q ≡ r * 2 ^ 28 / d ⌝ }
-{
-    let k = r * 1048576;
-    (k / d) * 256 + (k % d) * 256 / d
-}
-
-// the same, mostly by one division: the quotient by d without its last eight bits is exact, if its remainder covers them
-fn fine_quotient(r: u64, d: u64) -> u64
-    requires { ⌜ (r < d) × (2 ^ 41 ≤ d) × (d ≤ 2 ^ 44) ⌝ }
-    ensures { λ q. ⌜ q ≡ r * 2 ^ 28 / d ⌝ }
-{
-    let k = r * 1048576;
-    let h = d / 256;
-    let q = k / h;
-    if q * (d % 256) <= (k % h) * 256 {
-        return q;
-    }
-    rest_quotient(r, d)
-}
-
-// the same as `quotient` for larger n and d
-pub fn long_quotient(n: u64, d: u64) -> u64
-    requires { ⌜ (n < 2 ^ 36) × (2 ^ 41 ≤ d) × (d ≤ 2 ^ 44) ⌝ }
-    ensures { λ r. ⌜ r ≡ n * 2 ^ 56 / d ⌝ }
-{
-    let m = n * 268435456;
-    (m / d) * 268435456 + fine_quotient(m % d, d)
 }
 
 // the angle a, and the small one whose tangent is q * 2^-56

@@ -1,14 +1,13 @@
 -- `circular::arcsin::asin_bits` meets its contract, case by case.
 use mathlib.Core.Path.{_≡_, sym, ap, _∙_, subst}
-use Prim.Native.Nat.{ℕ, _+_, _-_, _*_, _/_, _%_, _^_, _<_, _≤_}
+use Prim.Native.Nat.{ℕ, _+_, _*_, _/_, _%_, _^_, _<_, _≤_}
 use native.Mathlib.Omega.{arith}
 use mir.Syntax.{w32}
 use mir.Val.{Fits}
 use borrow.Author.Needs.{needs}
-use Rattle.fixed.specs.Fixed.{pattern, scaledOf}
+use Rattle.fixed.specs.Fixed.{pattern}
 use Rattle.fixed.proofs.Round.{pattern-lt}
-use Rattle.circular.specs.Asin.{angleAt}
-use Rattle.circular.proofs.AsinBits.{range, angle-fits, small-bits, mid-bits, one-bits, outside-bits}
+use Rattle.circular.proofs.AsinBits.{mag-fits, small-bits, mid-bits, one-bits, outside-bits}
 use Rattle.circular.proofs.arcsin.asin_bits.Statement.{statement}
 use Rattle.circular.proofs.arcsin.asin_bits.Tie as tie
 
@@ -24,30 +23,24 @@ mul-t c = search needs
 returns : tie.Need-returns
 returns c = sym (small-bits (c .before .args .b) (c .if1 .taken))
 
-scaled-requires : tie.Need-scaled-requires
-scaled-requires c κs = search needs
-
-angle-at-requires : tie.Need-angle-at-requires
-angle-at-requires c κs = subst (λ (x : ℕ). (2 ^ 23 ≤ x) × (x < 2 ^ 35)) (sym (c .scaled .ensures)) (range (c .before .before .before .args .b % 2 ^ 31) (c .before .before .if1 .left) (c .before .if2 .taken))
-
-angle-is : (c : tie.After-angle-at) → c .angle-at .result ≡ angleAt (scaledOf (c .before .before .before .before .args .b % 2 ^ 31) 115)
-angle-is c = c .angle-at .ensures ∙ ap angleAt (c .before .scaled .ensures)
+asin-mag-requires : tie.Need-asin-mag-requires
+asin-mag-requires c κs = search needs
 
 pack-requires : tie.Need-pack-requires
 pack-requires c κs =
-    let a = c .before .before .before .before .args .b % 2 ^ 31 in
-    let R = range a (c .before .before .before .if1 .left) (c .before .before .if2 .taken) in
-    subst (λ (x : ℕ). (2 ^ 30 ≤ x) × (x < 2 ^ 64)) (sym (angle-is c)) (angle-fits (scaledOf a 115) (R .0) (R .1))
+    subst (λ (x : ℕ). (2 ^ 30 ≤ x) × (x < 2 ^ 64)) (sym (c .asin-mag .ensures))
+    (mag-fits (c .before .before .before .args .b % 2 ^ 31) (c .before .before .if1 .left) (c .before .if2 .taken))
 
 add-result : tie.Need-add-result
 add-result c =
     let r = pack-requires (c .before) (c .pack .lifetimes) in
-    add-fits (c .before .before .before .before .before .args .b) (c .before .angle-at .result) (c .pack .result) (c .before .before .before .before .before .fits .b .fits) (c .pack .ensures) (r .0) (r .1)
+    let s = c .before .before .before .before in
+    add-fits (s .args .b) (c .before .asin-mag .result) (c .pack .result) (s .fits .b .fits) (c .pack .ensures) (r .0) (r .1)
 
 returns-2 : tie.Need-returns-2
 returns-2 c =
-    let b = c .before .before .before .before .before .args .b in
-    ap (λ (x : ℕ). b / 2 ^ 31 * 2 ^ 31 + x) (c .pack .ensures ∙ ap pattern (angle-is (c .before))) ∙ sym (mid-bits b (c .before .before .before .before .if1 .left) (c .before .before .before .if2 .taken))
+    let b = c .before .before .before .before .args .b in
+    ap (λ (x : ℕ). b / 2 ^ 31 * 2 ^ 31 + x) (c .pack .ensures ∙ ap pattern (c .before .asin-mag .ensures)) ∙ sym (mid-bits b (c .before .before .before .if1 .left) (c .before .before .if2 .taken))
 
 add-result-2 : tie.Need-add-result-2
 add-result-2 c = search needs
@@ -59,4 +52,4 @@ returns-4 : tie.Need-returns-4
 returns-4 c = sym (outside-bits (c .before .before .before .args .b) (c .if3 .left))
 
 pub asin-bits-spec : {M : Type 1} → statement M
-asin-bits-spec = tie.close (tie.spec mul-t returns scaled-requires angle-at-requires pack-requires add-result returns-2 add-result-2 returns-3 returns-4)
+asin-bits-spec = tie.close (tie.spec mul-t returns asin-mag-requires pack-requires add-result returns-2 add-result-2 returns-3 returns-4)

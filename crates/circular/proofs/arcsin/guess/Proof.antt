@@ -1,5 +1,5 @@
 -- `circular::arcsin::guess` meets its contract: n has at most 2 k bits, so that n / 2 ^ k is below 2 ^ k, and n below g * 2 ^ k.
-use mathlib.Core.Path.{_≡_, sym, subst}
+use mathlib.Core.Path.{_≡_}
 use Prim.Native.Nat.{ℕ, suc, _+_, _-_, _*_, _/_, _^_, _≤_, _<_}
 use native.Mathlib.Nat.{lt-of-lt-of-le, le-of-eq, div-lt-iff-lt-mul, le-trans, mul-le-mul, lt-suc-self}
 use native.Mathlib.Omega.{arith}
@@ -93,10 +93,11 @@ mean-requires c κs =
     let p = power-le (s .before) in
     go (s .power .result) (2 ^ k (s .before)) (s .before .args .n / 2 ^ k (s .before)) (c .part3 .result) (s .before .args .n) e q p h (above (s .before))
   where
-    go : (P p w r n : ℕ) → P ≡ p → w < p → p ≤ 2 ^ 32 → r ≤ P - 1 - w → n < suc w * p → (0 < P - r) × (P - r ≤ 2 ^ 32) × (n < (P - r) * 2 ^ 32)
+    go : (P p w r n : ℕ) → P ≡ p → w < p → p ≤ 2 ^ 32 → r ≤ P - 1 - w → n < suc w * p → (0 < P - r) × (P - r ≤ 2 ^ 32) × (n < (P - r) * (2 ^ 33 - (P - r)))
     go P p w r n e q l h a =
         let g : suc w ≤ P - r = omega arith in
-        let m = mul-le-mul g l in
+        let k : p ≤ 2 ^ 33 - (P - r) = omega arith in
+        let m = mul-le-mul g k in
         (omega arith, omega arith, lt-of-lt-of-le a m)
 
 returns : tie.Need-returns

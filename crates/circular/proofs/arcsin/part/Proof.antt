@@ -1,5 +1,5 @@
 -- `circular::arcsin::part` meets its contract: u / 2 ^ k is below 1.
-use Prim.Native.Nat.{ℕ, _+_, _-_, _*_, _/_, _^_, _≤_, _<_}
+use Prim.Native.Nat.{ℕ, _-_, _*_, _^_, _≤_, _<_}
 use native.Mathlib.Nat.{div-le-of-le-mul, mul-le-mul-right, mul-le-mul, le-of-lt, lt-of-lt-of-le}
 use native.Mathlib.Omega.{arith}
 use lib.Pow.{pow-mono}

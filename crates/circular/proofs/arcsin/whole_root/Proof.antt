@@ -1,11 +1,10 @@
 -- `circular::arcsin::whole_root` meets its contract: n stays below the square of r + 1, r falls, and the loop ends where r * r is not above n.
 use mathlib.Core.Path.{subst}
 use Prim.Native.Nat.{ℕ, _+_, _-_, _*_, _^_, _≤_, _<_}
-use native.Mathlib.Nat.{lt-of-le-of-lt, mul-le-mul, div-le-self}
+use native.Mathlib.Nat.{lt-of-le-of-lt, mul-le-mul}
 use native.Mathlib.Numerals.{add-one}
 use native.Mathlib.Omega.{arith}
 use lib.Dec.{lit<}
-use borrow.Author.Needs.{needs}
 use Rattle.scalar.proofs.WholeRoot.{root-only}
 use Rattle.scalar.proofs.MeanStep.{step-not-below, step-down, guess-pos}
 use Rattle.circular.proofs.arcsin.whole_root.Statement.{statement}

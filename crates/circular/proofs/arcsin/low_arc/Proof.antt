@@ -1,0 +1,25 @@
+-- `circular::arcsin::low_arc` meets its contract.
+use mathlib.Core.Path.{sym, ap, _∙_, subst}
+use Prim.Native.Nat.{ℕ, _^_, _<_}
+use native.Mathlib.Nat.{lt-of-le-of-lt}
+use native.Mathlib.Omega.{arith}
+use lib.Dec.{lit<}
+use borrow.Author.Needs.{needs}
+use Rattle.circular.specs.Asin.{arcOf}
+use Rattle.circular.proofs.AsinBits.{low-range}
+use Rattle.circular.proofs.arcsin.low_arc.Statement.{statement}
+use Rattle.circular.proofs.arcsin.low_arc.Tie as tie
+
+scaled-requires : tie.Need-scaled-requires
+scaled-requires c κs = search needs
+
+arc-sum-requires : tie.Need-arc-sum-requires
+arc-sum-requires c κs =
+    let s = c .before in
+    (omega arith, subst (λ (x : ℕ). x < 2 ^ 50) (sym (c .scaled .ensures)) (lt-of-le-of-lt (low-range (s .args .a) (s .pre .0) (s .pre .1) .1) (lit< tt)))
+
+returns : tie.Need-returns
+returns c = c .arc-sum .ensures ∙ ap (λ (x : ℕ). arcOf 0 x) (c .before .scaled .ensures)
+
+pub low-arc-spec : {M : Type 1} → statement M
+low-arc-spec = tie.close (tie.spec scaled-requires arc-sum-requires returns)
