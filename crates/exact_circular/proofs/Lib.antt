@@ -11,4 +11,6 @@ pub mod SineRoom
 pub mod SmallCircle
 pub mod Nodes
 pub mod AsinEnds
+pub mod AsinCases
+pub mod Asin
 pub mod Literal
