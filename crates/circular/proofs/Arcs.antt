@@ -58,12 +58,16 @@ node-slope i h = go (getD cosines i 0) (and-r (circle (getD cosines i 0) (i * 2 
         let a : x + 1 ≤ 2 ^ 32 = leb→le _ _ (and-l l k t) in
         (omega arith, leb→le _ _ (and-r l k t))
 
+-- by the squares
+square-le : (a b : ℕ) → a * a < (b + 1) * (b + 1) → a ≤ b
+square-le a b h = root-ge (a * a) b a (omega (arith, h)) (omega arith)
+
 -- the cosines fall
 pub node-falls : (i : ℕ) → i < 182 → getD cosines (i + 1) 0 ≤ getD cosines i 0
 node-falls i h = go (getD cosines i 0) (getD cosines (i + 1) 0) (node i (omega arith)) (node (i + 1) (omega arith))
   where
     go : (x z : ℕ) → Norm x (i * 2 ^ 24) → Norm z ((i + 1) * 2 ^ 24) → z ≤ x
-    go x z N M = root-ge (z * z) x z (let a = N .high in let b = M .low in omega (arith, a, b)) (omega arith)
+    go x z N M = square-le z x (omega (arith, N .high, M .low))
 
 pub arc-most : (i : ℕ) → i < 183 → getD arcs i 0 ≤ halfPi
 unfolding arcs
@@ -106,17 +110,17 @@ place n r x y up down sizes even above far near = go (n - y) (x - r) (omega arit
         (subst₂ (λ (n x : ℕ). 7 * (n + y) ≤ 8 * (x + r)) (sym p) (sym q) even)
         (sizes .1) (subst (λ (n : ℕ). n ≤ 182 * 2 ^ 24) (sym p) (sizes .2)) a b)
 
--- by the squares
-square-le : (a b : ℕ) → a * a < (b + 1) * (b + 1) → a ≤ b
-square-le a b h = root-ge (a * a) b a (omega (arith, h)) (omega arith)
-
--- the whole root: n with its cosine is a point of the circle
-pub cosine-norm : (n : ℕ) → n < 2 ^ 32 → (cosineOf n * cosineOf n + n * n ≤ 2 ^ 64) × (2 ^ 64 ≤ (cosineOf n + 1) * (cosineOf n + 1) + n * n)
+-- the whole root: n with its cosine is such a point too
+pub cosine-norm : (n : ℕ) → n < 2 ^ 32 → Norm (cosineOf n) n
 unfolding cosineOf
 cosine-norm n h = go (cosineOf n) (root-is (2 ^ 64 - 1 - n * n)) (let l : n ≤ 2 ^ 32 - 1 = omega arith in mul-le-mul l l)
   where
-    go : (r : ℕ) → (r * r ≤ 2 ^ 64 - 1 - n * n) × (2 ^ 64 - 1 - n * n < suc r * suc r) → n * n ≤ (2 ^ 32 - 1) * (2 ^ 32 - 1) → (r * r + n * n ≤ 2 ^ 64) × (2 ^ 64 ≤ (r + 1) * (r + 1) + n * n)
-    go r R s = (omega (arith, R .0, s), omega (arith, R .1, s))
+    go : (r : ℕ) → (r * r ≤ 2 ^ 64 - 1 - n * n) × (2 ^ 64 - 1 - n * n < suc r * suc r) → n * n ≤ (2 ^ 32 - 1) * (2 ^ 32 - 1) → Norm r n
+    go r R s =
+        record {
+          low = omega (arith, R .0, s);
+          high = omega (arith, R .1, s);
+        }
 
 -- ---- 3037000500 is the root of 1/2, rounded up: it parts the two cases
 pub gentle-cosine : (n : ℕ) → n ≤ 3037000499 → (3037000499 ≤ cosineOf n) × (cosineOf n < 2 ^ 32)
@@ -141,17 +145,16 @@ gentle-placed n l h =
     let b : i ≤ 181 = omega arith in
     (omega arith, b, go i (cosineOf n) (getD cosines i 0) (omega arith) (omega arith) (cosine-norm n (omega arith)) (gentle-cosine n h) (node i (omega arith)) b)
   where
-    go : (i r x : ℕ) → i * 2 ^ 24 + 2 ^ 16 ≤ n → n ≤ i * 2 ^ 24 + (2 ^ 24 + 2 ^ 16) → (r * r + n * n ≤ 2 ^ 64) × (2 ^ 64 ≤ (r + 1) * (r + 1) + n * n) → (3037000499 ≤ r) × (r < 2 ^ 32) → Norm x (i * 2 ^ 24) → i ≤ 181 → Placed n r x (i * 2 ^ 24)
-    go i r x far near C R N b = place n r x (i * 2 ^ 24) (N .low) (C .1) (omega (arith, R .0), omega (arith, R .1), omega arith) (let a = above in omega (arith, R .0)) above far near
+    go : (i r x : ℕ) → i * 2 ^ 24 + 2 ^ 16 ≤ n → n ≤ i * 2 ^ 24 + (2 ^ 24 + 2 ^ 16) → Norm r n → (3037000499 ≤ r) × (r < 2 ^ 32) → Norm x (i * 2 ^ 24) → i ≤ 181 → Placed n r x (i * 2 ^ 24)
+    go i r x far near C R N b = place n r x (i * 2 ^ 24) (N .low) (C .high) (omega (arith, R .0), omega (arith, R .1), omega arith) (let a = above in omega (arith, R .0)) above far near
       where
-        -- n n is above y y
         above : r ≤ x
-        above = let m = mul-le-mul far far in square-le r x (omega (arith, m, C .0, N .high))
+        above = let m = mul-le-mul far far in square-le r x (omega (arith, m, C .low, N .high))
 
 pub steep-placed : (n : ℕ) → 3037000500 ≤ n → n < 2 ^ 32 → let j = (cosineOf n + 2 ^ 16) / 2 ^ 24 + 1 in (1 ≤ j) × (j ≤ 182) × Placed n (cosineOf n) (j * 2 ^ 24) (getD cosines j 0)
 steep-placed n l h = go (cosineOf n) (steep-cosine n l) (cosine-norm n h)
   where
-    go : (r : ℕ) → r ≤ 3037000499 → (r * r + n * n ≤ 2 ^ 64) × (2 ^ 64 ≤ (r + 1) * (r + 1) + n * n) → let j = (r + 2 ^ 16) / 2 ^ 24 + 1 in (1 ≤ j) × (j ≤ 182) × Placed n r (j * 2 ^ 24) (getD cosines j 0)
+    go : (r : ℕ) → r ≤ 3037000499 → Norm r n → let j = (r + 2 ^ 16) / 2 ^ 24 + 1 in (1 ≤ j) × (j ≤ 182) × Placed n r (j * 2 ^ 24) (getD cosines j 0)
     go r R C =
         let j = (r + 2 ^ 16) / 2 ^ 24 + 1 in
         let b : j ≤ 182 = omega arith in
@@ -159,10 +162,10 @@ steep-placed n l h = go (cosineOf n) (steep-cosine n l) (cosine-norm n h)
       where
         -- sine and cosine change places
         at : (j y : ℕ) → r + 2 ^ 16 ≤ j * 2 ^ 24 → j * 2 ^ 24 ≤ r + (2 ^ 24 + 2 ^ 16) → Norm y (j * 2 ^ 24) → (y < 2 ^ 32) × (2 ^ 32 ≤ y + 1 + j * (7 * 2 ^ 20)) → j ≤ 182 → Placed n r (j * 2 ^ 24) y
-        at j y far near N S b = turned (place (j * 2 ^ 24) y n r (omega (arith, C .0)) (N .high) (omega (arith, S .1), omega (arith, S .0), omega arith) (omega (arith, S .1)) above far near)
+        at j y far near N S b = turned (place (j * 2 ^ 24) y n r (omega (arith, C .low)) (N .high) (omega (arith, S .1), omega (arith, S .0), omega arith) (omega (arith, S .1)) above far near)
           where
             above : y ≤ n
-            above = let m = mul-le-mul far far in square-le y n (omega (arith, m, C .1, N .low))
+            above = let m = mul-le-mul far far in square-le y n (omega (arith, m, C .high, N .low))
 
             turned : Placed (j * 2 ^ 24) y n r → Placed n r (j * 2 ^ 24) y
             turned P =

@@ -27,7 +27,7 @@ fn part(u: u64, c: u64, k: u32) -> u64
     u * c >> k
 }
 
-// Mostly n's root itself: the mean after a polynomial in units of 2^k, which is off by at most one part in 700.
+// Near n's root: the mean after a polynomial in units of 2^k, which is off by at most one part in 700.
 // Of this and of `chord` no proof asks more than what they ensure: `whole_root` corrects them.
 fn guess(n: u64) -> u64
     requires { ⌜ 0 < n ⌝ }
