@@ -121,16 +121,16 @@ steep-turned n l h =
 mid-cosine : (n : ℕ) → 2 ^ 25 ≤ n → n < 2 ^ 32 → Cosine (8 * n) (cosineOf n)
 mid-cosine n l h = go (cosineOf n) (cosine-norm n h)
   where
-    go : (r : ℕ) → (r * r + n * n ≤ 2 ^ 64) × (2 ^ 64 ≤ (r + 1) * (r + 1) + n * n) → Cosine (8 * n) r
+    go : (r : ℕ) → Norm r n → Cosine (8 * n) r
     go r N =
         record {
           r-lt = split r (2 ^ 32) (λ k. k) (λ k. absurd (no (mul-le-mul k k) (mul-le-mul l l)));
-          low = omega (arith, N .0);
-          high = omega (arith, N .1);
+          low = omega (arith, N .low);
+          high = omega (arith, N .high);
         }
       where
         no : 2 ^ 32 * 2 ^ 32 ≤ r * r → 2 ^ 25 * 2 ^ 25 ≤ n * n → ⊥
-        no a b = omega (arith, a, b, N .0)
+        no a b = omega (arith, a, b, N .low)
 
 -- ---- the two ranges
 powers : (d i j k : ℕ) → i ≡ j + k → d * 2 ^ i ≡ d * 2 ^ j * 2 ^ k
