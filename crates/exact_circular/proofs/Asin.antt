@@ -1,12 +1,12 @@
 -- `asinOf x` is less than one unit in the last place from the arc sine of x, for every f32.
-use mathlib.Core.Path.{_≡_, refl, sym, ap, ap₂, _∙_, subst, subst₂}
+use mathlib.Core.Path.{_≡_, refl, sym, ap, _∙_, subst, subst₂}
 use mathlib.Core.Logic.{_⊎_, inl, inr}
 use mathlib.Core.Bool.{Bool, true, false, cond}
 use Prim.Native.Nat.{ℕ, zero, suc, _+_, _-_, _*_, _/_, _%_, _^_, _≤_, _<_}
-use native.Mathlib.Nat.{le-trans, le-of-eq, le-of-lt, le-refl, lt-of-le-of-lt, lt-of-not-le, not-le-of-lt, mul-assoc, mul-comm, mul-right-comm, mul-one, mul-pos, mul-le-mul, mul-le-mul-left, mul-le-mul-right, le-of-mul-le-mul-right, eq-of-mul-eq-mul-right, add-le-add}
+use native.Mathlib.Nat.{le-trans, le-of-eq, le-of-lt, le-refl, lt-of-le-of-lt, lt-of-not-le, not-le-of-lt, mul-assoc, mul-comm, mul-right-comm, mul-one, mul-le-mul, mul-le-mul-left, mul-le-mul-right, le-of-mul-le-mul-right, eq-of-mul-eq-mul-right, add-le-add}
 use native.Mathlib.Omega.{arith}
 use lib.Dec.{T, leb, eqb, lit<, lit≤}
-use lib.Pow.{pow-pos, pow-mono, pow-add}
+use lib.Pow.{pow-pos, pow-mono}
 use lib.Ieee.{Float, nan, inf, fin, binary32, up, down, size, ofBits, toBits, fits}
 use lib.Ieee.Digits.{size-le}
 use lib.Ieee.Fits.{down-pos}
@@ -16,11 +16,11 @@ use Rattle.series.specs.Series.{full, num, class, Later, SinLe, SinGe}
 use Rattle.series.proofs.Cases.{split}
 use Rattle.series.proofs.Waves.{Enc4}
 use Rattle.series.proofs.Bounds.{cos-plus, cos-minus, sine-le, sine-ge, enc-scaled}
-use Rattle.fixed.specs.Fixed.{mant, pattern, digits, scaledOf}
+use Rattle.fixed.specs.Fixed.{mant, pattern, digits}
 use Rattle.fixed.proofs.Round.{place, pattern-lt}
 use Rattle.fixed.proofs.Values.{value, v-small, ulps, bits-255, packed-value, normal-value, sign-plus}
-use Rattle.fixed.proofs.Sizes.{Size, finite-value, size-lt}
-use Rattle.exact.specs.Unit.{steps, ulp}
+use Rattle.fixed.proofs.Sizes.{finite-value, size-lt}
+use Rattle.exact.specs.Unit.{steps}
 use Rattle.exact.specs.Near.{NearAsin}
 use Rattle.exact.proofs.Unit.{steps-is}
 use Rattle.circular.specs.Asin.{sixthOf, arcOf, asinMag, asinBits, asinOf}

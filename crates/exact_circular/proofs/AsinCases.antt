@@ -1,11 +1,11 @@
 -- The angle that the arc sine's definition brings every x from 2 ^ -12 on and below 1 to: with no table below 2 ^ -7, and a node of it from there.
 use mathlib.Core.Path.{_≡_, refl, sym, ap, _∙_, subst}
-use mathlib.Core.Logic.{_⊎_, inl, inr}
-use Prim.Native.Nat.{ℕ, suc, _+_, _-_, _*_, _/_, _%_, _^_, _≤_, _<_}
-use native.Mathlib.Nat.{le-trans, le-of-lt, lt-of-le-of-lt, mul-assoc, mul-le-mul, mul-le-mul-left, mul-le-mul-right}
+use mathlib.Core.Logic.{inl, inr}
+use Prim.Native.Nat.{ℕ, _+_, _-_, _*_, _/_, _^_, _≤_, _<_}
+use native.Mathlib.Nat.{le-trans, le-of-lt, lt-of-le-of-lt, mul-assoc, mul-le-mul}
 use native.Mathlib.Omega.{arith}
 use lib.Dec.{lit≤, lit<}
-use lib.Pow.{pow-pos, pow-add}
+use lib.Pow.{pow-add}
 use lib.ListN.{getD}
 use Rattle.series.specs.Series.{full, num, class}
 use Rattle.series.proofs.Cases.{split}

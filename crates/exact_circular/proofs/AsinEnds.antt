@@ -1,10 +1,10 @@
 -- The two ends of the arc sine's angle, 15/16 of a unit below and above: the tangent at the lower one is at most X over the cosine and 16 units, at the upper one at least X over the cosine less 8.
 -- The sine of a small angle w is w - w³ / 6, and s + s³ / 6 undoes that within a small part of the 28 v that rounding leaves to spare.
 -- What the way from these tangents to the sine needs is in SineRoom.
-use mathlib.Core.Path.{_≡_, refl, sym, ap, _∙_, subst}
+use mathlib.Core.Path.{_≡_, refl, sym, ap, subst}
 use mathlib.Core.Logic.{_⊎_, inl, inr}
-use Prim.Native.Nat.{ℕ, suc, _+_, _-_, _*_, _/_, _^_, _≤_, _<_}
-use native.Mathlib.Nat.{le-trans, le-of-eq, le-of-lt, le-refl, le-dest, mul-assoc, mul-pos, mul-le-mul, mul-le-mul-left, mul-le-mul-right, le-of-mul-le-mul-right, div-mul-le-self}
+use Prim.Native.Nat.{ℕ, _+_, _-_, _*_, _/_, _^_, _≤_, _<_}
+use native.Mathlib.Nat.{le-trans, le-of-eq, le-of-lt, le-dest, mul-assoc, mul-pos, mul-le-mul, mul-le-mul-left, mul-le-mul-right, le-of-mul-le-mul-right, div-mul-le-self}
 use native.Mathlib.Omega.{arith}
 use lib.Dec.{lit≤}
 use lib.Pow.{pow-pos}

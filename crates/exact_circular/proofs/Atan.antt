@@ -1,31 +1,27 @@
 -- `atanOf x` is less than one unit of its last place from the arc tangent of x, for every f32.
-use mathlib.Core.Path.{_≡_, refl, sym, ap, ap₂, _∙_, subst, subst₂}
-use mathlib.Core.Bool.{Bool, true, false, not, cond}
+use mathlib.Core.Path.{_≡_, refl, sym, ap, _∙_, subst, subst₂}
+use mathlib.Core.Bool.{Bool, false, cond}
 use Prim.Native.Nat.{ℕ, zero, suc, _+_, _-_, _*_, _/_, _%_, _^_, _≤_, _<_}
-use native.Mathlib.Nat.{le-trans, le-of-eq, le-of-lt, le-refl, mul-assoc, mul-comm, mul-right-comm, mul-le-mul, mul-le-mul-left, mul-le-mul-right, le-of-mul-le-mul-right, eq-of-mul-eq-mul-right, mul-one, mul-pos, add-le-add, lt-of-le-of-lt, not-suc-le-zero}
+use native.Mathlib.Nat.{le-trans, le-of-lt, mul-assoc, mul-right-comm, mul-le-mul, mul-le-mul-left, mul-le-mul-right, eq-of-mul-eq-mul-right, mul-one, mul-pos, add-le-add, lt-of-le-of-lt, not-suc-le-zero}
 use native.Mathlib.Omega.{arith}
-use lib.Dec.{T, leb, ltb, eqb, eqb·suc-zero, lit<, lit≤}
-use lib.IntN.{ℤ, pos, negsuc}
-use lib.Pow.{pow-pos, pow-mono, pow-add}
-use lib.Count.{leadingZeros}
-use borrow.Author.Tests.{le-leb, lt-leb, le-ltb, lt-ltb}
-use lib.Ieee.{Float, nan, inf, fin, binary32, up, down, size, ofBits, toBits, nanBits, isNan, fits}
+use lib.Dec.{T, leb, eqb, eqb·suc-zero, lit<, lit≤}
+use lib.Pow.{pow-pos, pow-mono}
+use lib.Ieee.{Float, nan, inf, fin, binary32, up, down, size, ofBits, toBits, fits}
 use lib.Ieee.Digits.{size-le}
-use lib.Ieee.Fits.{down-pos}
-use lib.Ieee.Bits.{ofBits-toBits, toBits-lt, nanBits-is}
+use lib.Ieee.Bits.{ofBits-toBits, toBits-lt}
 use lib.Ieee.Exact.{HasValue}
-use Rattle.fixed.specs.Fixed.{mant, pattern, pick, digits}
-use Rattle.circular.specs.Atan.{cubeOf, angleOf, atanMag, atanBits, atanOf}
-use Rattle.exact.specs.Unit.{steps, ulp}
+use Rattle.fixed.specs.Fixed.{mant, pattern, digits}
+use Rattle.circular.specs.Atan.{angleOf, atanBits, atanOf}
+use Rattle.exact.specs.Unit.{steps}
 use Rattle.series.specs.Series.{Later, SinLe, SinGe, num, class}
 use Rattle.exact.specs.Near.{NearAtan}
-use Rattle.fixed.proofs.Round.{rounded, place, pattern-lt}
+use Rattle.fixed.proofs.Round.{place, pattern-lt}
 use Rattle.series.proofs.Cases.{split}
-use Rattle.fixed.proofs.Values.{value, value-normal, bits-255, v-small, ulps, packed-value, normal-value, sign-plus}
+use Rattle.fixed.proofs.Values.{value, bits-255, v-small, ulps, packed-value, normal-value, sign-plus}
 use Rattle.exact.proofs.Unit.{steps-is}
 use Rattle.series.proofs.Bounds.{le-same, ge-same}
-use Rattle.circular.proofs.Angle.{Reduced, cube-small, angle-le, angle-ge, angle-2}
-use Rattle.circular.proofs.Reduce.{Case, case}
+use Rattle.circular.proofs.Angle.{angle-le, angle-ge, angle-2}
+use Rattle.circular.proofs.Reduce.{case}
 use Rattle.circular.proofs.AtanBits.{small-bits, mid-bits, big-bits, nan-bits, angle-big}
 use Rattle.exact_circular.proofs.Ends.{small-le, small-ge, half-le, half-ge, half-plus, half-minus}
 

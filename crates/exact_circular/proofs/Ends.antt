@@ -1,11 +1,10 @@
 -- The two ends of the arc tangent: x itself below 2 ^ -12, where x³ / 3 is less than an ulp, and half pi from 2 ^ 26 on, by sharp enclosures on both sides of it.
-use mathlib.Core.Path.{_≡_, refl, sym, ap, ap₂, _∙_, subst, subst₂}
-use mathlib.Core.Bool.{Bool, true, false}
-use Prim.Native.Nat.{ℕ, zero, suc, _+_, _-_, _*_, _/_, _%_, _^_, _≤_, _<_}
-use native.Mathlib.Nat.{le-trans, le-of-eq, le-refl, le-dest, mul-pos, mul-le-mul, mul-le-mul-left, mul-le-mul-right, le-of-mul-le-mul-right, pow-suc, zero-mul, mul-zero, add-le-add}
+use mathlib.Core.Path.{_≡_, refl, sym, ap, ap₂, _∙_, subst}
+use Prim.Native.Nat.{ℕ, zero, suc, _+_, _-_, _*_, _/_, _^_, _≤_, _<_}
+use native.Mathlib.Nat.{le-trans, le-of-eq, le-refl, le-dest, mul-pos, mul-le-mul, mul-le-mul-left, mul-le-mul-right, le-of-mul-le-mul-right, pow-suc, mul-zero, add-le-add}
 use native.Mathlib.Omega.{arith}
 use lib.Pow.{pow-pos}
-use lib.Dec.{T, leb, leb→le, lit≤}
+use lib.Dec.{T, lit≤}
 use Rattle.series.specs.Series.{full, num, class, Later, SinLe, SinGe}
 use Rattle.series.proofs.Cases.{split}
 use Rattle.series.proofs.Waves.{Enc4}

@@ -1,7 +1,7 @@
 -- Enclosures of sine and cosine within 2 ^ -109, for every angle y / 2 ^ 56 from 2 ^ -14 to 2, and what the arc sine's proof asks of them.
-use mathlib.Core.Path.{_≡_, refl, sym, ap, _∙_, subst}
-use Prim.Native.Nat.{ℕ, zero, suc, _+_, _-_, _*_, _/_, _^_, _≤_, _<_}
-use native.Mathlib.Nat.{le-trans, le-of-eq, le-of-lt, le-refl, lt-of-le-of-lt, add-le-add, mul-le-mul, mul-le-mul-left, mul-le-mul-right, le-of-mul-le-mul-right, lt-of-not-le, not-le-of-lt, pow-le-pow-left, pow-suc, pow-zero, one-mul}
+use mathlib.Core.Path.{_≡_, ap, _∙_, subst}
+use Prim.Native.Nat.{ℕ, zero, suc, _+_, _*_, _^_, _≤_, _<_}
+use native.Mathlib.Nat.{le-trans, le-of-eq, add-le-add, mul-le-mul-left, mul-le-mul-right, le-of-mul-le-mul-right, not-le-of-lt, pow-le-pow-left, pow-suc, pow-zero, one-mul}
 use native.Mathlib.Omega.{arith}
 use lib.Dec.{lit≤}
 use lib.Pow.{pow-pos}

@@ -1,6 +1,6 @@
 -- From the sine at the small angle r / 2 ^ 61 to the sine or the cosine at the angle x / 2 ^ 61 that was folded onto it: every partial sum with 18 terms or more at x is as close as those at r, but for 2 ^ -55.
 use mathlib.Core.Path.{_≡_, ap}
-use Prim.Native.Nat.{ℕ, zero, suc, _+_, _-_, _*_, _/_, _^_, _≤_, _<_}
+use Prim.Native.Nat.{ℕ, zero, suc, _+_, _*_, _^_, _≤_, _<_}
 use native.Mathlib.Nat.{le-trans, le-refl, mul-pos, mul-le-mul, mul-le-mul-left, mul-le-mul-right, le-of-mul-le-mul-right, pow-le-pow-left}
 use native.Mathlib.Omega.{arith}
 use lib.Dec.{lit<, lit≤}

@@ -1,6 +1,6 @@
 -- Sine and cosine by pairs of terms are sine and cosine by the classes modulo 4 of the exponential series: j pairs are the terms up to number 4 j.
 use mathlib.Core.Path.{_≡_, refl, sym, ap, ap₂, _∙_, subst}
-use Prim.Native.Nat.{ℕ, zero, suc, _+_, _-_, _*_, _^_}
+use Prim.Native.Nat.{ℕ, zero, suc, _+_, _*_, _^_}
 use native.Mathlib.Nat.{mul-assoc, pow-suc, pow-zero, one-mul}
 use native.Mathlib.Omega.{arith}
 use Rattle.series.specs.Series.{Sums, grow, sums, Ksin, Kcos, full, num, class}

@@ -1,9 +1,9 @@
 -- From a tangent with room to the sine: where tan y ≤ X / (c + 16), the cosine c being the whole root's, sin y ≤ X / 2 ^ 35; where X / (c - 8) ≤ tan y, X / 2 ^ 35 ≤ sin y, or y is past half pi.
 -- The room of 8 units is far more than what the enclosures' width takes off cos² + sin² = 1.
-use mathlib.Core.Path.{_≡_, refl, sym, ap, _∙_, subst}
+use mathlib.Core.Path.{_≡_, ap}
 use mathlib.Core.Logic.{_⊎_, inl, inr}
-use Prim.Native.Nat.{ℕ, zero, suc, _+_, _-_, _*_, _/_, _^_, _≤_, _<_}
-use native.Mathlib.Nat.{le-trans, le-of-eq, le-of-lt, le-refl, mul-le-mul, mul-le-mul-left, mul-le-mul-right}
+use Prim.Native.Nat.{ℕ, _+_, _-_, _*_, _^_, _≤_, _<_}
+use native.Mathlib.Nat.{le-trans, le-of-lt, le-refl, mul-le-mul, mul-le-mul-left, mul-le-mul-right}
 use native.Mathlib.Omega.{arith}
 use lib.Dec.{lit<, lit≤}
 use lib.Pow.{pow-pos}

@@ -1,7 +1,7 @@
 -- The tangent of a small angle w against R / P where R is known against the hypotenuse: cos² + sin² = 1, which the first terms of the two series keep within 2 units of the radius B.
-use mathlib.Core.Path.{_≡_, sym, ap, subst}
+use mathlib.Core.Path.{_≡_, ap, subst}
 use Prim.Native.Nat.{ℕ, suc, _+_, _*_, _^_, _≤_, _<_}
-use native.Mathlib.Nat.{le-trans, le-of-lt, le-dest, mul-pos, mul-le-mul, mul-le-mul-left, mul-le-mul-right, le-of-mul-le-mul-right}
+use native.Mathlib.Nat.{le-of-lt, le-dest, mul-pos, mul-le-mul, mul-le-mul-left, mul-le-mul-right, le-of-mul-le-mul-right}
 use native.Mathlib.Omega.{arith}
 use Rattle.series.proofs.Cases.{split}
 use Rattle.series.proofs.SmallAngle.{Parts}

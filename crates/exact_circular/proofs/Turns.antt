@@ -1,7 +1,7 @@
 -- Sine and cosine at an angle a quarter, half or three quarters of a turn less or more: the addition theorems and cos² + sin² = 1, on partial sums with 64 terms.
 -- All angles are y / 2 ^ 61 up to 5. part r y over `whole` is the class r at y, short by at most `rest` over `whole`, which is less than 2 ^ -100.
 use mathlib.Core.Path.{_≡_, refl, sym, ap, ap₂, _∙_, subst, subst₂}
-use Prim.Native.Nat.{ℕ, zero, suc, _+_, _-_, _*_, _/_, _^_, _≤_, _<_}
+use Prim.Native.Nat.{ℕ, zero, suc, _+_, _*_, _/_, _^_, _≤_, _<_}
 use native.Mathlib.Nat.{le-trans, le-of-eq, le-refl, add-le-add, mul-pos, mul-comm, mul-le-mul-left, mul-le-mul-right, le-of-mul-le-mul-right, pow-le-pow-left, div-mul-le-self}
 use native.Mathlib.Omega.{arith}
 use lib.Dec.{lit<, lit≤}
