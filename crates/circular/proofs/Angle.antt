@@ -1,20 +1,19 @@
 -- From the quotient q of a reduced x to the rounded angle: less than one unit of its last place.
-use mathlib.Core.Path.{_≡_, refl, sym, ap, ap₂, _∙_, subst, subst₂}
+use mathlib.Core.Path.{_≡_, ap, _∙_, subst}
 use mathlib.Core.Logic.{_⊎_, inl, inr}
-use Prim.Native.Nat.{ℕ, zero, suc, _+_, _-_, _*_, _/_, _%_, _^_, _≤_, _<_}
-use native.Mathlib.Nat.{le-trans, le-of-eq, le-of-lt, le-refl, mul-pos, mul-comm, mul-assoc, mul-le-mul, mul-le-mul-left, mul-le-mul-right, le-of-mul-le-mul-right, div-mul-le-self}
+use Prim.Native.Nat.{ℕ, _+_, _-_, _*_, _/_, _^_, _≤_, _<_}
+use native.Mathlib.Nat.{le-trans, le-of-eq, mul-le-mul, mul-le-mul-left, mul-le-mul-right, le-of-mul-le-mul-right, div-mul-le-self}
 use native.Mathlib.Omega.{arith}
 use lib.Pow.{pow-pos, pow-mono, pow-add}
-use lib.Dec.{lit<, lit≤}
+use lib.Dec.{lit≤}
 use lib.Count.{leadingZeros}
 use lib.Ieee.{size}
-use Rattle.fixed.specs.Fixed.{mant, pattern}
+use Rattle.fixed.specs.Fixed.{mant}
 use Rattle.circular.specs.Atan.{cubeOf, angleOf}
 use Rattle.series.specs.Series.{SinLe, SinGe}
-use Rattle.fixed.proofs.Round.{Rounded, rounded, place, place-is}
+use Rattle.fixed.proofs.Round.{rounded, place, place-is}
 use Rattle.fixed.proofs.Values.{ulp-exp}
 use Rattle.series.proofs.Bounds.{le-scaled, ge-scaled}
-use Rattle.circular.proofs.Tangent.{Angle}
 use Rattle.circular.proofs.Angles.{Entry}
 use Rattle.circular.proofs.Step.{below, over}
 

@@ -1,13 +1,11 @@
 -- The angles of the tables: tangents i / 128 and 128 / (i + 1), each shown by one computed test on sharp enclosures of its sine and cosine.
-use mathlib.Core.Path.{_≡_, refl, sym, ap, ap₂, _∙_, subst, subst₂}
-use mathlib.Core.Bool.{Bool, true, false, _&&_}
+use mathlib.Core.Path.{_≡_, sym, subst₂}
+use mathlib.Core.Bool.{Bool, true, _&&_}
 use mathlib.Core.List.{List, [], _∷_}
-use Prim.Native.Nat.{ℕ, zero, suc, _+_, _-_, _*_, _/_, _%_, _^_, _≤_, _<_}
-use native.Mathlib.Nat.{div-mul-le-self, mul-comm, le-trans, le-of-eq}
+use Prim.Native.Nat.{ℕ, _+_, _-_, _*_, _^_, _≤_, _<_}
 use native.Mathlib.Omega.{arith}
 use lib.Dec.{T, leb, leb→le}
-use lib.Pow.{pow-pos}
-use lib.ListN.{getD, length}
+use lib.ListN.{getD}
 use Rattle.series.specs.Series.{full, num, class}
 use Rattle.circular.specs.Atan.{angles, steep}
 use Rattle.series.proofs.Entries as table

@@ -1,13 +1,13 @@
 -- No angle of the arc tangent is rounded above the f32 nearest to half pi, whose pattern is 0x3fc9_0fdb: only the table's first steep angle comes near it, and what is added there
 -- is at most 2 ^ -7 less a third of its cube.
 use mathlib.Core.Path.{_≡_, refl, sym, ap, _∙_, subst}
-use mathlib.Core.Bool.{Bool, true, false, not, _||_}
+use mathlib.Core.Bool.{Bool, true, false, _||_}
 use mathlib.Core.Logic.{_⊎_, inl, inr}
-use Prim.Native.Nat.{ℕ, zero, suc, _+_, _-_, _*_, _/_, _%_, _^_, _≤_, _<_}
-use native.Mathlib.Nat.{le-trans, le-of-lt, le-of-mul-le-mul-right, lt-of-le-of-lt, lt-of-not-le, not-le-of-lt, lt-of-lt-of-le, div-mul-le-self, mul-le-mul, mul-le-mul-left, mul-le-mul-right, mul-comm, le-of-eq}
+use Prim.Native.Nat.{ℕ, zero, suc, _+_, _-_, _*_, _/_, _^_, _≤_, _<_}
+use native.Mathlib.Nat.{le-trans, le-of-mul-le-mul-right, lt-of-le-of-lt, lt-of-not-le, not-le-of-lt, lt-of-lt-of-le, div-mul-le-self, mul-le-mul, mul-le-mul-left, mul-le-mul-right}
 use native.Mathlib.Omega.{arith}
 use lib.Dec.{T, leb, leb→le, eqb, eqb→eq, lit<, lit≤}
-use lib.Pow.{pow-pos, pow-mono}
+use lib.Pow.{pow-mono}
 use lib.Count.{leadingZeros, leading-top}
 use lib.ListN.{getD}
 use Rattle.series.proofs.Cases.{split}
@@ -15,7 +15,7 @@ use Rattle.series.proofs.Entries as table
 use Rattle.fixed.specs.Fixed.{digits, mant, pattern, scaledOf}
 use Rattle.fixed.proofs.Round.{rounded}
 use Rattle.circular.specs.Atan.{angles, steep, cubeOf, angleOf, gentleOf, steepOf, atanMag}
-use Rattle.circular.proofs.Reduce.{dig-low, dig-high, within, high-top, high-fine, high-coarse, low-is, mid-is, high-is, i-lt, q-most, at-lt, at-low, at-high, rest-is, rest-most, quo-most}
+use Rattle.circular.proofs.Reduce.{dig-low, dig-high, within, high-top, high-fine, high-coarse, low-is, mid-is, high-is, i-lt, q-most, at-lt, quo-most}
 use Rattle.circular.proofs.Angle.{cube-high}
 
 -- the largest angle that is rounded to half pi, in units of 2 ^ -56

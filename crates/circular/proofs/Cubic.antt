@@ -1,7 +1,7 @@
 -- The inequalities behind atan v = v - v³ / 3, for a small angle w. With g w = v * w² / 2 - w³ / 6: g w ≤ g v = v³ / 3 for w ≤ v, g v - g w ≤ (v - w) * v² / 2, and g v ≤ g w from v to 2 v.
-use mathlib.Core.Path.{_≡_, refl, sym, ap, _∙_, subst}
-use Prim.Native.Nat.{ℕ, zero, suc, _+_, _-_, _*_, _^_, _≤_, _<_}
-use native.Mathlib.Nat.{le-trans, le-of-eq, le-of-lt, le-dest, mul-le-mul, mul-le-mul-left, mul-le-mul-right, le-of-mul-le-mul-right, mul-pos}
+use mathlib.Core.Path.{_≡_, ap, subst}
+use Prim.Native.Nat.{ℕ, _+_, _*_, _^_, _≤_, _<_}
+use native.Mathlib.Nat.{le-trans, le-of-lt, le-dest, mul-le-mul, mul-le-mul-left, mul-le-mul-right, le-of-mul-le-mul-right, mul-pos}
 use native.Mathlib.Omega.{arith}
 use Rattle.series.proofs.Cases.{split}
 use Rattle.series.proofs.SmallAngle.{Parts}

@@ -1,9 +1,9 @@
 -- How x is brought to a table's angle and a small one, for x below 2 ^ -7, below 1 and from 1 on.
-use mathlib.Core.Path.{_≡_, refl, sym, ap, ap₂, _∙_, subst, subst₂}
-use mathlib.Core.Logic.{_⊎_, inl, inr}
+use mathlib.Core.Path.{_≡_, refl, sym, ap, ap₂, _∙_, subst}
+use mathlib.Core.Logic.{inl, inr}
 use mathlib.Core.Bool.{Bool}
-use Prim.Native.Nat.{ℕ, zero, suc, _+_, _-_, _*_, _/_, _%_, _^_, _≤_, _<_}
-use native.Mathlib.Nat.{le-trans, le-of-eq, le-of-lt, le-refl, lt-of-le-of-lt, mul-pos, mul-comm, mul-assoc, mul-le-mul, mul-le-mul-left, mul-le-mul-right, le-of-mul-le-mul-right, eq-of-mul-eq-mul-right, div-mul-le-self, lt-div-mul-add}
+use Prim.Native.Nat.{ℕ, zero, suc, _+_, _-_, _*_, _/_, _^_, _≤_, _<_}
+use native.Mathlib.Nat.{le-trans, mul-comm, mul-assoc, mul-le-mul, mul-le-mul-left, mul-le-mul-right, le-of-mul-le-mul-right, div-mul-le-self, lt-div-mul-add}
 use native.Mathlib.Omega.{arith}
 use lib.Pow.{pow-pos, pow-mono, pow-add}
 use lib.Dec.{lit<, lit≤}
@@ -293,7 +293,7 @@ pub dig-high : (a : ℕ) → digits a ≤ 2 ^ 24
 dig-high a = omega arith
 
 -- d * 2 ^ i, cut by a power
-powers : (d i j k : ℕ) → i ≡ j + k → d * 2 ^ i ≡ d * 2 ^ j * 2 ^ k
+pub powers : (d i j k : ℕ) → i ≡ j + k → d * 2 ^ i ≡ d * 2 ^ j * 2 ^ k
 powers d i j k e = ap (λ (x : ℕ). d * 2 ^ x) e ∙ ap (λ (x : ℕ). d * x) (pow-add 2 j k) ∙ sym (mul-assoc d (2 ^ j) (2 ^ k))
 
 -- what the steep table asks of 4 m / e, m being a significand and e at most 2 ^ 25

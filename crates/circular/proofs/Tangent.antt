@@ -1,9 +1,9 @@
 -- What the table's angle and the small angle w must satisfy for the tangent of their sum to be at most, or at least, x = n / c.
 -- The tangent of the table's angle is y₀ / x₀ and its cosine and sine are C and S (in units of 1 / U, a₀ = a₂ + C and a₁ = a₃ + S the classes);
 -- sine and cosine of w are σ and κ (in units of 1 / B).
-use mathlib.Core.Path.{_≡_, refl, sym, ap, ap₂, _∙_, subst}
-use Prim.Native.Nat.{ℕ, zero, suc, _+_, _-_, _*_, _/_, _%_, _^_, _≤_, _<_}
-use native.Mathlib.Nat.{le-trans, le-of-eq, le-refl, mul-pos, mul-assoc, mul-comm, mul-left-comm, mul-add, mul-le-mul, mul-le-mul-left, mul-le-mul-right, le-of-mul-le-mul-right, add-le-add}
+use mathlib.Core.Path.{_≡_, sym, ap, ap₂, _∙_, subst}
+use Prim.Native.Nat.{ℕ, _+_, _*_, _≤_, _<_}
+use native.Mathlib.Nat.{mul-pos, mul-assoc, mul-comm, mul-left-comm, mul-add, mul-le-mul, mul-le-mul-left, mul-le-mul-right, le-of-mul-le-mul-right}
 use native.Mathlib.Omega.{arith}
 use Rattle.series.specs.Series.{SinLe, SinGe}
 use Rattle.series.proofs.Waves.{Enc4, plus}

@@ -1,6 +1,6 @@
 -- Laws for callers, who never unfold a definition: the arc tangent is NaN or within half pi of 0; and the bit pattern's test for -4 to 4 is the f32 comparison.
 -- Both rest on the order of floats as the order of their values in units of 2 ^ -149.
-use mathlib.Core.Path.{_≡_, refl, sym, ap, ap₂, _∙_, subst, subst₂}
+use mathlib.Core.Path.{_≡_, refl, sym, ap, ap₂, _∙_, subst}
 use mathlib.Core.Bool.{Bool, true, false, not, cond, _||_, true≢false}
 use mathlib.Core.Logic.{_⊎_, inl, inr}
 use Prim.Native.Nat.{ℕ, zero, suc, _+_, _-_, _*_, _/_, _%_, _^_, _≤_, _<_}
@@ -9,22 +9,21 @@ use native.Mathlib.Omega.{arith}
 use lib.Dec.{T, leb, ltb, eqb, eqb·suc-zero, lit<, lit≤}
 use lib.Ieee.{Float, nan, inf, fin, binary32, ofBits, toBits, fits, isNan, le, lt, neg}
 use lib.Ieee.Fits.{neg-fits}
-use lib.Ieee.Bits.{ofBits-toBits, ofBits-fits, toBits-lt, is-true}
+use lib.Ieee.Bits.{ofBits-toBits, ofBits-fits}
 use lib.Ieee.Exact.{HasValue}
 use lib.Ieee.Scale.{overflow}
-use borrow.Author.Tests.{le-leb, lt-leb, le-ltb, lt-ltb}
+use borrow.Author.Tests.{le-leb, le-ltb, lt-ltb}
 use Rattle.scalar.specs.F32.{_≤f_, _<f_, _>f_, negf}
 use Rattle.scalar.specs.Literals.{f4, f1·570796326}
 use Rattle.series.proofs.Cases.{split}
-use Rattle.fixed.specs.Fixed.{digits, pattern}
-use Rattle.fixed.proofs.Round.{pattern-lt}
+use Rattle.fixed.specs.Fixed.{pattern}
 use Rattle.fixed.proofs.Values.{bits-255, value}
 use Rattle.fixed.proofs.Sizes.{Size, finite-value, size-lt, size-le}
-use Rattle.order.specs.Units.{real, keyOf, sgn, mag, key}
+use Rattle.order.specs.Units.{real, keyOf, key}
 use Rattle.order.proofs.Keys.{lt-key, le-key, mag-le}
 use Rattle.order.proofs.Sums.{sized}
 use Rattle.circular.specs.Atan.{atanMag, atanBits, atanOf}
-use Rattle.circular.proofs.Reduce.{Case, case}
+use Rattle.circular.proofs.Reduce.{case}
 use Rattle.circular.proofs.AtanBits.{small-bits, mid-bits, big-bits, nan-bits, angle-big}
 use Rattle.circular.proofs.AtanMost.{atan-most, pattern-most}
 

@@ -4,7 +4,6 @@ use mathlib.Core.Bool.{Bool, true, false}
 use lib.Ieee.{Float}
 use Rattle.scalar.specs.F32.{_<f_, _>f_, negf}
 use Rattle.scalar.specs.Literals.{f4}
-use Rattle.refusal.specs.declared.Refusal.{Refusal}
 use Rattle.refusal.specs.declared.Refusal.the-variants.{Angle}
 use Rattle.refusal.specs.Number.{numberOf}
 use Rattle.circular.specs.SinCos.{sinOf, cosOf}

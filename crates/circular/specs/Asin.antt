@@ -1,6 +1,5 @@
 -- The arc sine of an f32 by whole numbers: a table of angles with their sines and cosines, and s + s³ / 6 for the sine s of what is left. Definitions only.
 use Prim.Native.Nat.{ℕ, _+_, _-_, _*_, _/_, _%_, _^_}
-use mathlib.Core.Bool.{Bool}
 use mathlib.Core.List.{List, [], _∷_}
 use lib.Dec.{leb, ltb}
 use lib.ListN.{getD}

@@ -1,6 +1,5 @@
 -- The sine and the cosine of an f32 by whole numbers: the angle folded onto 0 to π/2, and eight terms of the sine's series there. Definitions only.
-use Prim.Native.Nat.{ℕ, zero, suc, _+_, _-_, _*_, _/_, _%_, _^_}
-use mathlib.Core.Bool.{Bool, true, false}
+use Prim.Native.Nat.{ℕ, _+_, _-_, _*_, _/_, _%_, _^_}
 use lib.Dec.{leb, ltb}
 use lib.Count.{leadingZeros}
 use lib.Ieee.{Float, binary32, ofBits, toBits}

@@ -1,11 +1,10 @@
 -- The angle that the arc sine's definition brings every x from 2 ^ -12 on and below 1 to: with no table below 2 ^ -7, and a node of it from there.
-use mathlib.Core.Path.{_≡_, refl, sym, ap, _∙_, subst}
+use mathlib.Core.Path.{_≡_, refl, ap, _∙_, subst}
 use mathlib.Core.Logic.{inl, inr}
 use Prim.Native.Nat.{ℕ, _+_, _-_, _*_, _/_, _^_, _≤_, _<_}
-use native.Mathlib.Nat.{le-trans, le-of-lt, lt-of-le-of-lt, mul-assoc, mul-le-mul}
+use native.Mathlib.Nat.{le-trans, le-of-lt, lt-of-le-of-lt, mul-le-mul}
 use native.Mathlib.Omega.{arith}
 use lib.Dec.{lit≤, lit<}
-use lib.Pow.{pow-add}
 use lib.ListN.{getD}
 use Rattle.series.specs.Series.{full, num, class}
 use Rattle.series.proofs.Cases.{split}
@@ -16,6 +15,7 @@ use Rattle.circular.specs.Asin.{cosineOf, cosines, arcs, halfPi, arcOf, asinMag
 use Rattle.circular.proofs.Angles.{Entry, entry, good}
 use Rattle.circular.proofs.Cosine.{under, Cosine, cosine-of}
 use Rattle.circular.proofs.Arcs.{Norm, Placed, node, node-slope, cosine-norm, gentle-placed, steep-placed, turn-size}
+use Rattle.circular.proofs.Reduce.{powers}
 use Rattle.circular.proofs.AsinBits.{gentle-is, steep-is, low-is, mid-is, low-range, mid-range}
 use Rattle.exact_circular.proofs.Nodes.{gentle-node, steep-node}
 use Rattle.exact_circular.proofs.AsinEnds.{Turned}
@@ -133,9 +133,6 @@ mid-cosine n l h = go (cosineOf n) (cosine-norm n h)
         no a b = omega (arith, a, b, N .low)
 
 -- ---- the two ranges
-powers : (d i j k : ℕ) → i ≡ j + k → d * 2 ^ i ≡ d * 2 ^ j * 2 ^ k
-powers d i j k e = ap (λ (x : ℕ). d * 2 ^ x) e ∙ ap (λ (x : ℕ). d * x) (pow-add 2 j k) ∙ sym (mul-assoc d (2 ^ j) (2 ^ k))
-
 low-case : (a : ℕ) → 0x3980_0000 ≤ a → a < 0x3c00_0000 → Case a
 low-case a l h =
     let X = scaledOf a 115 in

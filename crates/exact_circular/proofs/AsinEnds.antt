@@ -33,36 +33,34 @@ pub record Turned (X r A s : ℕ) : Type 0 where
   pub large : 2 ^ 43 ≤ A + s
   pub way : (A ≡ 0) ⊎ (2 ^ 38 ≤ s)
 
--- ---- s³ / 6
-module _ (s : ℕ) (most : s ≤ 2 ^ 49) where
-  abbrev t : ℕ
-  t = s / 2 ^ 24
+-- ---- s³ / 6: the cut of s, of its square, of the cube and of the sixth
+cut-low : (s t m u j : ℕ) → t * 2 ^ 24 ≤ s → m * 2 ^ 20 ≤ t * t → u * 2 ^ 20 ≤ m * t → j * 6 ≤ u → 6 * (2 ^ 56 * 2 ^ 56) * j ≤ s * s * s
+cut-low s t m u j a b c d = omega (arith, mul-le-mul (mul-le-mul a a) a, mul-le-mul-right t b, c, d)
 
-  abbrev m : ℕ
-  m = t * t / 2 ^ 20
+cut-high : (s t m u j : ℕ) → s ≤ 2 ^ 49 → t * 2 ^ 24 ≤ s → s ≤ t * 2 ^ 24 + 2 ^ 24 → t * t ≤ m * 2 ^ 20 + 2 ^ 20 → m * t ≤ u * 2 ^ 20 + 2 ^ 20 → u ≤ j * 6 + 6 → s * s * s ≤ 6 * (2 ^ 56 * 2 ^ 56) * (j + 520)
+cut-high s t m u j most z a b c d =
+    let l : t ≤ 2 ^ 25 = omega (arith, z, most) in
+    omega (arith, mul-le-mul (mul-le-mul a a) a, mul-le-mul-right t b, c, d, mul-le-mul l l, l)
 
-  abbrev u : ℕ
-  u = m * t / 2 ^ 20
+sixth-low : (s : ℕ) → 6 * (2 ^ 56 * 2 ^ 56) * sixthOf s ≤ s * s * s
+sixth-low s =
+    let t = s / 2 ^ 24 in
+    let m = t * t / 2 ^ 20 in
+    let u = m * t / 2 ^ 20 in
+    cut-low s t m u (u / 6) (div-mul-le-self s (2 ^ 24)) (div-mul-le-self (t * t) (2 ^ 20)) (div-mul-le-self (m * t) (2 ^ 20)) (div-mul-le-self u 6)
 
-  pub sixth-low : 6 * (2 ^ 56 * 2 ^ 56) * sixthOf s ≤ s * s * s
-  sixth-low = go t m u (u / 6) (div-mul-le-self s (2 ^ 24)) (div-mul-le-self (t * t) (2 ^ 20)) (div-mul-le-self (m * t) (2 ^ 20)) (div-mul-le-self u 6)
-    where
-      go : (t m u j : ℕ) → t * 2 ^ 24 ≤ s → m * 2 ^ 20 ≤ t * t → u * 2 ^ 20 ≤ m * t → j * 6 ≤ u → 6 * (2 ^ 56 * 2 ^ 56) * j ≤ s * s * s
-      go t m u j a b c d = omega (arith, mul-le-mul (mul-le-mul a a) a, mul-le-mul-right t b, c, d)
+sixth-high : (s : ℕ) → s ≤ 2 ^ 49 → s * s * s ≤ 6 * (2 ^ 56 * 2 ^ 56) * (sixthOf s + 520)
+sixth-high s most =
+    let t = s / 2 ^ 24 in
+    let m = t * t / 2 ^ 20 in
+    let u = m * t / 2 ^ 20 in
+    cut-high s t m u (u / 6) most (div-mul-le-self s (2 ^ 24)) (omega arith) (omega arith) (omega arith) (omega arith)
 
-  pub sixth-high : s * s * s ≤ 6 * (2 ^ 56 * 2 ^ 56) * (sixthOf s + 520)
-  sixth-high = go t m u (u / 6) (div-mul-le-self s (2 ^ 24)) (omega arith) (omega arith) (omega arith) (omega arith)
-    where
-      go : (t m u j : ℕ) → t * 2 ^ 24 ≤ s → s ≤ t * 2 ^ 24 + 2 ^ 24 → t * t ≤ m * 2 ^ 20 + 2 ^ 20 → m * t ≤ u * 2 ^ 20 + 2 ^ 20 → u ≤ j * 6 + 6 → s * s * s ≤ 6 * (2 ^ 56 * 2 ^ 56) * (j + 520)
-      go t m u j z a b c d =
-          let l : t ≤ 2 ^ 25 = omega (arith, z, most) in
-          omega (arith, mul-le-mul (mul-le-mul a a) a, mul-le-mul-right t b, c, d, mul-le-mul l l, l)
-
-  pub sixth-small : 86400 * sixthOf s ≤ s
-  sixth-small = le-of-mul-le-mul-right {k = 2 ^ 98} (go (2 ^ 98) (sixthOf s) sixth-low (mul-le-mul most most)) (pow-pos 98)
-    where
-      go : (T j : ℕ) → 6 * (2 ^ 14 * T) * j ≤ s * s * s → s * s ≤ T → 86400 * j * T ≤ s * T
-      go T j a b = omega (arith, a, mul-le-mul-right s b)
+sixth-small : (s : ℕ) → s ≤ 2 ^ 49 → 86400 * sixthOf s ≤ s
+sixth-small s most = le-of-mul-le-mul-right {k = 2 ^ 98} (go (2 ^ 98) (sixthOf s) (sixth-low s) (mul-le-mul most most)) (pow-pos 98)
+  where
+    go : (T j : ℕ) → 6 * (2 ^ 14 * T) * j ≤ s * s * s → s * s ≤ T → 86400 * j * T ≤ s * T
+    go T j a b = omega (arith, a, mul-le-mul-right s b)
 
 fits : (A s p o v w j : ℕ) → 86400 * j ≤ s → A + w ≡ 64 * p + 60 * v → 64 * p ≤ A + (s + j) + 32 * o → v ≤ 2 * o → o ≤ 2 ^ 29 → s ≤ 2 ^ 49 → 120 * w ≤ 2 ^ 56
 fits A s p o v w j a b c d e f = omega arith
@@ -301,7 +299,7 @@ module _ (X r A s p o v : ℕ) (T : Turned X r A s) (Z : Sizes (arcOf A s) p o v
   unfolding W₁
   sine₁ =
       let P = step.parts (2 ^ 56) W₁ (W₁ / 2 ^ 33 + 2) (pow-pos 56) f₁ (wide-ok W₁) in
-      below-sine s (sixthOf s) W₁ (step.g (2 ^ 56) W₁ (W₁ / 2 ^ 33 + 2) (pow-pos 56) f₁ (wide-ok W₁)) σ₁ v (2 ^ 56 * 2 ^ 56) (pow-pos 112) (sixth-low s (T .most)) (P .g-high) (square s (T .most)) (step.eσ (2 ^ 56) W₁ (W₁ / 2 ^ 33 + 2) (pow-pos 56) f₁ (wide-ok W₁)) (core₁ X r A s p o v T Z) (v-large X r A s p o v T Z)
+      below-sine s (sixthOf s) W₁ (step.g (2 ^ 56) W₁ (W₁ / 2 ^ 33 + 2) (pow-pos 56) f₁ (wide-ok W₁)) σ₁ v (2 ^ 56 * 2 ^ 56) (pow-pos 112) (sixth-low s) (P .g-high) (square s (T .most)) (step.eσ (2 ^ 56) W₁ (W₁ / 2 ^ 33 + 2) (pow-pos 56) f₁ (wide-ok W₁)) (core₁ X r A s p o v T Z) (v-large X r A s p o v T Z)
     where
       square : (s : ℕ) → s ≤ 2 ^ 49 → 14400 * (s * s) ≤ 2 ^ 56 * 2 ^ 56
       square s h = le-trans (mul-le-mul-left 14400 (mul-le-mul h h)) (lit≤ tt)

@@ -1,14 +1,14 @@
 -- `circular::arctan::atan_bits` meets its contract.
-use mathlib.Core.Path.{_≡_, refl, sym, ap, ap₂, _∙_, subst}
-use Prim.Native.Nat.{ℕ, zero, suc, _+_, _-_, _*_, _/_, _%_, _^_, _<_, _≤_}
+use mathlib.Core.Path.{_≡_, sym, ap, _∙_, subst}
+use Prim.Native.Nat.{ℕ, _+_, _*_, _/_, _%_, _^_, _<_, _≤_}
 use native.Mathlib.Omega.{arith}
 use mir.Syntax.{w32}
 use mir.Val.{Fits}
-use Rattle.fixed.specs.Fixed.{pattern, digits}
+use Rattle.fixed.specs.Fixed.{pattern}
 use Rattle.fixed.proofs.Round.{pattern-lt}
-use Rattle.circular.proofs.Reduce.{Case, case}
+use Rattle.circular.proofs.Reduce.{case}
 use Rattle.circular.proofs.AtanBits.{small-bits, mid-bits, big-bits, nan-bits, angle-big}
-use Rattle.circular.specs.Atan.{angles, steep, cubeOf, angleOf, lowAngle, midAngle, highAngle, atanMag, atanBits}
+use Rattle.circular.specs.Atan.{atanMag}
 use borrow.Author.Needs.{needs}
 use Rattle.circular.proofs.arctan.atan_bits.Statement.{statement}
 use Rattle.circular.proofs.arctan.atan_bits.Tie as tie

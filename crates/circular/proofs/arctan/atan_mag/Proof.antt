@@ -1,10 +1,6 @@
 -- `circular::arctan::atan_mag` meets its contract.
-use mathlib.Core.Path.{_≡_, refl, sym, ap, ap₂, _∙_, subst}
-use Prim.Native.Nat.{ℕ, zero, suc, _+_, _-_, _*_, _/_, _%_, _^_, _<_, _≤_}
-use native.Mathlib.Omega.{arith}
+use mathlib.Core.Path.{sym, _∙_}
 use Rattle.circular.proofs.Reduce.{low-is, mid-is, high-is}
-use Rattle.circular.specs.Atan.{angles, steep, cubeOf, angleOf, lowAngle, midAngle, highAngle, atanMag, atanBits}
-use Rattle.fixed.specs.Fixed.{digits}
 use borrow.Author.Needs.{needs}
 use Rattle.circular.proofs.arctan.atan_mag.Statement.{statement}
 use Rattle.circular.proofs.arctan.atan_mag.Tie as tie

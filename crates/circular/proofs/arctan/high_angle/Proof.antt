@@ -1,6 +1,6 @@
 -- `circular::arctan::high_angle` meets its contract: Reduce.antt has the bounds of index, rest and quotient.
 use mathlib.Core.Path.{_≡_, sym, ap, ap₂, _∙_, subst}
-use Prim.Native.Nat.{ℕ, _+_, _-_, _*_, _/_, _%_, _^_, _<_, _≤_}
+use Prim.Native.Nat.{ℕ, _+_, _-_, _*_, _/_, _^_, _<_, _≤_}
 use native.Mathlib.Omega.{arith}
 use native.Mathlib.Nat.{le-trans, mul-le-mul}
 use lib.Pow.{pow-pos, pow-mono}

@@ -1,11 +1,11 @@
 -- `circular::arctan::low_angle` meets its contract.
-use mathlib.Core.Path.{_≡_, refl, sym, ap, ap₂, _∙_, subst}
-use Prim.Native.Nat.{ℕ, zero, suc, _+_, _-_, _*_, _/_, _%_, _^_, _<_, _≤_}
+use mathlib.Core.Path.{sym, ap, _∙_, subst}
+use Prim.Native.Nat.{ℕ, _-_, _/_, _^_, _<_}
 use native.Mathlib.Omega.{arith}
 use native.Mathlib.Nat.{lt-of-le-of-lt}
 use lib.Dec.{lit<}
 use Rattle.circular.proofs.Reduce.{dig-low, dig-high, within}
-use Rattle.circular.specs.Atan.{angles, steep, cubeOf, angleOf, lowAngle, midAngle, highAngle, atanMag, atanBits}
+use Rattle.circular.specs.Atan.{angleOf}
 use Rattle.fixed.specs.Fixed.{digits}
 use borrow.Author.Needs.{needs}
 use Rattle.circular.proofs.arctan.low_angle.Statement.{statement}

@@ -7,7 +7,7 @@ use lib.Dec.{lit<, lit≤}
 use lib.ListN.{getD}
 use Rattle.fixed.specs.Fixed.{digits}
 use Rattle.circular.specs.Atan.{angles, angleOf, gentleOf}
-use Rattle.circular.proofs.Reduce.{dig-low, dig-high, within, i-lt, i-n, R-is, R-most, q-most, E}
+use Rattle.circular.proofs.Reduce.{dig-low, dig-high, within, i-lt, i-n, R-most, q-most, E}
 use borrow.Author.Needs.{needs}
 use Rattle.circular.proofs.arctan.mid_angle.Statement.{statement}
 use Rattle.circular.proofs.arctan.mid_angle.Tie as tie

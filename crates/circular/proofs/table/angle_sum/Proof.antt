@@ -1,11 +1,10 @@
 -- `circular::table::angle_sum` meets its contract.
-use mathlib.Core.Path.{_≡_, refl, sym, ap, ap₂, _∙_, subst}
-use Prim.Native.Nat.{ℕ, zero, suc, _+_, _-_, _*_, _/_, _%_, _^_, _<_, _≤_}
+use mathlib.Core.Path.{_≡_, ap}
+use Prim.Native.Nat.{ℕ, _+_, _-_, _*_, _≤_}
 use native.Mathlib.Omega.{arith}
 use native.Mathlib.Nat.{le-of-lt}
 use Rattle.circular.proofs.Angle.{cube-small}
-use Rattle.circular.specs.Atan.{angles, steep, cubeOf, angleOf, lowAngle, midAngle, highAngle, atanMag, atanBits}
-use Rattle.fixed.specs.Fixed.{digits}
+use Rattle.circular.specs.Atan.{cubeOf}
 use borrow.Author.Needs.{needs}
 use Rattle.circular.proofs.table.angle_sum.Statement.{statement}
 use Rattle.circular.proofs.table.angle_sum.Tie as tie

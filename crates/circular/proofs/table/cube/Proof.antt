@@ -1,11 +1,9 @@
 -- `circular::table::cube` meets its contract.
-use mathlib.Core.Path.{_≡_, refl, sym, ap, ap₂, _∙_, subst}
-use Prim.Native.Nat.{ℕ, zero, suc, _+_, _-_, _*_, _/_, _%_, _^_, _<_, _≤_}
+use mathlib.Core.Path.{_≡_, ap, _∙_}
+use Prim.Native.Nat.{ℕ, _*_, _/_, _^_}
 use native.Mathlib.Omega.{arith}
 use native.Mathlib.Nat.{mul-div-mul-right}
 use lib.Pow.{pow-pos}
-use Rattle.circular.specs.Atan.{angles, steep, cubeOf, angleOf, lowAngle, midAngle, highAngle, atanMag, atanBits}
-use Rattle.fixed.specs.Fixed.{digits}
 use borrow.Author.Needs.{needs}
 use Rattle.circular.proofs.table.cube.Statement.{statement}
 use Rattle.circular.proofs.table.cube.Tie as tie

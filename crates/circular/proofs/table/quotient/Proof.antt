@@ -1,13 +1,11 @@
 -- `circular::table::quotient` meets its contract.
-use mathlib.Core.Path.{_≡_, refl, sym, ap, ap₂, _∙_, subst}
-use Prim.Native.Nat.{ℕ, zero, suc, _+_, _-_, _*_, _/_, _%_, _^_, _<_, _≤_}
+use mathlib.Core.Path.{_≡_, sym, ap, _∙_}
+use Prim.Native.Nat.{ℕ, _+_, _*_, _/_, _%_, _^_, _<_, _≤_}
 use native.Mathlib.Omega.{arith}
-use native.Mathlib.Nat.{mod-lt, div-mul-le-self, div-add-mod', mul-add-div-right, mul-le-mul-left, lt-of-lt-of-le, le-of-lt}
+use native.Mathlib.Nat.{mod-lt, div-mul-le-self, div-add-mod', mul-add-div-right, mul-le-mul-left, lt-of-lt-of-le}
 use lib.Dec.{lit<}
 use mir.Syntax.{w64}
 use mir.Val.{Fits}
-use Rattle.circular.specs.Atan.{angles, steep, cubeOf, angleOf, lowAngle, midAngle, highAngle, atanMag, atanBits}
-use Rattle.fixed.specs.Fixed.{digits}
 use borrow.Author.Needs.{needs}
 use Rattle.circular.proofs.table.quotient.Statement.{statement}
 use Rattle.circular.proofs.table.quotient.Tie as tie

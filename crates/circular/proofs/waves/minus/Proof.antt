@@ -1,6 +1,6 @@
 -- `circular::waves::minus` meets its contract: a product by a number below 2 ^ 32 is at most the other factor.
-use mathlib.Core.Path.{_≡_, ap, _∙_}
-use Prim.Native.Nat.{ℕ, _+_, _^_, _<_, _≤_}
+use mathlib.Core.Path.{ap, _∙_}
+use Prim.Native.Nat.{ℕ, _+_, _≤_}
 use native.Mathlib.Omega.{arith}
 use borrow.Author.Needs.{needs}
 use Rattle.circular.specs.SinCos.{times}

@@ -1,5 +1,4 @@
 -- `circular::waves::product` meets its contract: two factors below 2 ^ 32.
-use Prim.Native.Nat.{_^_}
 use borrow.Author.Needs.{needs}
 use Rattle.fixed.proofs.Product.{half-fits}
 use Rattle.circular.proofs.waves.product.Statement.{statement}
