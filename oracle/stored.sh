@@ -1,11 +1,12 @@
 #!/bin/sh
 # Writes the stored answers of the programs anew, from the paper and the routed
-# Rust: the hours that `vectors` replays, and the sheets of `sheet` and
-# `sheet_trials`. To be run after oracle/build.sh, whenever an elementary
-# function changes its answers.
+# Rust: the hours that `vectors` replays, the sheets of `sheet` and
+# `sheet_trials`, and the circuit MUFs of `muf_records_trials`. To be run after
+# oracle/build.sh, whenever an elementary function changes its answers.
 set -e
 cd "$(dirname "$0")/.."
 made=oracle/target/release
 "$made/vectors" > crates/vectors/stdin
 "$made/expected" sheet < crates/sheet/stdin > crates/sheet/stdout
 "$made/sheet_trials" > crates/sheet_trials/stdout
+"$made/muf_records_trials" > crates/muf_records_trials/stdout

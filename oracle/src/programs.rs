@@ -64,7 +64,7 @@ pub fn hour(circuit: &Circuit) -> Hour {
 }
 
 /// Eight digits; every NaN alike.
-fn digits(word: u32) -> String {
+pub fn digits(word: u32) -> String {
     let word = if float::is_nan(word) {
         float::NAN
     } else {

@@ -12,6 +12,7 @@ use borrow.Author.Tests.{eqb-true, leb-true, ltb-true}
 use Rattle.refusal.specs.declared.Refusal.{Refusal}
 use Rattle.refusal.specs.declared.Outcome.{Outcome}
 use Rattle.circuit.specs.declared.Chain.{Chain}
+use Rattle.circuit.specs.declared.Circuit.{Circuit}
 use Rattle.circuit.specs.declared.Step.{Step}
 use Rattle.circuit.specs.Record.{Form, old, recordAt}
 use Rattle.circuit.specs.Chain.{lengthGood, countOf, kmOf, headGood, byStep, stepOf, pick, soundBy, ended, answered, refused, padded, walk, chainOf}
@@ -174,3 +175,17 @@ module _ (f : List ℕ) (k : Chain) (e : k ≡ chainOf old f) where
       → readOf old f ≡ record { outcome = Outcome.Refused r; circuit = noCircuit }
   unfolding readOf
   read-refused r a = rw (← e, a)
+
+-- what is read has at most five points, and shape 0 or 1; so has the empty circuit of a file turned away
+abbrev pub Small : Circuit → Type 0
+Small c = (c .km ≤ 5) × (c .shape ≤ 1)
+
+small-by : (f : List ℕ) (k : Chain) → k ≡ chainOf old f → (o : Outcome) → k .outcome ≡ o → Small (readOf old f .circuit)
+unfolding circuitOf noCircuit
+small-by f k e Outcome.Answered a =
+    let h = followed f (ap (λ (c : Chain). c .outcome) (sym e) ∙ a) .head in
+    rw (read-answered f k e a) (h .most, h .form)
+small-by f k e (Outcome.Refused r) a = rw (read-refused f k e r a) (omega arith, omega arith)
+
+pub small : (f : List ℕ) → Small (readOf old f .circuit)
+small f = small-by f (chainOf old f) refl (chainOf old f .outcome) refl

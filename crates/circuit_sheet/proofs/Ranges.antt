@@ -16,7 +16,7 @@ use Rattle.circuit.specs.declared.Chain.{Chain}
 use Rattle.circuit.specs.Record.{old}
 use Rattle.circuit.specs.Chain.{chainOf}
 use Rattle.circuit.specs.Read.{readOf, circuitOf, noCircuit}
-use Rattle.circuit.proofs.Followed.{Followed, followed, count-range, read-answered, read-refused}
+use Rattle.circuit.proofs.Followed.{Followed, followed, count-range, read-answered, read-refused, small}
 use Rattle.circuit.proofs.Lists.{length-read}
 use Rattle.layers.specs.State.{at}
 use Rattle.layers.specs.FromLayers.{countTaken, pointSet, pointsSet, emptyOf, fromLayersBy, fromLayersOf}
@@ -39,13 +39,6 @@ use Rattle.circuit_sheet.proofs.Sizes.{column-lent}
 
 -- ---- points
 
-most-by : (f : List ℕ) (k : Chain) → k ≡ chainOf old f → (o : Outcome) → k .outcome ≡ o → readOf old f .circuit .km ≤ 5
-unfolding circuitOf noCircuit
-most-by f k e Outcome.Answered a =
-    let h = followed f (ap (λ (c : Chain). c .outcome) (sym e) ∙ a) .head in
-    rw (read-answered f k e a) (h .most)
-most-by f k e (Outcome.Refused r) a = rw (read-refused f k e r a) (omega arith)
-
 some-km : (f : List ℕ) (k : Chain) → k ≡ chainOf old f → (o : Outcome) → k .outcome ≡ o → readOf old f .outcome ≡ Outcome.Answered → 1 ≤ readOf old f .circuit .km
 unfolding circuitOf
 some-km f k e Outcome.Answered a q =
@@ -58,9 +51,6 @@ some-km f k e (Outcome.Refused r) a q =
 
 pub points-some : (f : List ℕ) → readOf old f .outcome ≡ Outcome.Answered → 1 ≤ readOf old f .circuit .km
 points-some f a = some-km f (chainOf old f) refl (chainOf old f .outcome) refl a
-
-pub points-most : (f : List ℕ) → readOf old f .circuit .km ≤ 5
-points-most f = most-by f (chainOf old f) refl (chainOf old f .outcome) refl
 
 -- ---- slots
 
@@ -196,7 +186,7 @@ module _ (f : List ℕ) (answered : readOf old f .outcome ≡ Outcome.Answered) 
 
   taken : countTaken (circuit .km) ≡ true
   unfolding countTaken
-  taken = rw (le-leb _ _ (points-some f answered), le-leb _ _ (points-most f))
+  taken = rw (le-leb _ _ (points-some f answered), le-leb _ _ (small f .0))
 
   pub made-answered : made .outcome ≡ Outcome.Answered
   unfolding fromLayersOf
@@ -224,7 +214,7 @@ module _ (f : List ℕ) (answered : readOf old f .outcome ≡ Outcome.Answered) 
   unfolding listsReach
   lists-reach =
       let d = length-map (circuit .deciles) (ofBits binary32) ∙ deciles-by f (chainOf old f) refl (chainOf old f .outcome) refl in
-      let m = points-most f in
+      let m = small f .0 in
       let u = controlling-under in
       rw (eq-eqb _ _ d, ← column-lent (circuit .points) 13 _ (circuit .km) refl m, ← column-lent (circuit .points) 14 _ (circuit .km) refl m, lt-ltb _ _ u)
 

@@ -1,32 +1,16 @@
 -- The ranges of the four numbers that make the index, by cases on the tests that make them.
 use mathlib.Core.Path.{_≡_, refl}
 use mathlib.Core.Bool.{Bool, true, false}
-use Prim.Native.Nat.{ℕ, suc, _+_, _<_, _≤_, _^_}
+use Prim.Native.Nat.{ℕ, _<_, _≤_}
 use native.Mathlib.Omega.{arith}
-use lib.Dec.{T}
-use lib.IntN.{ℤ, pos, negsuc, natAbs}
-use lib.Signed.{ltZ, nonNeg}
-use mir.Val.{Fits}
-use mir.Syntax.{w64}
-use mir.Facts.{fits-le, fits-lit}
-use borrow.Author.Tests.{ltb-false}
+use lib.IntN.{ℤ, pos}
+use lib.Signed.{ltZ}
 use lib.Ieee.{Float}
 use Rattle.scalar.specs.F32.{_≤f_, _>f_, _-f_, _/f_}
 use Rattle.scalar.specs.Literals.{f0, f9·5, f10, f50, f100}
 use Rattle.scalar.specs.Scalar.{absOf, truncOf}
+use Rattle.scalar.proofs.Casts.{between}
 use Rattle.deciles.specs.F2dis.{sunspotRowBy, sunspotRowOf, jBy, jOf, iBy, iOf, clampBy, iclOf, iccBy, iccOf, timeBlockOf}
-
--- A whole number that is not below 1 and not above `high` is a natural number from 1 to `high`.
-pub between : (z : ℤ) (high : ℕ) → ltZ z (pos 1) ≡ false → ltZ (pos high) z ≡ false → (0 < natAbs z) × (natAbs z ≤ high)
-between (pos n) high p q = (ltb-false n 1 p, ltb-false high n q)
-between (negsuc n) high p q = let e : _≡_ {A = ℕ} 0 1 = cc in (omega arith, omega arith)
-
-pub non-negative : (z : ℤ) → ltZ z (pos 1) ≡ false → T (nonNeg z)
-non-negative (pos n) p = tt
-non-negative (negsuc n) p = let e : _≡_ {A = ℕ} 0 1 = cc in omega arith
-
-pub castable : (z : ℤ) (high : ℕ) → high < 256 → ltZ z (pos 1) ≡ false → ltZ (pos high) z ≡ false → T (nonNeg z) × Fits w64 (natAbs z)
-castable z high h p q = (non-negative z p, let b = between z high p q .1 in fits-le {n = 255} (omega arith) (fits-lit tt))
 
 row-by : (b c : Bool) → (0 < sunspotRowBy b c) × (sunspotRowBy b c ≤ 3)
 row-by true c = (omega arith, omega arith)

@@ -13,7 +13,7 @@ use Rattle.scalar.specs.F32.{_+f_, _/f_}
 use Rattle.scalar.specs.Literals.{f1, f2000}
 use Rattle.scalar.specs.Scalar.{truncOf}
 use Rattle.series.proofs.Entries.{entry}
-use Rattle.deciles.proofs.Ranges.{between}
+use Rattle.scalar.proofs.Casts.{between}
 use Rattle.ionogram.specs.Angles.{NANGX, stepBy, stepOf}
 
 step-by : (b c : Bool) (z : ℤ) → ltZ z (pos 1) ≡ b → ltZ (pos 8) z ≡ c → stepBy b c z ≤ 8

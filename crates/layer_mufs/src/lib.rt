@@ -1,7 +1,6 @@
 // The E, F2 and F1 lines of a MUF hour, at the controlling sample area.
 ghost use mathlib.Core.Path.{_≡_};
 ghost use Prim.Native.Nat.{_<_};
-ghost use Rattle.profile.specs.Lecden.{slotAt};
 ghost use Rattle.layer_mufs.specs.Controlling.{compareE, controllingOf};
 ghost use Rattle.layer_mufs.specs.Tangents.{xtOf, fx1Of, betaOf, f2TangentOf, tangentsOf};
 ghost use Rattle.layer_mufs.specs.Lines.{tenthOf, lineOf, byProfileOf, eHeightsOf, eFoundOf, eLineOf, parabolicOf, f2HeightsOf, bentOf, deviationsOf, f2BentOf, f2LineOf, f1FoundOf, f1OwnOf, f1LineOf};
@@ -87,27 +86,6 @@ pub fn controlling(s: IonoState) -> usize
         return 0;
     }
     2
-}
-
-pub fn slot(s: IonoState, k: usize) -> Slot
-    requires { ⌜ k < 3 ⌝ }
-    ensures { λ r. ⌜ r ≡ slotAt s k ⌝ }
-{
-    let e = 3 * k;
-    let f1 = 3 * k + 1;
-    let f2 = 3 * k + 2;
-    Slot {
-        fi0: s.fi[e],
-        fi1: s.fi[f1],
-        fi2: s.fi[f2],
-        yi0: s.yi[e],
-        yi1: s.yi[f1],
-        yi2: s.yi[f2],
-        hi0: s.hi[e],
-        hi1: s.hi[f1],
-        hi2: s.hi[f2],
-        fsec: s.fsecv[k],
-    }
 }
 
 // The tangent frequency of a layer over its critical one.

@@ -21,7 +21,7 @@ use Rattle.profile.specs.Lecden.{slotAt, lecdenOf}
 use Rattle.profile.specs.declared.Slot.{Slot}
 use Rattle.layer_mufs.specs.declared.Circuit.{Circuit}
 use Rattle.muf.specs.Sporadic.{rayOf, takenBy, takenOf, hopBy, rowBy, esRowOf, startOf, nextBy, esFrom, esLineBy, esLineOf, esFoundOf, rowAt}
-use Rattle.muf.specs.Curmuf.{esBy, threeBy, threeOf, workedOf, doneBy, doneOf, inDomain, listsReach, refusedDone, rowsBy, rowsOf, flatOf}
+use Rattle.muf.specs.Curmuf.{esBy, threeBy, threeOf, workedOf, doneBy, doneOf, inDomain, listsReach, refusedDone, rowsBy, takenRows, rowsOf, flatOf}
 use Rattle.muf.specs.declared.EsRow.{EsRow}
 use Rattle.muf.specs.declared.EsRay.{EsRay}
 use Rattle.muf.specs.declared.EsSearch.{EsSearch}
@@ -117,9 +117,12 @@ rows-by true there km h = omega arith
 rows-by false there km h = ltb-false there km h
 
 -- the rows that are worked are there
+pub taken-there : (there km : ℕ) → takenRows there km ≤ there
+taken-there there km = rows-by (ltb there km) there km refl
+
 pub rows-there : (numbers km : ℕ) → 4 * rowsOf numbers km ≤ numbers
 unfolding rowsOf
-rows-there numbers km = let h = rows-by (ltb (numbers / 4) km) (numbers / 4) km refl in omega (arith, div-add-mod' numbers 4)
+rows-there numbers km = let h = taken-there (numbers / 4) km in omega (arith, div-add-mod' numbers 4)
 
 pub flat-below : (s : IonoState) (es f2d clat clck : List Float) (c : Circuit) → flatOf s es f2d clat clck c .rewrites ≡ true → 4 * flatOf s es f2d clat clck c .ksx < length es
 unfolding flatOf

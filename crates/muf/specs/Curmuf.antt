@@ -101,13 +101,17 @@ doneBy false reach s n row f2d clat clck c = refusedDone s Refusal.MufInput
 unfoldable pub doneOf : IonoState → ℕ → (ℕ → EsRow) → List Float → List Float → List Float → Circuit → Done
 doneOf s n row f2d clat clck c = doneBy (inDomain c) (listsReach (controllingOf s) (length f2d) (length clat) (length clck)) s n row f2d clat clck c
 
--- flat rows: those that there are, at most km
+-- the rows that there are, at most km
 abbrev pub rowsBy : Bool → ℕ → ℕ → ℕ
 rowsBy true there km = there
 rowsBy false there km = km
 
+abbrev pub takenRows : ℕ → ℕ → ℕ
+takenRows there km = rowsBy (ltb there km) there km
+
+-- flat rows: four numbers each
 unfoldable pub rowsOf : ℕ → ℕ → ℕ
-rowsOf numbers km = let there = numbers / 4 in rowsBy (ltb there km) there km
+rowsOf numbers km = takenRows (numbers / 4) km
 
 unfoldable pub flatOf : IonoState → List Float → List Float → List Float → List Float → Circuit → Done
 flatOf s es f2d clat clck c = doneOf s (rowsOf (length es) (s .km)) (rowAt es) f2d clat clck c

@@ -6,7 +6,7 @@ ghost use lib.ListN.{length};
 ghost use Rattle.muf.specs.Sporadic.{rayOf, takenOf, esRowOf, startOf, rowAt, esFrom, sigl4Of, esFoundOf, esLineOf};
 ghost use Rattle.muf.specs.declared.EsRow.{EsRow};
 ghost use Rattle.muf.specs.Hour.{modeOf, hourOf, zeroLine, zeroHour, refusedOf};
-ghost use Rattle.muf.specs.Curmuf.{withinOf, inDomain, listsReach, threeOf, rowsOf, refusedDone, esBy, workedOf, doneOf, flatOf, esAfterOf, curmufOf};
+ghost use Rattle.muf.specs.Curmuf.{withinOf, inDomain, listsReach, threeOf, takenRows, rowsOf, refusedDone, esBy, workedOf, doneOf, flatOf, esAfterOf, curmufOf};
 use hops::Hops;
 use layer_mufs::Circuit;
 use layer_mufs::LineAnswer;
@@ -278,7 +278,7 @@ fn es_found(a: EsSearch, fe: f32) -> EsLine
     }
 }
 
-pub fn es_line(a: EsSearch, fe: f32) -> EsLine
+fn es_line(a: EsSearch, fe: f32) -> EsLine
     ensures { λ r. ⌜ r ≡ esLineOf a fe ⌝ }
 {
     if a.esmuf - 1000.0 >= 0.0 {
@@ -316,7 +316,7 @@ fn by_layer(m: Three, allmuf: f32) -> Mode
     }
 }
 
-pub fn hour(m: Three, es: LayerMuf, ks: usize) -> MufHour
+fn hour(m: Three, es: LayerMuf, ks: usize) -> MufHour
     ensures { λ r. ⌜ r ≡ hourOf m es ks ⌝ }
 {
     let e = m.e;
@@ -411,7 +411,7 @@ pub fn lists_reach(ks: usize, deciles: usize, lats: usize, clocks: usize) -> boo
 }
 
 // E, then F2, then F1.
-pub fn three_lines(
+fn three_lines(
     t: IonoState,
     l: Slot,
     ks: usize,
@@ -447,14 +447,20 @@ pub fn three_lines(
 }
 
 // The rows that there are, at most km.
-pub fn row_count(numbers: usize, km: usize) -> usize
-    ensures { λ r. ⌜ r ≡ rowsOf numbers km ⌝ }
+pub fn rows_taken(there: usize, km: usize) -> usize
+    ensures { λ r. ⌜ r ≡ takenRows there km ⌝ }
 {
-    let there = numbers / 4;
     if there < km {
         return there;
     }
     km
+}
+
+// The same of flat rows, by how many numbers there are.
+pub fn row_count(numbers: usize, km: usize) -> usize
+    ensures { λ r. ⌜ r ≡ rowsOf numbers km ⌝ }
+{
+    rows_taken(numbers / 4, km)
 }
 
 // What is written into which row, once the hour is known.
@@ -478,7 +484,7 @@ pub fn refused_done(s: IonoState, r: Refusal) -> Done
 }
 
 // The hour, after the search of the Es rows.
-pub fn finish(s: IonoState, t: IonoState, fe: f32, m: Three, ks: usize, step: EsStep) -> Done
+fn finish(s: IonoState, t: IonoState, fe: f32, m: Three, ks: usize, step: EsStep) -> Done
     ensures { λ r. ⌜ r ≡ esBy step s t fe m ks ⌝ }
 {
     match step {
@@ -516,7 +522,7 @@ pub fn worked(
     ensures { λ r. ⌜ ((n : ℕ) (row : ℕ → EsRow) → step ≡ esFrom row c n 0 startOf → r ≡ workedOf s ks n row (now (f2d .entry)) clat clck c) ⌝ }
 {
     let t = profile::lecden_slot(s, ks);
-    let l = layer_mufs::slot(t, ks);
+    let l = profile::slot_at(t, ks);
     let found = three_lines(t, l, ks, f2d, clat, clck, c);
     match found {
         ThreeAnswer::Refused(r) => refused_done(s, r),

@@ -2,7 +2,6 @@
 use mathlib.Core.Bool.{Bool, true, false}
 use mathlib.Core.List.{List, []}
 use Prim.Native.Nat.{ℕ}
-use lib.Dec.{ltb}
 use lib.ListN.{length, getD, set}
 use lib.Ieee.{Float, nan}
 use Rattle.layers.specs.State.{at}
@@ -10,7 +9,7 @@ use Rattle.layers.specs.declared.IonoState.{IonoState}
 use Rattle.layers.specs.declared.EsParams.{EsParams}
 use Rattle.layer_mufs.specs.declared.Circuit.{Circuit}
 use Rattle.muf.specs.Sporadic.{nextBy, esRowOf}
-use Rattle.muf.specs.Curmuf.{rowsBy, doneOf}
+use Rattle.muf.specs.Curmuf.{takenRows, doneOf}
 use Rattle.muf.specs.declared.EsRow.{EsRow}
 use Rattle.muf.specs.declared.EsStep.{EsStep}
 use Rattle.muf.specs.declared.MufAnswer.{MufAnswer}
@@ -25,10 +24,6 @@ rowOf e = record { fs0 = at (e .fs) 0; fs1 = at (e .fs) 1; fs2 = at (e .fs) 2; h
 
 abbrev pub recordAt : List EsParams → ℕ → EsRow
 recordAt es k = rowOf (getD es k noEs)
-
--- the rows that there are, at most km
-abbrev pub takenRows : ℕ → ℕ → ℕ
-takenRows there km = rowsBy (ltb there km) there km
 
 unfoldable pub recordsDoneOf : IonoState → List EsParams → List Float → List Float → List Float → Circuit → Done
 recordsDoneOf s es f2d clat clck c = doneOf s (takenRows (length es) (s .km)) (recordAt es) f2d clat clck c

@@ -6,7 +6,8 @@ ghost use Prim.Native.Nat.{_<_};
 ghost use mathlib.Core.Bool.{true};
 ghost use lib.ListN.{length};
 ghost use Rattle.muf.specs.Sporadic.{startOf, esFrom};
-ghost use Rattle.muf_records.specs.Records.{rowOf, recordAt, takenRows, turnOf, lowered, recordsBy, recordsMufOf, recordsAfterOf};
+ghost use Rattle.muf.specs.Curmuf.{takenRows};
+ghost use Rattle.muf_records.specs.Records.{rowOf, recordAt, turnOf, lowered, recordsBy, recordsMufOf, recordsAfterOf};
 ghost use Rattle.muf.specs.declared.EsStep.{EsStep};
 use layer_mufs::Circuit;
 use layers::EsParams;
@@ -27,16 +28,6 @@ fn row(e: EsParams) -> EsRow
         fs2: fs[2],
         hs: e.hs,
     }
-}
-
-// The rows that there are, at most km.
-fn rows_taken(there: usize, km: usize) -> usize
-    ensures { λ r. ⌜ r ≡ takenRows there km ⌝ }
-{
-    if there < km {
-        return there;
-    }
-    km
 }
 
 // No row controls yet.
@@ -61,7 +52,7 @@ fn turn(step: EsStep, k: usize, e: EsParams, c: Circuit) -> EsStep
 fn search(es: &[EsParams], km: usize, c: Circuit) -> EsStep
     ensures { λ r. ⌜ r ≡ esFrom (recordAt (now (es .entry))) c (takenRows (length (now (es .entry))) km) 0 startOf ⌝ }
 {
-    let n = rows_taken(es.len(), km);
+    let n = muf::rows_taken(es.len(), km);
     let mut step = first();
     let mut k = 0;
     while k < n {

@@ -1,18 +1,11 @@
 -- Parts written one after the other are the layout, and the circuit read from there is the one written.
 use mathlib.Core.Path.{_≡_, refl, ap, sym, _∙_}
 use mathlib.Core.List.{List, _++_, append-assoc}
-use Prim.Native.Nat.{ℕ, _+_, _≤_}
+use Prim.Native.Nat.{ℕ, _+_}
 use native.Mathlib.Nat.{zero-add}
-use native.Mathlib.Omega.{arith}
 use lib.ListN.{length, take, drop}
 use lib.Seq.{take-at, drop-at, drop-drop}
-use Rattle.refusal.specs.declared.Outcome.{Outcome}
-use Rattle.circuit.specs.declared.Chain.{Chain}
 use Rattle.circuit.specs.declared.Circuit.{Circuit}
-use Rattle.circuit.specs.Record.{old}
-use Rattle.circuit.specs.Chain.{chainOf}
-use Rattle.circuit.specs.Read.{readOf, circuitOf, noCircuit}
-use Rattle.circuit.proofs.Followed.{followed, read-answered, read-refused}
 use Rattle.port_circuit.specs.Words.{wordsInto, numbersOf, layoutOf, circuitInto}
 use Rattle.port_circuit.specs.Words as words
 
@@ -49,17 +42,3 @@ read-back c w p d =
     let b : take 576 (drop 81 (numbersOf c ++ (c .points ++ c .deciles) ++ drop 657 w)) ≡ c .deciles =
     rw (r, drop-at (numbersOf c ++ c .points) (c .deciles ++ drop 657 w) 81 q) (take-at (c .deciles) (drop 657 w) 576 d) in
     rw (a, b)
-
--- km and shape of a circuit that was read fit a word
-abbrev pub Small : Circuit → Type 0
-Small c = (c .km ≤ 5) × (c .shape ≤ 1)
-
-small-by : (f : List ℕ) (k : Chain) → k ≡ chainOf old f → (o : Outcome) → k .outcome ≡ o → Small (readOf old f .circuit)
-unfolding circuitOf noCircuit
-small-by f k e Outcome.Answered a =
-    let h = followed f (ap (λ (c : Chain). c .outcome) (sym e) ∙ a) .head in
-    rw (read-answered f k e a) (h .most, h .form)
-small-by f k e (Outcome.Refused r) a = rw (read-refused f k e r a) (omega arith, omega arith)
-
-pub small : (f : List ℕ) → Small (readOf old f .circuit)
-small f = small-by f (chainOf old f) refl (chainOf old f .outcome) refl

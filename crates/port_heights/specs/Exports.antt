@@ -6,6 +6,7 @@ use lib.Dec.{ltb}
 use lib.ListN.{length, set}
 use lib.Ieee.{Float, binary32, ofBits}
 use Rattle.port_state.specs.Words.{floatsOf, floatsInto}
+use Rattle.port_state.specs.Ports.{Ported}
 use Rattle.port_state.specs.State.{stateOf}
 use Rattle.layers.specs.declared.IonoState.{IonoState}
 use Rattle.readings.specs.Scan.{kindOf, valueOf, readingOf}
@@ -16,54 +17,49 @@ use Rattle.heights.specs.Xlin.{xlinOf}
 use Rattle.heights.specs.declared.Heights.{Heights}
 use Rattle.heights.specs.declared.LayerNumber.{LayerNumber}
 
--- an export's answer: its number, and the lent words afterwards
-pub record Left : Type 0 where
-  pub number : ℕ
-  pub words : List ℕ
-
 -- is one slice too short, is the other
-abbrev pub leftBy : Bool → Bool → List ℕ → Left → Left
+abbrev pub leftBy : Bool → Bool → List ℕ → Ported → Ported
 leftBy true b out a = record { number = 1; words = out }
 leftBy false true out a = record { number = 1; words = out }
 leftBy false false out a = a
 
 -- a state's words, and n words to write
-abbrev pub onState : List ℕ → ℕ → List ℕ → Left → Left
+abbrev pub onState : List ℕ → ℕ → List ℕ → Ported → Ported
 onState state n out a = leftBy (ltb (length state) 153) (ltb (length out) n) out a
 
 -- hp, ht, cursor
 unfoldable pub heightsInto : Heights → List ℕ → List ℕ
 heightsInto h out = set (floatsInto out 0 (h .hp ∷ h .ht ∷ [])) 2 (h .cursor)
 
-unfoldable pub gethpLeft : List ℕ → ℕ → List ℕ → Left
+unfoldable pub gethpLeft : List ℕ → ℕ → List ℕ → Ported
 gethpLeft state fxx out = onState state 3 out (record { number = 0; words = heightsInto (gethpOf (stateOf state) (ofBits binary32 fxx)) out })
 
-unfoldable pub gethpScanLeft : List ℕ → ℕ → List ℕ → Left
+unfoldable pub gethpScanLeft : List ℕ → ℕ → List ℕ → Ported
 gethpScanLeft state fxx out = onState state 3 out (record { number = 0; words = heightsInto (gethpScanOf (stateOf state) (ofBits binary32 fxx)) out })
 
 -- the kind, the density
 unfoldable pub readingInto : Reading → List ℕ → List ℕ
 readingInto r out = set (floatsInto out 1 (valueOf r ∷ [])) 0 (kindOf r)
 
-unfoldable pub readingLeft : List ℕ → ℕ → List ℕ → Left
+unfoldable pub readingLeft : List ℕ → ℕ → List ℕ → Ported
 readingLeft state zi out =
     let s = stateOf state in
     onState state 2 out (record { number = 0; words = readingInto (readingOf (s .htr) (s .fnsq) (ofBits binary32 zi)) out })
 
 -- the refusal's number, or 0 and the value's word
-abbrev pub layerLeft : LayerNumber → List ℕ → Left
+abbrev pub layerLeft : LayerNumber → List ℕ → Ported
 layerLeft a out = record { number = layerNumberOf a; words = floatsInto out 0 (layerValuesOf a) }
 
-unfoldable pub bendyLeft : List ℕ → ℕ → ℕ → ℕ → List ℕ → Left
+unfoldable pub bendyLeft : List ℕ → ℕ → ℕ → ℕ → List ℕ → Ported
 bendyLeft state i k f out = onState state 1 out (layerLeft (bendyAnswer (stateOf state) i k (ofBits binary32 f)) out)
 
-unfoldable pub penLeft : List ℕ → ℕ → ℕ → ℕ → List ℕ → Left
+unfoldable pub penLeft : List ℕ → ℕ → ℕ → ℕ → List ℕ → Ported
 penLeft state i k f out = onState state 1 out (layerLeft (penAnswer (stateOf state) i k (ofBits binary32 f)) out)
 
-abbrev pub gridsBy : Bool → Bool → List ℕ → Left → Left
+abbrev pub gridsBy : Bool → Bool → List ℕ → Ported → Ported
 gridsBy true b out a = record { number = 1; words = out }
 gridsBy false b out a = leftBy b (ltb (length out) 1) out a
 
-unfoldable pub xlinLeft : ℕ → List ℕ → List ℕ → List ℕ → Left
+unfoldable pub xlinLeft : ℕ → List ℕ → List ℕ → List ℕ → Ported
 xlinLeft x xn yn out =
     gridsBy (ltb (length xn) 50) (ltb (length yn) 50) out (record { number = 0; words = floatsInto out 0 (xlinOf (ofBits binary32 x) (floatsOf xn 0 50) (floatsOf yn 0 50) ∷ []) })

@@ -15,14 +15,10 @@ use Rattle.muf.specs.Curmuf.{flatOf}
 use Rattle.muf.specs.declared.MufHour.{MufHour}
 use Rattle.muf.specs.declared.Done.{Done}
 use Rattle.port_state.specs.Words.{floatsOf, floatsInto, word, wordOf, countOf}
+use Rattle.port_state.specs.Ports.{Ported}
 use Rattle.port_state.specs.State.{stateOf, stateInto}
 use Rattle.deciles.specs.F2dis.{f2disOf, deviationNumber}
 use Rattle.deciles.specs.declared.Deviation.{Deviation}
-
--- an export's answer: its number, and the lent words afterwards
-pub record Left : Type 0 where
-  pub number : ℕ
-  pub words : List ℕ
 
 abbrev pub number : List ℕ → ℕ → Float
 number w i = ofBits binary32 (word w i)
@@ -32,13 +28,13 @@ deviationValues (Deviation.Value x) = x ∷ []
 deviationValues (Deviation.Refused r) = []
 
 -- too few numbers, no room for the answer, 576 deciles
-abbrev pub f2disBy : Bool → Bool → Bool → List ℕ → Deviation → Left
+abbrev pub f2disBy : Bool → Bool → Bool → List ℕ → Deviation → Ported
 f2disBy true b c out d = record { number = 1; words = out }
 f2disBy false true c out d = record { number = 1; words = out }
 f2disBy false false false out d = record { number = numberOf Refusal.MufLists; words = out }
 f2disBy false false true out d = record { number = deviationNumber d; words = floatsInto out 0 (deviationValues d) }
 
-unfoldable pub f2disLeft : List ℕ → List ℕ → List ℕ → Left
+unfoldable pub f2disLeft : List ℕ → List ℕ → List ℕ → Ported
 f2disLeft deciles numbers out =
     f2disBy (ltb (length numbers) 5) (ltb (length out) 1) (eqb (length deciles) 576) out
     (f2disOf (floatsOf deciles 0 576) (number numbers 0) (number numbers 1) (number numbers 2) (number numbers 3) (number numbers 4))

@@ -108,7 +108,7 @@ pub fn rises_throughout(htr: &[f32; 50]) -> bool
     true
 }
 
-fn slot_at(s: IonoState, k: usize) -> Slot
+pub fn slot_at(s: IonoState, k: usize) -> Slot
     requires { ⌜ k < 3 ⌝ }
     ensures { λ r. ⌜ r ≡ slotAt s k ⌝ }
 {

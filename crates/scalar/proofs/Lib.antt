@@ -4,6 +4,7 @@ pub mod Order
 pub mod MinMax
 pub mod Sign
 pub mod Truncation
+pub mod Casts
 pub mod WholeRoot
 pub mod MeanStep
 pub mod Closest

@@ -1,5 +1,5 @@
 -- The reader's outcome decides; a circuit has at most five points.
-use Rattle.circuit_sheet.proofs.Ranges.{points-most}
+use Rattle.circuit.proofs.Followed.{small}
 use Rattle.circuit_sheet.specs.CircuitSheet.{sheetOf}
 use borrow.Author.Needs.{needs}
 use Rattle.circuit_sheet.proofs.of_file.Statement.{statement}
@@ -12,7 +12,7 @@ enum-told : tie.Need-enum-told
 enum-told c = search needs
 
 of-circuit-requires : tie.Need-of-circuit-requires
-of-circuit-requires c κs = rw (c .before .before .before .read .ensures) (points-most _)
+of-circuit-requires c κs = rw (c .before .before .before .read .ensures) (small _ .0)
 
 enum-known-outcome : tie.Need-enum-known-outcome
 enum-known-outcome c = search needs

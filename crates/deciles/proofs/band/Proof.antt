@@ -2,7 +2,7 @@ use Rattle.deciles.specs.F2dis.{iclOf}
 use native.Mathlib.Omega.{arith}
 use mir.Facts.{toZ-ofZ}
 use borrow.Author.Needs.{needs, sfits-of}
-use Rattle.deciles.proofs.Ranges.{castable}
+use Rattle.scalar.proofs.Casts.{castable}
 use Rattle.deciles.proofs.band.Statement.{statement}
 use Rattle.deciles.proofs.band.Tie as tie
 

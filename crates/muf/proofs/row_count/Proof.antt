@@ -1,15 +1,15 @@
-use borrow.Author.Tests.{lt-ltb, le-ltb}
+-- The rows that there are, of a quarter as many.
 use Rattle.muf.specs.Curmuf.{rowsOf}
+use borrow.Author.Needs.{needs}
 use Rattle.muf.proofs.row_count.Statement.{statement}
 use Rattle.muf.proofs.row_count.Tie as tie
 
+rows-taken-requires : tie.Need-rows-taken-requires
+rows-taken-requires c κs = search needs
+
 returns : tie.Need-returns
 unfolding rowsOf
-returns c = rw (lt-ltb _ _ (c .if1 .taken))
-
-returns-2 : tie.Need-returns-2
-unfolding rowsOf
-returns-2 c = rw (le-ltb _ _ (c .if1 .left))
+returns c = rw (← c .rows-taken .ensures)
 
 pub row-count-spec : {M : Type 1} → statement M
-row-count-spec = tie.close (tie.spec returns returns-2)
+row-count-spec = tie.close (tie.spec rows-taken-requires returns)

@@ -7,8 +7,8 @@ use Rattle.muf.proofs.worked.Tie as tie
 lecden-slot-requires : tie.Need-lecden-slot-requires
 lecden-slot-requires c κs = search needs
 
-slot-requires : tie.Need-slot-requires
-slot-requires c κs = search needs
+slot-at-requires : tie.Need-slot-at-requires
+slot-at-requires c κs = search needs
 
 three-lines-requires : tie.Need-three-lines-requires
 three-lines-requires c κs = search needs
@@ -27,18 +27,18 @@ finish-requires c κs = search needs
 
 returns : tie.Need-returns
 unfolding workedOf
-returns c n row e = rw (← c .before .before .before .before .before .before .lecden-slot .ensures, ← c .before .before .before .before .before .slot .ensures, ← c .before .before .before .before .three-lines .ensures, c .before .before .found .given .1, ← c .refused-done .ensures)
+returns c n row e = rw (← c .before .before .before .before .before .before .lecden-slot .ensures, ← c .before .before .before .before .before .slot-at .ensures, ← c .before .before .before .before .three-lines .ensures, c .before .before .found .given .1, ← c .refused-done .ensures)
 
 returns-2 : tie.Need-returns-2
 unfolding workedOf
-returns-2 c n row e = rw (← c .before .before .before .before .before .before .lecden-slot .ensures, ← c .before .before .before .before .before .slot .ensures, ← c .before .before .before .before .three-lines .ensures, c .before .before .found2 .given .1, ← e, ← c .finish .ensures)
+returns-2 c n row e = rw (← c .before .before .before .before .before .before .lecden-slot .ensures, ← c .before .before .before .before .before .slot-at .ensures, ← c .before .before .before .before .three-lines .ensures, c .before .before .found2 .given .1, ← e, ← c .finish .ensures)
 
 pub worked-spec : {M : Type 1} → statement M
 worked-spec =
     tie.close
     (tie.spec
     lecden-slot-requires
-    slot-requires
+    slot-at-requires
     three-lines-requires
     enum-known-found
     refused-done-requires

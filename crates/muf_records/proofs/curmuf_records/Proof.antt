@@ -56,7 +56,7 @@ use Rattle.layer_mufs.specs.declared.Circuit.{Circuit}
 use Rattle.layer_mufs.proofs.Circuit as Ci
 use Rattle.layer_mufs.proofs.Circuit.Laws as Ci′
 use Rattle.muf.specs.Sporadic.{esFrom, startOf}
-use Rattle.muf.specs.Curmuf.{doneOf}
+use Rattle.muf.specs.Curmuf.{takenRows, doneOf}
 use Rattle.muf.specs.declared.EsRow.{EsRow}
 use Rattle.muf.specs.declared.EsStep.{EsStep}
 use Rattle.muf.proofs.EsStep as St
@@ -67,7 +67,7 @@ use Rattle.muf.proofs.Done.Laws as Do′
 use Rattle.muf.specs.declared.MufAnswer.{MufAnswer}
 use Rattle.muf.proofs.MufAnswer as An
 use Rattle.muf.proofs.MufAnswer.Laws as An′
-use Rattle.muf_records.specs.Records.{recordAt, takenRows, recordsDoneOf, recordsBy}
+use Rattle.muf_records.specs.Records.{recordAt, recordsDoneOf, recordsBy}
 use Rattle.muf_records.proofs.Rows.{records-below}
 use Rattle.muf_records.proofs.search as search′
 use Rattle.muf_records.proofs.search.Symbol as search-def

@@ -57,14 +57,15 @@ use Rattle.layer_mufs.proofs.Circuit.Laws as Ci′
 use Rattle.muf.specs.declared.EsRow.{EsRow}
 use Rattle.muf.specs.declared.EsStep.{EsStep}
 use Rattle.muf.specs.Sporadic.{nextBy, esFrom, startOf}
+use Rattle.muf.specs.Curmuf.{takenRows}
+use Rattle.muf.proofs.Rows.{taken-there}
 use Rattle.muf.proofs.EsStep as St
 use Rattle.muf.proofs.EsStep.Laws as St′
-use Rattle.muf_records.specs.Records.{noEs, recordAt, takenRows, turnOf}
-use Rattle.muf_records.proofs.Rows.{rows-there}
-use Rattle.muf_records.proofs.rows_taken as rows-taken
-use Rattle.muf_records.proofs.rows_taken.Symbol as rows-taken-def
-use Rattle.muf_records.proofs.rows_taken.Symbol.{name as #rows-taken}
-use Rattle.muf_records.proofs.rows_taken.Met as rows-taken-thm
+use Rattle.muf_records.specs.Records.{noEs, recordAt, turnOf}
+use Rattle.muf.proofs.rows_taken as rows-taken
+use Rattle.muf.proofs.rows_taken.Symbol as rows-taken-def
+use Rattle.muf.proofs.rows_taken.Symbol.{name as #rows-taken}
+use Rattle.muf.proofs.rows_taken.Met as rows-taken-thm
 use Rattle.muf_records.proofs.first as first
 use Rattle.muf_records.proofs.first.Symbol as first-def
 use Rattle.muf_records.proofs.first.Symbol.{name as #first}
@@ -277,7 +278,7 @@ module _ {M : Type 1} (𝓤 : URA M) (H : Heap 𝓤) (A : Atoms 𝓤) (W : Given
           by ! (k w′ (subst (λ (z : EsStep). Is St.the-row z (w′ ∷ [])) e r-is))))))))
         where
           within : i < length ys
-          within = let h = rows-there (length ys) km in omega (arith, small)
+          within = let h = taken-there (length ys) km in omega (arith, small)
 
           i-fits : i < 2 ^ 64
           i-fits = let h = within in omega (arith, room .0)
@@ -384,6 +385,6 @@ search-spec 𝓤 H 𝓜 𝓖 𝓡 =
     entered 𝓤 H (tripleOf 𝓤 H (𝓖 .A) search′.signature (search′.spec 𝓤 H (𝓖 .A) (𝓜 .mem) (𝓡 .run)))
     (tables 𝓤 H 𝓜 𝓡 code.env .C) (tables 𝓤 H 𝓜 𝓡 code.env .Λ) #search code.function (code.unfolded 𝓤 H 𝓜 𝓡)
     (search-meets 𝓤 H (𝓖 .A) (givenOf 𝓤 H 𝓜 𝓖) (𝓜 .mem) (𝓡 .run) (tablesOf 𝓤 H 𝓜 (tables 𝓤 H 𝓜 𝓡 code.env))
-    (cited 𝓤 H (RowsTaken 𝓤 H (𝓖 .A) (𝓜 .mem) (𝓡 .run)) 𝓜 𝓡 code.env #rows-taken rows-taken-def.routine code.calls-muf-records·rows-taken (rows-taken-thm.met 𝓤 H 𝓜 𝓖 𝓡))
+    (cited 𝓤 H (RowsTaken 𝓤 H (𝓖 .A) (𝓜 .mem) (𝓡 .run)) 𝓜 𝓡 code.env #rows-taken rows-taken-def.routine code.calls-muf·rows-taken (rows-taken-thm.met 𝓤 H 𝓜 𝓖 𝓡))
     (cited 𝓤 H (First 𝓤 H (𝓖 .A) (𝓜 .mem) (𝓡 .run)) 𝓜 𝓡 code.env #first first-def.routine code.calls-muf-records·first (first-thm.met 𝓤 H 𝓜 𝓖 𝓡))
     (cited 𝓤 H (Turn 𝓤 H (𝓖 .A) (𝓜 .mem) (𝓡 .run)) 𝓜 𝓡 code.env #turn turn-def.routine code.calls-muf-records·turn (turn-thm.met 𝓤 H 𝓜 𝓖 𝓡)))

@@ -3,7 +3,7 @@ use Rattle.port_circuit.specs.Exports.{portRead}
 use mathlib.Core.Path.{refl}
 use borrow.Author.Tests.{le-leb, lt-leb}
 use borrow.Author.Needs.{needs}
-use Rattle.port_circuit.proofs.Laid.{small}
+use Rattle.circuit.proofs.Followed.{small}
 use Rattle.port_circuit.proofs.port_read.Statement.{statement}
 use Rattle.port_circuit.proofs.port_read.Tie as tie
 

@@ -3,7 +3,7 @@ use native.Mathlib.Omega.{arith}
 use mir.Facts.{toZ-ofZ}
 use borrow.Author.Needs.{needs, sfits-of}
 use Rattle.ionogram.specs.Angles.{stepOf}
-use Rattle.deciles.proofs.Ranges.{castable}
+use Rattle.scalar.proofs.Casts.{castable}
 use Rattle.ionogram.proofs.angles.step.Statement.{statement}
 use Rattle.ionogram.proofs.angles.step.Tie as tie
 

@@ -1,7 +1,7 @@
 -- The test is the definition's.
 use borrow.Author.Tests.{lt-ltb, le-ltb}
-use Rattle.muf_records.proofs.rows_taken.Statement.{statement}
-use Rattle.muf_records.proofs.rows_taken.Tie as tie
+use Rattle.muf.proofs.rows_taken.Statement.{statement}
+use Rattle.muf.proofs.rows_taken.Tie as tie
 
 returns : tie.Need-returns
 returns c = rw (lt-ltb _ _ (c .if1 .taken))
