@@ -2,14 +2,14 @@
 use mathlib.Core.Path.{_≡_, refl, sym, ap, _∙_, subst, subst₂}
 use mathlib.Core.Bool.{Bool, true, false, _&&_, _||_}
 use mathlib.Core.Logic.{_⊎_, inl, inr}
-use Prim.Native.Nat.{ℕ, _+_, _*_, _<_, _≤_}
+use Prim.Native.Nat.{ℕ, _+_, _≤_}
 use native.Mathlib.Nat.{le-trans, le-refl, le-of-lt, lt-of-lt-of-le, lt-of-le-of-lt, le-add-right}
 use native.Mathlib.Omega.{arith}
-use lib.Dec.{T, ltb}
-use lib.IntN.{ℤ, pos, negsuc, _+ℤ_}
+use lib.Dec.{T}
+use lib.IntN.{ℤ, pos, negsuc}
 use lib.Signed.{ltZ}
 use lib.Ieee.{Float, nan, inf, fin, binary32, ofBits, toBits, ofInt, round, fits, isNan, lt, le, neg, add, sub, mul, div}
-use lib.Ieee.Fits.{ofInt-fits, mul-fits, div-fits, sub-fits, neg-fits}
+use lib.Ieee.Fits.{ofInt-fits, mul-fits, sub-fits}
 use lib.Ieee.Bits.{ofBits-fits}
 use lib.Ieee.Scale.{overflow, finite}
 use borrow.Author.Tests.{le-ltb, ltb-false}
@@ -25,10 +25,9 @@ use Rattle.circular.specs.Atan.{atanBits, atanOf}
 use Rattle.circular.specs.Answers.{sinAnswer, cosAnswer}
 use Rattle.circular.specs.declared.Answer.{Answer}
 use Rattle.circular.proofs.Within.{atan-within}
-use Rattle.refusal.specs.declared.Refusal.{Refusal}
 use Rattle.hops.specs.Geometry.{D2R, PIO2, RZ, hopRatioOf, hopsBy, hopsOf, psiOf, delOf}
 use Rattle.hops.specs.declared.Hops.{Hops}
-use Rattle.angles.proofs.Keys.{NotBelow, Above, UpTo, From, Between, quotient, product, product-from, difference, finite-of, key-range}
+use Rattle.angles.proofs.Keys.{Above, UpTo, From, Between, quotient, product, product-from, difference, finite-of, key-range}
 
 abbrev F : Float → Type 0
 F x = T (fits binary32 x)

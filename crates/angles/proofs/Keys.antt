@@ -10,7 +10,7 @@ use lib.IntN.{ℤ}
 use lib.Ieee.{Float, nan, inf, fin, Format, low, up, down, unlike, fits, round, sub, mul, div}
 use lib.Ieee.Fits.{down-pos, up-pos, sub-fits, mul-fits, div-fits}
 use lib.Ieee.Scale.{overflow, finite}
-use Rattle.order.specs.Units.{real, keyOf, sgn, mag, key, rounded, total}
+use Rattle.order.specs.Units.{real, keyOf, mag, key, rounded, total}
 use Rattle.order.proofs.Keys.{mag-of, mag-val, mag-le, mag-lt, mag-inf, overflow-pos}
 use Rattle.order.proofs.Sums.{round-as, round-key, rounded-mono, rounded-same, R-zero, total-mono, sub-key, sub-real}
 

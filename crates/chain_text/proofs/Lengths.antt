@@ -1,6 +1,6 @@
 -- A line of the chain has at most 63 bytes: three numbers of at most twenty digits, two spaces and the line feed.
 use mathlib.Core.List.{List, [], _∷_, _++_}
-use Prim.Native.Nat.{ℕ, zero, suc, _+_, _*_, _≤_}
+use Prim.Native.Nat.{ℕ, zero, suc, _*_, _≤_}
 use native.Mathlib.Omega.{arith}
 use lib.ListN.{length, getD, length-append}
 use Rattle.lines.specs.Text.{lineFeed, decimalOf, fieldOf}

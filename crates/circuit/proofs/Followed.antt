@@ -1,5 +1,5 @@
 -- What holds of a chain that was followed to its end. `walk-ind` is the induction along a walk, by which each fact goes.
-use Prim.Native.Nat.{ℕ, zero, suc, _+_, _*_, _-_, _/_, _%_, _≤_, _<_}
+use Prim.Native.Nat.{ℕ, zero, suc, _+_, _-_, _/_, _%_, _≤_, _<_}
 use mathlib.Core.Path.{_≡_, refl, ap, _∙_, sym}
 use mathlib.Core.List.{List, [], _∷_, _++_}
 use mathlib.Core.Bool.{Bool, true, false, _||_, _&&_}
@@ -8,14 +8,14 @@ use native.Mathlib.Omega.{arith}
 use native.Mathlib.Numerals.{add-one}
 use lib.ListN.{length, getD, replicate, length-append}
 use lib.Dec.{eqb, leb}
-use borrow.Author.Tests.{eqb-true, leb-true, ltb-true}
+use borrow.Author.Tests.{eqb-true, leb-true}
 use Rattle.refusal.specs.declared.Refusal.{Refusal}
 use Rattle.refusal.specs.declared.Outcome.{Outcome}
 use Rattle.circuit.specs.declared.Chain.{Chain}
 use Rattle.circuit.specs.declared.Circuit.{Circuit}
 use Rattle.circuit.specs.declared.Step.{Step}
 use Rattle.circuit.specs.Record.{Form, old, recordAt}
-use Rattle.circuit.specs.Chain.{lengthGood, countOf, kmOf, headGood, byStep, stepOf, pick, soundBy, ended, answered, refused, padded, walk, chainOf}
+use Rattle.circuit.specs.Chain.{lengthGood, countOf, kmOf, headGood, byStep, stepOf, pick, soundBy, answered, refused, walk, chainOf}
 use Rattle.circuit.specs.Read.{readOf, circuitOf, noCircuit}
 use Rattle.circuit.proofs.Lists.{both, length-padded}
 use Rattle.circuit.proofs.Steps.{step-to, Head, head-facts}

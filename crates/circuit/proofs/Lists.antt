@@ -2,11 +2,11 @@
 use Prim.Native.Nat.{ℕ, zero, suc, _+_, _*_, _-_, _≤_, _<_}
 use mathlib.Core.Path.{_≡_, refl, ap, _∙_, sym}
 use mathlib.Core.List.{List, [], _∷_, _++_, append-assoc, append-nil, map, map-append}
-use mathlib.Core.Bool.{Bool, true, false, _&&_, _||_}
+use mathlib.Core.Bool.{Bool, true, false, _&&_}
 use native.Mathlib.Omega.{arith}
 use native.Mathlib.Numerals.{add-one}
-use lib.ListN.{length, getD, take, drop, set, length-append, length-drop, length-take, drop-of-length-le, replicate, length-replicate, length-map}
-use lib.Seq.{drop-cons, take-all, drop-length, set-at, take-at, drop-at, length-take-le, take-suc, take-suc-set}
+use lib.ListN.{length, getD, take, drop, set, length-append, length-drop, drop-of-length-le, replicate, length-replicate, length-map}
+use lib.Seq.{drop-cons, take-all, set-at, take-at, drop-at, length-take-le, take-suc, take-suc-set}
 use lib.Dec.{eqb}
 use borrow.Author.Tests.{eq-eqb, ne-eqb, eqb-true}
 use Rattle.circuit.specs.Chain.{member, padded}

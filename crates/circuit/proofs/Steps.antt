@@ -1,5 +1,5 @@
 -- What one step of the walk is, by where it leads, and the array that holds the records met.
-use Prim.Native.Nat.{ℕ, zero, suc, _+_, _*_, _-_, _/_, _≤_, _<_}
+use Prim.Native.Nat.{ℕ, zero, suc, _+_, _-_, _≤_, _<_}
 use mathlib.Core.Path.{_≡_, refl, ap, _∙_, sym}
 use mathlib.Core.List.{List, [], _∷_, _++_, append-assoc}
 use mathlib.Core.Bool.{Bool, true, false, _&&_, not}
@@ -14,7 +14,7 @@ use Rattle.refusal.specs.declared.Refusal.{Refusal}
 use Rattle.refusal.specs.declared.Outcome.{Outcome}
 use Rattle.circuit.specs.declared.Chain.{Chain}
 use Rattle.circuit.specs.declared.Step.{Step}
-use Rattle.circuit.specs.Record.{Form, recordAt, old, kindOf, nextOf, allZero}
+use Rattle.circuit.specs.Record.{Form, recordAt, kindOf, nextOf, allZero}
 use Rattle.circuit.specs.Chain.{headGood, kmOf, shapeOf, countOf, member, stepBy, stepOf, walk, ended, answered, refused, padded, pick, soundBy}
 
 -- an index that a step goes to

@@ -8,7 +8,7 @@ use Rattle.refusal.specs.declared.Refusal.{Refusal}
 use Rattle.refusal.specs.declared.Outcome.{Outcome}
 use Rattle.circuit.specs.declared.Chain.{Chain}
 use Rattle.circuit.specs.declared.Step.{Step}
-use Rattle.circuit.specs.Record.{Form, recordAt, kindOf, nextOf, wordAt, allZero, fits}
+use Rattle.circuit.specs.Record.{Form, recordAt, kindOf, nextOf, allZero, fits}
 
 -- the file's length is a multiple of the record size, and 2 to 64 records
 abbrev pub lengthGood : Form → List ℕ → Bool

@@ -1,7 +1,7 @@
 -- A record of a circuit file, and the numbers in it, least significant byte first (document 01, "Circuit file").
 use Prim.Native.Nat.{ℕ, zero, suc, _+_, _*_}
 use mathlib.Core.List.{List, [], _∷_, _++_}
-use mathlib.Core.Bool.{Bool, true, false, _&&_}
+use mathlib.Core.Bool.{Bool, true, _&&_}
 use lib.ListN.{getD, take, drop}
 use lib.Dec.{eqb}
 

@@ -2,16 +2,14 @@
 use Prim.Native.Nat.{ℕ, zero, suc, _+_, _*_, _-_, _/_, _%_, _^_, _≤_, _<_}
 use mathlib.Core.Path.{_≡_, refl, ap, _∙_, sym}
 use mathlib.Core.List.{List, [], _∷_, _++_}
-use mathlib.Core.Bool.{Bool, true, false, _&&_}
+use mathlib.Core.Bool.{true}
 use native.Mathlib.Omega.{arith}
-use native.Mathlib.Numerals.{add-one}
 use lib.ListN.{length, getD, take, drop, replicate}
 use lib.Seq.{drop-cons, take-suc, take-length, getD-drop, drop-append-add, drop-length}
 use native.Mathlib.Nat.{add-zero, div-div-eq-div-mul}
-use lib.Dec.{eqb}
 use borrow.Author.Tests.{eq-eqb}
 use Rattle.circuit.specs.Record.{old, halfAt, wordAt, kindOf, nextOf, wordsOf, allZero, fits}
-use Rattle.circuit_write.specs.Written.{halfOf, wordOf, bytesOf, recordOf}
+use Rattle.circuit_write.specs.Written.{bytesOf, recordOf}
 use Rattle.circuit_laws.specs.Forms.{Each}
 
 pub half-back : (n : ℕ) → n < 65536 → n % 256 + 256 * (n / 256 % 256) ≡ n

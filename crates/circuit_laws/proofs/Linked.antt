@@ -1,10 +1,10 @@
 -- What a chain that was followed says of its records: each next index names the record after it, each record is sound for
 -- its place, and the last next index is zero.
-use Prim.Native.Nat.{ℕ, zero, suc, _+_, _*_, _-_, _≤_, _<_}
-use mathlib.Core.Path.{_≡_, refl, ap, _∙_, sym}
+use Prim.Native.Nat.{ℕ, suc, _+_, _-_, _≤_, _<_}
+use mathlib.Core.Path.{_≡_, refl, ap, _∙_}
 use mathlib.Core.List.{List, [], _∷_, _++_}
 use mathlib.Core.Bool.{Bool, true, false, _&&_, _||_, not}
-use mathlib.Core.Logic.{_⊎_, inl, inr, ⊎-elim}
+use mathlib.Core.Logic.{⊎-elim}
 use native.Mathlib.Omega.{arith}
 use native.Mathlib.Nat.{eq-or-lt-of-le}
 use lib.ListN.{length, getD, replicate, length-append, List·getD-append}
@@ -16,7 +16,7 @@ use Rattle.refusal.specs.declared.Outcome.{Outcome}
 use Rattle.circuit.specs.declared.Chain.{Chain}
 use Rattle.circuit.specs.declared.Step.{Step}
 use Rattle.circuit.specs.Record.{Form, recordAt, nextOf}
-use Rattle.circuit.specs.Chain.{countOf, member, stepBy, stepOf, soundBy, answered, refused, walk}
+use Rattle.circuit.specs.Chain.{countOf, member, stepBy, stepOf, soundBy, answered, walk}
 use Rattle.circuit.proofs.Steps.{step-next}
 use Rattle.circuit.proofs.Followed.{walk-ind}
 

@@ -1,17 +1,14 @@
 -- Records off the chain do not matter: two files of one length that agree on every record of the first one's chain have
 -- the same answer. Each step looks at reached records alone, and so does the reading along the chain.
-use Prim.Native.Nat.{ℕ, zero, suc, _+_, _-_, _<_}
-use mathlib.Core.Path.{_≡_, refl, ap, _∙_, sym}
+use Prim.Native.Nat.{ℕ, zero, suc, _+_, _-_}
+use mathlib.Core.Path.{_≡_, refl, ap, _∙_}
 use mathlib.Core.List.{List, [], _∷_, _++_}
-use mathlib.Core.Bool.{Bool, true, false, _||_}
 use lib.ListN.{length, getD, replicate}
-use lib.Dec.{eqb, leb}
-use Rattle.refusal.specs.declared.Refusal.{Refusal}
 use Rattle.circuit.specs.declared.Chain.{Chain}
 use Rattle.circuit.specs.declared.Step.{Step}
-use Rattle.circuit.specs.Record.{Form, recordAt, nextOf}
-use Rattle.circuit.specs.Chain.{countOf, lengthGood, headGood, kmOf, stepOf, byStep, pick, soundBy, ended, answered, refused, walk, chainOf}
-use Rattle.circuit.specs.Read.{numbersOf, circuitOf, readBy, readOf}
+use Rattle.circuit.specs.Record.{Form, recordAt}
+use Rattle.circuit.specs.Chain.{lengthGood, headGood, kmOf, stepOf, byStep, walk, chainOf}
+use Rattle.circuit.specs.Read.{numbersOf, circuitOf, readOf}
 use Rattle.circuit.proofs.Steps.{step-to, step-next}
 use Rattle.circuit.proofs.Followed.{walk-ind, by-pick}
 use Rattle.circuit_laws.specs.OnChain.{OnChain}

@@ -3,22 +3,20 @@
 use Prim.Native.Nat.{ℕ, zero, suc, _+_, _*_, _-_, _/_, _%_, _^_, _≤_, _<_}
 use mathlib.Core.Path.{_≡_, refl, ap, _∙_, sym}
 use mathlib.Core.List.{List, [], _∷_, _++_, append-assoc, append-nil}
-use mathlib.Core.Bool.{Bool, true, false, _&&_, _||_, not, or-false, or-assoc}
-use mathlib.Core.Logic.{_⊎_, inl, inr, ⊎-elim}
+use mathlib.Core.Bool.{Bool, true, false, _&&_, _||_, or-false, or-assoc}
+use mathlib.Core.Logic.{⊎-elim}
 use native.Mathlib.Omega.{arith}
 use native.Mathlib.Numerals.{add-one}
-use native.Mathlib.Nat.{eq-or-lt-of-le, add-sub-cancel-left}
-use lib.ListN.{length, getD, take, drop, replicate, length-append, length-drop, List·getD-append, take-append-drop}
-use lib.Seq.{drop-append-le, take-append-le, drop-at, take-at, take-all, getD-at, take-add, length-take-le, drop-length}
-use lib.Dec.{eqb, leb, ltb}
+use native.Mathlib.Nat.{eq-or-lt-of-le}
+use lib.ListN.{length, getD, take, drop, replicate, length-append, length-drop, take-append-drop}
+use lib.Seq.{drop-append-le, take-append-le, drop-at, take-at, take-all, getD-at, take-add, length-take-le}
+use lib.Dec.{eqb, leb}
 use borrow.Author.Tests.{eq-eqb, ne-eqb, le-leb, lt-leb, lt-ltb, leb-true, leb-false}
-use Rattle.refusal.specs.declared.Refusal.{Refusal}
 use Rattle.refusal.specs.declared.Outcome.{Outcome}
-use Rattle.circuit.specs.declared.Chain.{Chain}
 use Rattle.circuit.specs.declared.Circuit.{Circuit}
 use Rattle.circuit.specs.declared.ReadAnswer.{ReadAnswer}
 use Rattle.circuit.specs.declared.Step.{Step}
-use Rattle.circuit.specs.Record.{Form, old, recordAt, halfAt, wordAt, kindOf, nextOf, wordsOf, allZero, fits}
+use Rattle.circuit.specs.Record.{old, recordAt, halfAt, wordAt, nextOf, wordsOf, allZero}
 use Rattle.circuit.specs.Chain.{headGood, kmOf, shapeOf, member, stepOf, soundBy, answered, padded, walk, chainOf}
 use Rattle.circuit.specs.Read.{numbersOf, circuitOf, readOf}
 use Rattle.circuit.proofs.Lists.{both, zeros}
@@ -28,7 +26,7 @@ use Rattle.circuit_write.specs.declared.WriteAnswer.{WriteAnswer}
 use Rattle.circuit_write.specs.Written.{goodOf, answerBy, answerOf, leftOf, bytesOf, headOf, recordOf, pointAt, twelveAt, decileRecords, recordsOf, nextBy, nextIn, entryBy, entryOf, entriesOf, fileOf}
 use Rattle.circuit_write.proofs.Cells.{length-entry, length-entries, records-most}
 use Rattle.circuit_laws.specs.Forms.{Each, Whole, upTo}
-use Rattle.circuit_laws.proofs.Back.{half-back, word-back, next-back, record-words, record-fits, all-zeros}
+use Rattle.circuit_laws.proofs.Back.{half-back, word-back, next-back, record-words, record-fits}
 
 pub each-take : (n k : ℕ) (l : List ℕ) → Each n l → Each n (take k l)
 each-take n zero l p = tt

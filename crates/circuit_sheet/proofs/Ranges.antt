@@ -4,7 +4,7 @@ use mathlib.Core.Path.{_≡_, refl, sym, ap, _∙_}
 use mathlib.Core.List.{List, map}
 use Prim.Native.Nat.{ℕ, zero, suc, _+_, _-_, _*_, _≤_, _<_}
 use native.Mathlib.Omega.{arith}
-use borrow.Author.Tests.{le-leb, leb-true, leb-false, lt-ltb, eq-eqb, eqb-false}
+use borrow.Author.Tests.{le-leb, leb-false, lt-ltb, eq-eqb, eqb-false}
 use lib.Dec.{leb, eqb}
 use lib.IntN.{pos}
 use lib.ListN.{getD, length, length-map, replicate, take}

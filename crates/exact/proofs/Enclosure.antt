@@ -1,11 +1,11 @@
 -- The enclosures of sine and cosine up to 4 are nested and narrow: from the third term on the terms fall, each pair to less than half of the pair before.
-use mathlib.Core.Path.{_≡_, refl, sym, ap, _∙_, subst}
+use mathlib.Core.Path.{_≡_, sym, ap, _∙_, subst}
 use Prim.Native.Nat.{ℕ, zero, suc, _+_, _*_, _^_, _≤_, _<_}
 use native.Mathlib.Nat.{le-trans, le-of-eq, le-refl, le-dest, lt-of-lt-of-le, add-zero, add-suc, mul-pos, mul-le-mul, mul-le-mul-left, mul-le-mul-right, le-of-mul-le-mul-right, pow-suc}
 use native.Mathlib.Omega.{arith}
 use lib.Dec.{lit<, lit≤}
 use lib.Pow.{pow-pos}
-use Rattle.series.specs.Series.{Sums, grow, sums, Close, Ksin, Kcos}
+use Rattle.series.specs.Series.{Sums, sums, Close, Ksin, Kcos}
 use Rattle.series.proofs.Alternating.{Low, High, stay-low, stay-high}
 use Rattle.series.proofs.Cases.{split}
 use Rattle.exact.specs.Enclosure.{Below, Above, Nested, Narrow, Less}

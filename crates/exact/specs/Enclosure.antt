@@ -1,6 +1,6 @@
 -- The literal form for sine and cosine: two fractions, a partial sum and the partial sum with the next term, that enclose every later partial sum. Definitions only.
 use Prim.Native.Nat.{ℕ, _+_, _*_, _≤_, _<_}
-use mathlib.Core.Bool.{Bool, true, false, cond, Bool·beq}
+use mathlib.Core.Bool.{cond, Bool·beq}
 use lib.Ieee.{Float, nan, inf, fin, up, down}
 use Rattle.series.specs.Series.{Sums, sums, Ksin, Kcos}
 use Rattle.exact.specs.Unit.{steps, ulp, unity}

@@ -1,7 +1,7 @@
 -- What it is for an f32 r to be less than one unit in the last place from the exact value, for each of the six functions. Definitions only.
 -- No real numbers are here: the exact value is spoken of by the partial sums of its power series (crate `series`), which have whole numerators and denominators.
 -- Each statement says "at most 15/16 of an ulp" of partial sums, or of an argument, so that less than one ulp follows for the limit.
-use Prim.Native.Nat.{ℕ, zero, suc, _+_, _-_, _*_, _^_, _≤_, _<_}
+use Prim.Native.Nat.{ℕ, zero, suc, _+_, _*_, _^_, _≤_, _<_}
 use mathlib.Core.Path.{_≡_}
 use mathlib.Core.Logic.{_⊎_}
 use mathlib.Core.Bool.{Bool, true, false, cond, Bool·beq}

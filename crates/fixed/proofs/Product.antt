@@ -1,9 +1,8 @@
 -- The upper half of a product by 32-bit halves: (p B + q) (s B + t) is p s B² + (p t + q s) B + q t, and only the carry of the column B is left to add.
-use mathlib.Core.Path.{_≡_, sym, ap, ap₂, _∙_, subst}
+use mathlib.Core.Path.{_≡_, sym, ap, ap₂, _∙_}
 use Prim.Native.Nat.{ℕ, _+_, _-_, _*_, _/_, _%_, _^_, _≤_, _<_}
 use native.Mathlib.Nat.{mul-le-mul, le-of-lt, lt-of-le-of-lt, mul-le-mul-left, mul-lt-mul-of-pos-right, div-lt-iff-lt-mul}
 use native.Mathlib.Omega.{arith}
-use lib.Dec.{lit≤}
 use lib.Pow.{pow-pos, split}
 use mir.Syntax.{w64}
 use mir.Val.{Fits}

@@ -1,9 +1,9 @@
 -- A whole number rounded to 24 bits is at most half a unit of its last place away.
-use mathlib.Core.Path.{_≡_, refl, sym, ap, _∙_, subst}
-use Prim.Native.Nat.{ℕ, zero, suc, _+_, _-_, _*_, _/_, _%_, _^_, _≤_, _<_}
-use native.Mathlib.Nat.{le-trans, le-of-eq, le-refl, lt-of-not-le, not-le-of-lt, lt-of-le-of-lt, lt-of-lt-of-le, mul-assoc, mul-comm, mul-le-mul-left, mul-le-mul-right, mul-lt-mul-of-pos-right, add-sub-of-le, sub-add-cancel}
+use mathlib.Core.Path.{_≡_, sym, ap, _∙_, subst}
+use Prim.Native.Nat.{ℕ, suc, _+_, _-_, _*_, _/_, _^_, _≤_, _<_}
+use native.Mathlib.Nat.{le-trans, le-of-eq, lt-of-not-le, not-le-of-lt, lt-of-le-of-lt, lt-of-lt-of-le, mul-le-mul-right, mul-lt-mul-of-pos-right}
 use native.Mathlib.Omega.{arith}
-use lib.Dec.{lit<, lit≤}
+use lib.Dec.{lit<}
 use lib.Pow.{pow-pos, pow-mono, pow-add}
 use lib.Count.{leadingZeros, leading-top}
 use Rattle.fixed.specs.Fixed.{mant, pattern}

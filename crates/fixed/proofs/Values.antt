@@ -1,15 +1,13 @@
 -- What a bit pattern stands for, and the unit of the last place of a value: the exponent field moves the significand up, and a significand of 2 ^ 24 carries into it.
 use mathlib.Core.Path.{_≡_, refl, sym, ap, ap₂, _∙_, subst, subst₂}
-use mathlib.Core.Bool.{Bool, true, false, not, cond}
-use Prim.Native.Nat.{ℕ, zero, suc, _+_, _-_, _*_, _/_, _%_, _^_, _≤_, _<_}
-use native.Mathlib.Nat.{le-trans, le-of-eq, le-of-lt, lt-of-not-le, lt-of-le-of-lt, lt-of-lt-of-le, not-le-of-lt, mul-le-mul, mul-le-mul-right, mul-lt-mul-of-pos-right, mul-div-cancel}
+use mathlib.Core.Bool.{Bool, cond}
+use Prim.Native.Nat.{ℕ, suc, _+_, _-_, _*_, _/_, _%_, _^_, _≤_, _<_}
+use native.Mathlib.Nat.{le-trans, le-of-eq, le-of-lt, lt-of-not-le, lt-of-le-of-lt, lt-of-lt-of-le, not-le-of-lt, mul-le-mul, mul-le-mul-right, mul-lt-mul-of-pos-right}
 use native.Mathlib.Omega.{arith}
 use lib.Dec.{T, leb, eqb, not-T, eqb→eq, lit<, lit≤}
-use lib.IntN.{ℤ}
 use lib.Pow.{pow-pos, pow-mono, pow-add}
-use lib.Ieee.{Float, nan, inf, fin, binary32, up, down, size, odd, ofFields, ofBits}
+use lib.Ieee.{Float, nan, inf, binary32, up, size, odd, ofFields, ofBits}
 use lib.Ieee.Digits.{size-lt, size-le}
-use lib.Ieee.Fits.{down-pos}
 use lib.Ieee.Bits.{cond-no}
 use lib.Ieee.Exact.{HasValue, odd-sign}
 use borrow.Author.Tests.{le-leb, lt-leb}

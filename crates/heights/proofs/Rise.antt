@@ -1,13 +1,13 @@
 -- The heights of the forty reads never fall in the walk's order. Each is ht * part + h0, with forty parts above 0 and at most 1 that rise in the one order and fall in the other (computed), and rounded products
 -- and sums keep the order, overflow and infinities included. A NaN among them makes all forty NaN.
-use mathlib.Core.Path.{_≡_, refl, sym, subst}
+use mathlib.Core.Path.{sym, subst}
 use mathlib.Core.Logic.{_⊎_, inl, inr}
-use mathlib.Core.Bool.{Bool, true, false, not, _&&_, _||_}
+use mathlib.Core.Bool.{Bool, true, false, not, _&&_}
 use Prim.Native.Nat.{ℕ, zero, suc, _<_}
 use native.Mathlib.Nat.{eq-or-lt-of-le, le-of-suc-le-suc, not-suc-le-zero}
 use native.Mathlib.Omega.{arith}
 use lib.Dec.{T}
-use lib.Ieee.{Float, nan, inf, fin, binary32, le, lt, fits, isNan, ofBits, add, sub, mul}
+use lib.Ieee.{Float, nan, inf, fin, binary32, le, fits, isNan, ofBits, add, sub, mul}
 use lib.Ieee.Fits.{and-l, and-r, add-fits}
 use lib.Ieee.Scale.{finite}
 use Rattle.scalar.specs.F32.{_-f_, _*f_, _≤f_, _≥f_}

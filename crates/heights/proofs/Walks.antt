@@ -1,32 +1,30 @@
 -- On every profile whose heights pass the rising test the forty readings of the walk are those of forty scans, and `gethp` so read is `gethpOf`: the heights never fall in the walk's order, so each read starts
 -- at or below the count of its height.
-use mathlib.Core.Path.{_≡_, refl, sym, ap, _∙_, subst}
-use mathlib.Core.Logic.{_⊎_, inl, inr}
-use mathlib.Core.Bool.{Bool, true, false, not, _&&_}
+use mathlib.Core.Path.{_≡_, refl, ap, _∙_, subst}
+use mathlib.Core.Logic.{inl, inr}
+use mathlib.Core.Bool.{Bool, true, false, _&&_}
 use mathlib.Core.List.{List}
 use Prim.Native.Nat.{ℕ, zero, suc, _+_, _≤_, _<_, zero-le}
 use native.Mathlib.Nat.{le-refl, eq-or-lt-of-le}
 use native.Mathlib.Omega.{arith}
 use lib.Dec.{T, eqb, ltb, eqb→eq, ltb→lt}
-use lib.Ieee.{Float, nan, binary32, fits, isNan}
+use lib.Ieee.{Float, binary32, fits}
 use lib.Ieee.Fits.{and-l, and-r, sub-fits}
-use lib.Ieee.Scale.{finite}
 use Rattle.scalar.specs.F32.{_+f_, _-f_, _*f_, _<f_, _≤f_, _≥f_}
 use Rattle.scalar.specs.Literals.{f0}
-use Rattle.order.specs.Units.{real}
 use Rattle.layers.specs.declared.IonoState.{IonoState}
 use Rattle.profile.specs.Rising.{risesFrom, risesOf}
 use Rattle.readings.specs.Scan.{at, readingOf, profileInterpolateOf}
 use Rattle.readings.specs.Cursor.{countOf}
 use Rattle.readings.specs.declared.Reading.{Reading}
 use Rattle.readings.specs.declared.Read.{Read}
-use Rattle.walk.specs.Walk.{Held, Rising, cursorBefore, walkRead, scannedRead, movesOf}
+use Rattle.walk.specs.Walk.{Held, Rising, cursorBefore, scannedRead, movesOf}
 use Rattle.walk.proofs.Walks.{reads-are-scans, cursor-after, moves-bound}
 use Rattle.heights.specs.Nodes.{xnpl, twdiv, wt, heightOf, heightAt, igAt, ibAt}
 use Rattle.heights.specs.Gethp.{cutOf, ysqOf, mupOf, hpOf, gethpBy, cursorBy, gethpOf, gethpScanOf}
-use Rattle.heights.specs.Walk.{readAt, cursorAfter, turnOf, ysqWalkOf, ysqReadBy, cursorReadBy, gethpReadOf}
+use Rattle.heights.specs.Walk.{readAt, cursorAfter, turnOf, ysqWalkOf, gethpReadOf}
 use Rattle.heights.specs.declared.Heights.{Heights}
-use Rattle.heights.proofs.Rise.{all, all-at, height-fits, reads-rise, reads-rise-finite, reads-orderly}
+use Rattle.heights.proofs.Rise.{all, all-at, height-fits, reads-orderly}
 
 -- ---- the rising test at each height
 rises-at : (htr : List Float) (n i j : ℕ) → T (risesFrom htr n i) → i ≤ j → j < i + n → T (at htr j <f at htr (j + 1))

@@ -1,7 +1,7 @@
 -- A whole number from 0 to 999 has a successor that fits an i32 and is an f32 exactly.
 use mathlib.Core.Path.{_≡_}
-use mathlib.Core.Bool.{Bool, true, false, _||_}
-use Prim.Native.Nat.{ℕ, _+_, _<_, _≤_}
+use mathlib.Core.Bool.{false}
+use Prim.Native.Nat.{ℕ, _+_}
 use native.Mathlib.Omega.{arith}
 use native.Mathlib.Nat.{le-trans, lt-trans}
 use lib.Dec.{T, le→leb, lit<, lit≤}

@@ -1,7 +1,7 @@
 -- What the rows of slot k, their loss factors and the layers' MUF lines read of a state: the critical frequencies, the slot's own numbers, the profile and `iedp`. Two states alike in these give the same.
 use mathlib.Core.Bool.{Bool, true, false}
 use mathlib.Core.List.{List}
-use mathlib.Core.Path.{_≡_, refl, sym, ap, _∙_}
+use mathlib.Core.Path.{_≡_, refl, ap, _∙_}
 use Prim.Native.Nat.{ℕ, _+_, _*_}
 use native.Mathlib.Nat.{add-zero}
 use lib.IntN.{ℤ, pos}
@@ -20,7 +20,7 @@ use Rattle.heights.specs.declared.Heights.{Heights}
 use Rattle.ionogram.specs.declared.Ionogram.{Ionogram}
 use Rattle.sounding.specs.Genion.{HTE, HPE, rowsOf, trueByProfile, virtualByParabola, virtualBy, made, rowsBy, fvertAt, allByProfile, rowsAt, genionBy, genionOf}
 use Rattle.sounding.proofs.Scans.{rows-agree}
-use Rattle.losses.specs.Alosfv.{eRows, lineAt, withoutF1, withF1, aboveBy, aboveOf, notBelowZeros, withAfac, alosfvOf}
+use Rattle.losses.specs.Alosfv.{eRows, lineAt, aboveBy, aboveOf, notBelowZeros, withAfac, alosfvOf}
 use Rattle.losses.specs.declared.Factors.{Factors}
 use Rattle.losses.specs.declared.Decay.{Decay}
 use Rattle.hops.specs.Geometry.{geometryOf}
@@ -31,7 +31,6 @@ use Rattle.layer_mufs.specs.declared.Tangents.{Tangents}
 use Rattle.layer_mufs.specs.declared.Pair.{Pair}
 use Rattle.layer_mufs.specs.declared.LineAnswer.{LineAnswer}
 use Rattle.muf.specs.Curmuf.{f1Then, f2Then, eThen, threeOf}
-use Rattle.muf.specs.declared.ThreeAnswer.{ThreeAnswer}
 
 pub record Alike (u v : IonoState) (k : ℕ) : Type 0 where
   pub fi-same : u .fi ≡ v .fi

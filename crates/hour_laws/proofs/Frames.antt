@@ -1,8 +1,7 @@
 -- One call on a later state t, where what it picks stands as it first did: its answer is the one on the first state s, and it leaves t, or t with its slot prepared.
 use mathlib.Core.Bool.{Bool, true, false, _&&_}
 use mathlib.Core.List.{List}
-use mathlib.Core.Logic.{_≢_}
-use mathlib.Core.Option.{Option, none, some, Option·none-ne-some}
+use mathlib.Core.Option.{Option, none, some}
 use mathlib.Core.Path.{_≡_, refl, sym, ap, _∙_, subst}
 use Prim.Native.Nat.{ℕ, _<_, _≤_}
 use native.Mathlib.Omega.{arith}
@@ -19,7 +18,6 @@ use Rattle.refusal.specs.declared.Outcome.{Outcome}
 use Rattle.layers.specs.State.{at}
 use Rattle.layers.specs.declared.IonoState.{IonoState}
 use Rattle.layers.specs.declared.LayerMuf.{LayerMuf}
-use Rattle.layers.specs.declared.EsParams.{EsParams}
 use Rattle.profile.specs.Lecden.{slotAt, lecdenOf}
 use Rattle.profile.specs.declared.Slot.{Slot}
 use Rattle.ionogram.specs.Fobby.{anglesInto, roomFor}
@@ -37,13 +35,11 @@ use Rattle.muf.specs.declared.EsStep.{EsStep}
 use Rattle.muf.specs.declared.Three.{Three}
 use Rattle.muf.specs.declared.ThreeAnswer.{ThreeAnswer}
 use Rattle.muf.specs.declared.MufHour.{MufHour}
-use Rattle.muf.specs.declared.MufAnswer.{MufAnswer}
 use Rattle.muf.specs.declared.Done.{Done}
 use Rattle.hour.specs.Sheet.{sheetBy, cellsBy, slotSheetOf, sheetCellsOf}
-use Rattle.hour.specs.declared.SlotSheet.{SlotSheet}
 use Rattle.muf_records.specs.Records.{recordAt, recordsDoneOf}
-use Rattle.hour_laws.specs.Calls.{EsRows, flat, records, mufOf, esAfter, Call, aMuf, aSheet, Answer, ofMuf, ofSheet, answerOf, afterOf, isAnswered, outcomeOf, answered, pickIf, pick}
-use Rattle.hour_laws.specs.Lists.{alone, onlyIf, SameProfile}
+use Rattle.hour_laws.specs.Calls.{EsRows, flat, records, mufOf, esAfter, Call, aMuf, aSheet, ofMuf, answerOf, afterOf, isAnswered, answered, pickIf, pick}
+use Rattle.hour_laws.specs.Lists.{SameProfile}
 use Rattle.hour_laws.proofs.Alike.{Alike, genion-same, alosfv-same, three-same}
 use Rattle.hour_laws.proofs.Prepared.{Common, common-self, lecden-alike, lecden-others, lecden-common}
 

@@ -2,15 +2,13 @@
 use mathlib.Core.Bool.{Bool, true, false}
 use mathlib.Core.List.{List, [], _∷_, map}
 use mathlib.Core.Option.{Option, none, some, Option·none-ne-some}
-use mathlib.Core.Path.{_≡_, refl, sym, ap, _∙_, subst}
-use Prim.Native.Nat.{ℕ, _<_}
+use mathlib.Core.Path.{_≡_, refl, ap, _∙_, subst}
+use Prim.Native.Nat.{ℕ}
 use borrow.Author.Tests.{eqb-true, eqb-false}
-use lib.Dec.{T, eqb, leb}
+use lib.Dec.{leb}
 use lib.IntN.{ℤ}
-use lib.Ieee.{Float}
 use Rattle.layers.specs.declared.IonoState.{IonoState}
 use Rattle.layers.specs.declared.LayerMuf.{LayerMuf}
-use Rattle.layers.specs.declared.StateAnswer.{StateAnswer}
 use Rattle.layers.specs.Ionset.{ionsetOf}
 use Rattle.profile.specs.Lecden.{slotAt, lecdenOf}
 use Rattle.heights.proofs.Whole.{forty-reads}
@@ -22,7 +20,7 @@ use Rattle.hour.specs.declared.SlotSheet.{SlotSheet}
 use Rattle.hour_laws.specs.Calls.{Call, aMuf, aSheet, Answer, ofSheet, answerOf, afterOf, answerScanOf, afterScanOf, answered, pick}
 use Rattle.hour_laws.specs.Lists.{runOf, answersOf, runScanOf, answersScanOf, readOf, Every, Together, Allowed, picks, orElse, own, laterOr, onlyIf, lastOf, alone, SameProfile, ReadsWell, ListOfCalls, ListsOfCalls}
 use Rattle.hour_laws.proofs.Prepared.{Common, common-self}
-use Rattle.hour_laws.proofs.Frames.{not-both, FreshFor, some-same, Stepped, one-step}
+use Rattle.hour_laws.proofs.Frames.{not-both, FreshFor, some-same, one-step}
 
 -- ---- who picks a slot
 

@@ -15,9 +15,8 @@ use Rattle.profile.specs.F1.{valleyOf, f1Of, reshapedOf}
 use Rattle.profile.specs.Grid.{heightsOf}
 use Rattle.profile.specs.Density.{densityOf}
 use Rattle.profile.specs.Rising.{risesOf}
-use Rattle.profile.specs.Kept.{SameBut, Kept}
+use Rattle.profile.specs.Kept.{Kept}
 use Rattle.profile.specs.declared.Slot.{Slot}
-use Rattle.profile.specs.declared.Tail.{Tail}
 use Rattle.profile.proofs.Keeps.{lecden-keeps, lecden-supplied}
 use Rattle.hour_laws.proofs.Alike.{Alike, yi0-same, yi1-same, yi2-same, hi0-same, hi1-same, hi2-same, fsec-same}
 

@@ -19,7 +19,6 @@ use Rattle.muf.specs.declared.MufHour.{MufHour}
 use Rattle.muf.specs.declared.Done.{Done}
 use Rattle.muf_records.specs.Records.{recordsDoneOf, recordsBy}
 use Rattle.hour.specs.Sheet.{slotSheetOf, sheetCellsOf, slotSheetScanOf, sheetCellsScanOf}
-use Rattle.hour.specs.declared.SlotSheet.{SlotSheet}
 
 -- ---- the Es rows lent to a circuit MUF: flat, four numbers a row, or records
 

@@ -3,7 +3,7 @@ use mathlib.Core.Path.{_≡_, refl}
 use mathlib.Core.Bool.{Bool, true, false, _&&_}
 use Prim.Native.Nat.{ℕ, _≤_, _<_}
 use native.Mathlib.Omega.{arith}
-use lib.Dec.{T, leb, leb→le}
+use lib.Dec.{leb, leb→le}
 use lib.IntN.{ℤ, pos}
 use lib.Ieee.{Float}
 use lib.Ieee.Fits.{and-l, and-r}

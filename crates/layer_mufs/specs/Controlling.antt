@@ -2,7 +2,6 @@
 use mathlib.Core.Bool.{Bool, true, false}
 use Prim.Native.Nat.{ℕ, _*_}
 use lib.Dec.{leb, eqb}
-use lib.Ieee.{Float}
 use Rattle.scalar.specs.F32.{_-f_, _≤f_, _<f_}
 use Rattle.scalar.specs.Literals.{f0, f0·01}
 use Rattle.scalar.specs.Scalar.{absOf}

@@ -5,7 +5,7 @@ use Prim.Native.Nat.{ℕ}
 use lib.IntN.{pos}
 use lib.Signed.{ltZ}
 use lib.Ieee.{Float}
-use Rattle.scalar.specs.F32.{_+f_, _-f_, _*f_, _/f_, _≤f_, _>f_}
+use Rattle.scalar.specs.F32.{_+f_, _-f_, _*f_, _≤f_, _>f_}
 use Rattle.scalar.specs.Literals.{f0, f0·01, f0·1, f0·9, f1, f1·1, f1·28, f2, f57·295779513, f104·25, f125·3}
 use Rattle.scalar.specs.Scalar.{maxOf, truncOf}
 use Rattle.scalar.specs.Root.{sqrtOf}

@@ -1,6 +1,6 @@
 -- At most five points are taken, and they make at most three slots.
 use mathlib.Core.Bool.{Bool, true, false, _&&_}
-use mathlib.Core.Path.{_≡_, _∙_, sym}
+use mathlib.Core.Path.{_≡_}
 use Prim.Native.Nat.{ℕ, _≤_}
 use lib.Dec.{leb, lit≤}
 use borrow.Author.Tests.{leb-true}

@@ -3,7 +3,7 @@ use mathlib.Core.Bool.{Bool, true, false}
 use mathlib.Core.List.{List}
 use Prim.Native.Nat.{ℕ, zero, suc, _+_, _*_}
 use lib.Dec.{leb}
-use lib.ListN.{getD, set, replicate}
+use lib.ListN.{getD, set}
 use lib.IntN.{pos}
 use lib.Ieee.{Float, nan}
 use Rattle.scalar.specs.F32.{_-f_, _*f_, _/f_, _<f_, _≤f_, negf}

@@ -10,7 +10,7 @@ use lib.Dec.{ltb}
 use lib.ListN.{length}
 use lib.Ieee.{Float, ofBits, sub, add, neg, le, round}
 use borrow.Author.Tests.{ltb-false}
-use Rattle.scalar.specs.F32.{_+f_, _-f_, _*f_, _>f_, _≥f_, _≤f_}
+use Rattle.scalar.specs.F32.{_-f_, _*f_, _>f_, _≥f_, _≤f_}
 use Rattle.scalar.specs.Literals.{f0, f1000}
 use Rattle.hops.specs.Geometry.{hopsOf}
 use Rattle.hops.specs.declared.Hops.{Hops}
@@ -20,7 +20,7 @@ use Rattle.layer_mufs.specs.Controlling.{controllingOf}
 use Rattle.profile.specs.Lecden.{slotAt, lecdenOf}
 use Rattle.profile.specs.declared.Slot.{Slot}
 use Rattle.layer_mufs.specs.declared.Circuit.{Circuit}
-use Rattle.muf.specs.Sporadic.{rayOf, takenBy, takenOf, hopBy, rowBy, esRowOf, startOf, nextBy, esFrom, esLineBy, esLineOf, esFoundOf, rowAt}
+use Rattle.muf.specs.Sporadic.{rayOf, takenBy, takenOf, hopBy, rowBy, esRowOf, startOf, nextBy, esFrom, esLineBy, esLineOf, rowAt}
 use Rattle.muf.specs.Curmuf.{esBy, threeBy, threeOf, workedOf, doneBy, doneOf, inDomain, listsReach, refusedDone, rowsBy, takenRows, rowsOf, flatOf}
 use Rattle.muf.specs.declared.EsRow.{EsRow}
 use Rattle.muf.specs.declared.EsRay.{EsRay}

@@ -1,8 +1,8 @@
 -- The comparisons of the values that a format holds, chained: a passed test says by itself that neither side is a NaN.
-use mathlib.Core.Path.{_≡_, refl, sym, ap, _∙_, subst}
-use mathlib.Core.Bool.{Bool, true, false, not}
+use mathlib.Core.Path.{subst}
+use mathlib.Core.Bool.{Bool, not}
 use native.Mathlib.Nat.{le-trans, le-of-lt, lt-of-lt-of-le, lt-of-le-of-lt, not-le-of-lt}
-use lib.Dec.{T, leb, leb→le, le→leb, nleb→lt, not-T}
+use lib.Dec.{T, nleb→lt}
 use lib.Ieee.{Float, Format, lt, le, fits}
 use Rattle.order.specs.Units.{real, key}
 use Rattle.order.proofs.Keys.{le-key}

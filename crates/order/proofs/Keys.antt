@@ -1,19 +1,17 @@
 -- The order of floats is the order of their keys.
 use mathlib.Core.Path.{_≡_, refl, sym, ap, _∙_, subst}
 use mathlib.Core.Logic.{_⊎_, inl, inr}
-use Prim.Native.Nat.{ℕ, zero, suc, _+_, _-_, _*_, _/_, _%_, _^_, _≤_, _<_, zero-le, min}
-use native.Mathlib.Nat.{le-trans, le-of-eq, le-antisymm, lt-of-lt-of-le, lt-of-le-of-lt, lt-irrefl, lt-of-not-le, not-le-of-lt, zero-mul, mul-comm, mul-assoc, mul-right-comm, mul-pos, mul-le-mul-right, mul-lt-mul-of-pos-right, le-of-mul-le-mul-right, lt-of-mul-lt-mul-right, eq-of-mul-eq-mul-right, mul-div-cancel, mul-one, one-mul, le-of-suc-le-suc, le-of-lt, le-refl, eq-or-lt-of-le}
+use Prim.Native.Nat.{ℕ, zero, suc, _+_, _-_, _*_, _/_, _%_, _^_, _≤_, _<_, zero-le}
+use native.Mathlib.Nat.{le-trans, le-of-eq, lt-of-lt-of-le, lt-of-le-of-lt, lt-irrefl, lt-of-not-le, zero-mul, mul-comm, mul-assoc, mul-right-comm, mul-pos, mul-le-mul-right, mul-lt-mul-of-pos-right, lt-of-mul-lt-mul-right, eq-of-mul-eq-mul-right, mul-div-cancel, mul-one, one-mul, le-of-suc-le-suc, le-of-lt, le-refl, eq-or-lt-of-le}
 use native.Mathlib.Omega.{arith}
-use mathlib.Core.Bool.{Bool, true, false, not, _&&_, _||_, Bool·beq, cond}
+use mathlib.Core.Bool.{Bool, true, false, not, _&&_, _||_, Bool·beq}
 use lib.IntN.{ℤ, pos, negsuc}
-use lib.Dec.{T, leb, ltb, eqb, leb→le, le→leb, ltb→lt, lt→ltb, eqb→eq, eqb-refl, nltb→le}
+use lib.Dec.{T, leb, ltb, eqb, leb→le, le→leb, ltb→lt, lt→ltb, eqb→eq, eqb-refl}
 use lib.Pow.{pow-add, pow-pos, pow-lt}
-use lib.Ieee.{Float, nan, inf, fin, Format, prec, emax, low, up, down, below, level, lt, eq, le, fits, odd, units, round}
-use lib.Ieee.Fits.{up-pos, down-pos, and-l, and-r, and-i, eq→eqb, round-is}
-use lib.Ieee.Scale.{grid, overflow, round-same, finite}
-use lib.Ieee.Order.{drop, kept, round-mono}
-use lib.Ieee.Exact.{HasValue, odd-sign, round-exact}
-use Rattle.order.specs.Units.{real, keyOf, sgn, mag, key, rounded}
+use lib.Ieee.{Float, nan, inf, fin, Format, prec, emax, low, up, down, below, level, lt, eq, le, fits}
+use lib.Ieee.Fits.{up-pos, down-pos, and-l, and-r, and-i, eq→eqb}
+use lib.Ieee.Scale.{overflow}
+use Rattle.order.specs.Units.{real, keyOf, mag, key}
 
 pub same-test : (a b : Bool) → (T a → T b) → (T b → T a) → a ≡ b
 same-test true true g h = refl

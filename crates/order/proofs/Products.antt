@@ -1,23 +1,22 @@
 -- `add` and `mul` keep the order: for every format, with overflow, underflow and infinite operands.
-use mathlib.Core.Path.{_≡_, refl, sym, ap, _∙_, subst}
-use mathlib.Core.Logic.{_⊎_, inl, inr}
+use mathlib.Core.Path.{_≡_, sym, ap, _∙_, subst}
 use Prim.Native.Nat.{ℕ, zero, suc, _+_, _-_, _*_, _%_, _^_, _≤_, _<_, zero-le}
-use native.Mathlib.Nat.{le-trans, le-of-eq, le-of-lt, le-refl, lt-of-lt-of-le, lt-of-le-of-lt, lt-irrefl, zero-mul, mul-one, mul-comm, le-of-suc-le-suc, lt-of-not-le, eq-of-mul-eq-mul-right, one-mul, min-le-left, mul-assoc, mul-right-comm, mul-mul-mul-comm, mul-pos, mul-le-mul, mul-le-mul-right, mul-le-mul-left}
+use native.Mathlib.Nat.{le-trans, le-of-eq, le-refl, lt-of-le-of-lt, lt-irrefl, zero-mul, mul-one, mul-comm, eq-of-mul-eq-mul-right, min-le-left, mul-assoc, mul-mul-mul-comm, mul-pos, mul-le-mul-left}
 use native.Mathlib.Omega.{arith}
-use mathlib.Core.Bool.{Bool, true, false, not, _&&_, _||_, Bool·beq, cond}
+use mathlib.Core.Bool.{Bool, true, false, _&&_, cond}
 use lib.IntN.{ℤ, pos, negsuc}
-use lib.Dec.{T, leb, ltb, eqb, leb→le, le→leb, nleb→lt, ltb→lt, lt→ltb, eqb→eq, eqb·suc-zero}
-use lib.Pow.{pow-pos, pow-lt, pow-add}
-use lib.Ieee.{Float, nan, inf, fin, Format, prec, emax, low, unlike, up, down, lt, eq, le, fits, round, add, mul}
-use lib.Ieee.Fits.{and-l, and-r, up-pos, down-pos, add-fits, mul-fits}
+use lib.Dec.{T, leb, ltb, eqb, leb→le, ltb→lt, eqb→eq, eqb·suc-zero}
+use lib.Pow.{pow-pos, pow-add}
+use lib.Ieee.{Float, nan, inf, fin, Format, prec, emax, low, unlike, up, down, lt, le, fits, round, add, mul}
+use lib.Ieee.Fits.{and-l, and-r, down-pos, add-fits, mul-fits}
 use lib.Ieee.Scale.{overflow, finite, grid, round-under}
 use lib.Ieee.Exact.{HasValue, round-exact}
 use lib.Ieee.Digits.{back}
 use lib.Ieee.Positive.{positive, num, den, le→cross}
-use Rattle.order.specs.Units.{real, keyOf, sgn, mag, key, rounded, total, nought}
-use Rattle.order.proofs.Keys.{same-test, lt-key, le-key, mag-of, mag-val, mag-lt, mag-le, mag-inf, overflow-pos, pow-le-back}
-use Rattle.order.proofs.Sums.{round-as, round-key, rounded-mono, rounded-same, rounded-le, total-mono, add-key, add-real, finite-real, R-zero}
-use Rattle.order.proofs.Tests.{nought-key, nought-fits, key-le, le→keys, keys→le, lt→keys, keys→lt}
+use Rattle.order.specs.Units.{real, keyOf, mag, key, rounded, nought}
+use Rattle.order.proofs.Keys.{mag-val, mag-lt, mag-inf, pow-le-back}
+use Rattle.order.proofs.Sums.{round-as, round-key, rounded-mono, total-mono, add-key, add-real, finite-real}
+use Rattle.order.proofs.Tests.{le→keys, keys→le}
 
 -- ---- the ends
 pub le-top : (x : Float) → T (real x) → T (le x (inf false))

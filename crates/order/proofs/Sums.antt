@@ -1,20 +1,19 @@
 -- Sums and differences by keys: `add` never falls as an operand rises, and a difference is below zero exactly where its first operand is below its second.
 use mathlib.Core.Path.{_≡_, refl, sym, ap, _∙_, subst}
 use mathlib.Core.Logic.{_⊎_, inl, inr}
-use Prim.Native.Nat.{ℕ, zero, suc, _+_, _-_, _*_, _/_, _%_, _^_, _≤_, _<_, zero-le, min}
-use native.Mathlib.Nat.{le-trans, le-of-eq, le-of-lt, le-refl, le-antisymm, lt-of-lt-of-le, lt-of-le-of-lt, lt-irrefl, lt-of-not-le, zero-mul, mul-one, one-mul, mul-comm, mul-assoc, mul-right-comm, add-mul, mul-pos, mul-sub, le-of-mul-le-mul-right, mul-le-mul-right, mul-lt-mul-of-pos-right, min-eq-left, min-eq-right}
+use Prim.Native.Nat.{ℕ, suc, _+_, _-_, _*_, _^_, _≤_, _<_, min}
+use native.Mathlib.Nat.{le-trans, le-of-eq, le-of-lt, le-refl, le-antisymm, lt-of-lt-of-le, lt-of-le-of-lt, mul-comm, add-mul, mul-pos, mul-sub, le-of-mul-le-mul-right, mul-le-mul-right, min-eq-left, min-eq-right}
 use native.Mathlib.Omega.{arith}
-use mathlib.Core.Bool.{Bool, true, false, not, _&&_, _||_, Bool·beq, cond}
-use lib.IntN.{ℤ, pos, negsuc}
-use lib.Dec.{T, leb, ltb, eqb, leb→le, le→leb, nleb→lt, ltb→lt, lt→ltb, eqb→eq, eqb-refl, nltb→le, lit<, lit≤}
-use lib.Pow.{pow-add, pow-pos, pow-lt, pow-mono}
-use lib.Ieee.{Float, nan, inf, fin, Format, binary32, binary64, prec, emax, low, up, down, lt, eq, le, fits, odd, units, round, neg, sum, add, sub}
-use lib.Ieee.Fits.{up-pos, down-pos, and-l, and-r, and-i, eq→eqb, round-is, round-fits, add-fits, sub-fits, neg-fits}
-use lib.Ieee.Scale.{grid, overflow, round-same, finite}
+use mathlib.Core.Bool.{Bool, true, false, not, _&&_, Bool·beq, cond}
+use lib.Dec.{T, leb, ltb, leb→le, le→leb, nleb→lt, ltb→lt, nltb→le, lit<}
+use lib.Pow.{pow-pos}
+use lib.Ieee.{Float, nan, inf, fin, Format, binary32, binary64, prec, low, up, down, fits, odd, units, round, neg, sum, add, sub}
+use lib.Ieee.Fits.{down-pos, round-is, round-fits, neg-fits}
+use lib.Ieee.Scale.{grid, overflow, finite}
 use lib.Ieee.Order.{drop, kept, round-mono}
 use lib.Ieee.Exact.{HasValue, odd-sign, round-exact}
-use Rattle.order.specs.Units.{real, keyOf, sgn, mag, key, rounded, total, nought}
-use Rattle.order.proofs.Keys.{same-test, lt-key, eq-key, le-key, mag-of, mag-val, mag-lt, mag-le, mag-inf, overflow-pos, cross, cross'}
+use Rattle.order.specs.Units.{real, keyOf, sgn, mag, key, rounded, total}
+use Rattle.order.proofs.Keys.{le-key, mag-of, mag-val, mag-le, mag-inf, overflow-pos, cross, cross'}
 
 -- ---- what `round` gives
 pub sized : (f : Format) (x : Float) (s : Bool) (u : ℕ) → HasValue x s u (2 ^ low f) → (mag f x ≡ u) × (sgn x ≡ s) × T (real x)

@@ -1,18 +1,17 @@
 -- A difference against zero is a comparison of its operands, for every two values that the format holds, infinities and NaN included where the statement does not except them. `add` keeps the order.
-use mathlib.Core.Path.{_≡_, refl, sym, ap, _∙_, subst}
-use mathlib.Core.Logic.{_⊎_, inl, inr}
-use Prim.Native.Nat.{ℕ, zero, suc, _+_, _-_, _*_, _^_, _≤_, _<_, zero-le}
-use native.Mathlib.Nat.{le-trans, le-of-eq, le-of-lt, le-refl, lt-of-lt-of-le, lt-of-le-of-lt, lt-irrefl, lt-of-not-le, not-le-of-lt, zero-mul}
+use mathlib.Core.Path.{_≡_, refl, sym, _∙_, subst}
+use Prim.Native.Nat.{ℕ, _+_, _-_, _^_, _≤_, _<_}
+use native.Mathlib.Nat.{le-of-eq, lt-of-not-le, not-le-of-lt, zero-mul}
 use native.Mathlib.Omega.{arith}
-use mathlib.Core.Bool.{Bool, true, false, not, _&&_, _||_, Bool·beq, cond}
-use lib.IntN.{ℤ, pos, negsuc}
+use mathlib.Core.Bool.{Bool, true, false, not, _&&_, Bool·beq}
+use lib.IntN.{pos}
 use lib.Dec.{T, leb, ltb, eqb, leb→le, le→leb, nleb→lt, ltb→lt, lt→ltb, eqb→eq}
-use lib.Ieee.{Float, nan, inf, fin, Format, binary32, binary64, low, up, down, lt, eq, le, fits, neg, add, sub, ofBits}
-use lib.Ieee.Fits.{eq→eqb, add-fits, sub-fits}
+use lib.Ieee.{Float, nan, inf, fin, Format, binary32, low, lt, eq, le, fits, sub, ofBits}
+use lib.Ieee.Fits.{eq→eqb, sub-fits}
 use lib.Ieee.Scale.{overflow, finite}
-use Rattle.order.specs.Units.{real, keyOf, sgn, mag, key, total, nought}
-use Rattle.order.proofs.Keys.{same-test, lt-key, eq-key, le-key, mag-of, mag-le, mag-inf, overflow-pos}
-use Rattle.order.proofs.Sums.{total-mono, total-below, total-above, total-from, total-upto, add-key, sub-key, add-real, sub-real, finite-real}
+use Rattle.order.specs.Units.{real, keyOf, sgn, mag, key, nought}
+use Rattle.order.proofs.Keys.{same-test, lt-key, eq-key, le-key, mag-of, mag-le}
+use Rattle.order.proofs.Sums.{total-below, total-above, total-from, total-upto, sub-key, sub-real, finite-real}
 
 -- ---- zero
 pub nought-is : ofBits binary32 0 ≡ nought

@@ -4,11 +4,10 @@ use mathlib.Core.List.{List, [], _∷_}
 use Prim.Native.Nat.{ℕ}
 use lib.Dec.{ltb}
 use lib.ListN.{length, set}
-use lib.Ieee.{Float, binary32, ofBits}
+use lib.Ieee.{binary32, ofBits}
 use Rattle.port_state.specs.Words.{floatsOf, floatsInto}
 use Rattle.port_state.specs.Ports.{Ported}
 use Rattle.port_state.specs.State.{stateOf}
-use Rattle.layers.specs.declared.IonoState.{IonoState}
 use Rattle.readings.specs.Scan.{kindOf, valueOf, readingOf}
 use Rattle.readings.specs.declared.Reading.{Reading}
 use Rattle.heights.specs.Gethp.{gethpOf, gethpScanOf}

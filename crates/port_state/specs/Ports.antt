@@ -1,6 +1,6 @@
 -- The port's calls on words: the number answered, 0 or the refusal's, and the words afterwards. Lengths are checked first; a refused call leaves every word.
 use mathlib.Core.Bool.{Bool, true, false, _&&_}
-use mathlib.Core.List.{List, []}
+use mathlib.Core.List.{List}
 use Prim.Native.Nat.{ℕ, zero, suc, _+_, _*_, _/_, _%_}
 use lib.Dec.{leb, eqb}
 use lib.ListN.{length, replicate, set}

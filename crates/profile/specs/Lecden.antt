@@ -4,7 +4,6 @@ use mathlib.Core.List.{map}
 use Prim.Native.Nat.{ℕ, _+_, _*_}
 use lib.Dec.{ltb}
 use lib.ListN.{set}
-use lib.Ieee.{Float}
 use Rattle.scalar.specs.F32.{_-f_, _*f_, _/f_, negf}
 use Rattle.scalar.specs.Literals.{f0·85, f1, f2, f70}
 use Rattle.scalar.specs.Scalar.{maxOf}

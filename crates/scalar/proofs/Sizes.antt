@@ -7,7 +7,7 @@ use native.Mathlib.Nat.{le-trans, le-of-eq, le-of-lt, lt-of-le-of-lt, lt-of-lt-o
 use native.Mathlib.Omega.{arith}
 use lib.Dec.{T, eqb, ltb, leb, eqb→eq}
 use lib.Pow.{pow-add, pow-pos, pow-lt, pow-mono}
-use lib.Ieee.{Float, nan, inf, fin, binary64, up, down, size, units, odd, round, neg, sum, add, sub, mul, ofInt, ofFields, ofBits, isNan}
+use lib.Ieee.{Float, nan, inf, fin, binary64, up, down, size, odd, round, neg, sum, add, sub, mul, ofInt, ofFields, ofBits, isNan}
 use lib.Ieee.Digits.{size-reaches}
 use lib.Ieee.Fits.{down-pos, round-is, nearest-le}
 use lib.Ieee.Bits.{cond-no}

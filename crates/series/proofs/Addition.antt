@@ -1,11 +1,11 @@
 -- e ^ (x + y) = e ^ x * e ^ y, as inequalities of partial sums: the terms on one diagonal of the product come to one term of the sum's series, by the binomial theorem.
-use mathlib.Core.Path.{_≡_, refl, sym, ap, ap₂, _∙_, subst, fun-ext}
-use Prim.Native.Nat.{ℕ, zero, suc, _+_, _-_, _*_, _/_, _%_, _^_, _≤_, _<_}
-use native.Mathlib.Nat.{le-trans, le-of-eq, le-refl, add-le-add, zero-add, add-zero, add-suc, suc-add, one-mul, mul-one, mul-zero, mul-assoc, mul-comm, mul-left-comm, mul-right-comm, mul-add, add-mul, add-assoc, add-comm, add-left-comm, mul-le-mul, mul-le-mul-left, mul-le-mul-right, mul-pos, le-of-mul-le-mul-right, eq-of-mul-eq-mul-right, pow-suc, pow-succ', pow-zero}
+use mathlib.Core.Path.{_≡_, refl, sym, ap, ap₂, _∙_, fun-ext}
+use Prim.Native.Nat.{ℕ, zero, suc, _+_, _-_, _*_, _^_, _≤_, _<_}
+use native.Mathlib.Nat.{le-trans, le-of-eq, le-refl, add-zero, add-suc, mul-one, mul-assoc, mul-comm, mul-left-comm, mul-le-mul-right, mul-pos, le-of-mul-le-mul-right, eq-of-mul-eq-mul-right, pow-suc, pow-zero}
 use native.Mathlib.Omega.{arith}
 use lib.Pow.{pow-add}
 use Rattle.series.specs.Series.{full, num, one}
-use Rattle.series.proofs.Cauchy.{fac, S, D, Tri, Sq, S-last, tri-sq, sq-tri, sq-product, W, W-const, W-ext, W-diag, D-zero, D-ext, D-scale}
+use Rattle.series.proofs.Cauchy.{fac, S, D, Tri, Sq, S-last, tri-sq, sq-tri, sq-product, W-const, W-ext, W-diag, D-zero, D-scale}
 
 -- what full d i lacks to full d (i + o)
 unfoldable pub co : (d i : ℕ) → ℕ → ℕ

@@ -1,7 +1,7 @@
 -- The alternating series: once the terms fall, all later partial sums stay between the last two.
-use mathlib.Core.Path.{_≡_, refl, sym, ap, _∙_, subst}
-use Prim.Native.Nat.{ℕ, zero, suc, _+_, _-_, _*_, _/_, _%_, _^_, _≤_, _<_}
-use native.Mathlib.Nat.{le-trans, le-of-eq, le-refl, le-dest, add-zero, add-suc, mul-le-mul-left, mul-le-mul-right}
+use mathlib.Core.Path.{sym, subst}
+use Prim.Native.Nat.{ℕ, zero, suc, _+_, _*_, _≤_}
+use native.Mathlib.Nat.{le-dest, add-zero, add-suc, mul-le-mul-right}
 use native.Mathlib.Omega.{arith}
 use Rattle.series.specs.Series.{Sums, grow, sums, Close, Limit}
 

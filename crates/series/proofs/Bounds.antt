@@ -1,7 +1,7 @@
 -- From enclosures of the four classes to bounds of sine and cosine: a lower bound of one partial sum serves for all later ones, since they grow.
-use mathlib.Core.Path.{_≡_, refl, sym, ap, ap₂, _∙_, subst, subst₂}
-use Prim.Native.Nat.{ℕ, zero, suc, _+_, _-_, _*_, _/_, _%_, _^_, _≤_, _<_}
-use native.Mathlib.Nat.{le-trans, le-of-eq, le-refl, le-dest, mul-one, mul-assoc, mul-comm, mul-left-comm, mul-le-mul, mul-le-mul-left, mul-le-mul-right, le-of-mul-le-mul-right, pow-suc, pow-zero}
+use mathlib.Core.Path.{_≡_, sym, ap, subst₂}
+use Prim.Native.Nat.{ℕ, _+_, _*_, _^_, _≤_, _<_}
+use native.Mathlib.Nat.{mul-le-mul-right, le-of-mul-le-mul-right}
 use native.Mathlib.Omega.{arith}
 use Rattle.series.specs.Series.{full, num, class, Later, SinLe, SinGe}
 use Rattle.series.proofs.Weighted.{low-later}

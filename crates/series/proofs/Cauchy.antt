@@ -1,8 +1,8 @@
 -- The product of two power series, cut off: the terms with i + j up to M are among those with i and j up to M, and those are among the terms with i + j up to 2 M.
 -- And the binomial theorem, in the form that a diagonal's terms a ^ i / i! * b ^ j / j! come to (a + b) ^ N / N!.
-use mathlib.Core.Path.{_≡_, refl, sym, ap, ap₂, _∙_, subst, fun-ext}
-use Prim.Native.Nat.{ℕ, zero, suc, _+_, _-_, _*_, _/_, _%_, _^_, _≤_, _<_}
-use native.Mathlib.Nat.{le-trans, le-of-eq, le-refl, add-le-add, zero-add, add-zero, add-suc, suc-add, zero-mul, one-mul, mul-one, mul-zero, mul-assoc, mul-comm, mul-left-comm, mul-add, add-mul, add-assoc, add-comm, add-left-comm, mul-le-mul, mul-le-mul-left, mul-le-mul-right, pow-suc, pow-succ', pow-zero, le-of-suc-le-suc}
+use mathlib.Core.Path.{_≡_, refl, ap, ap₂, _∙_}
+use Prim.Native.Nat.{ℕ, zero, suc, _+_, _*_, _^_, _≤_}
+use native.Mathlib.Nat.{le-trans, le-of-eq, le-refl, add-le-add, zero-add, suc-add, one-mul, mul-assoc, mul-comm, mul-left-comm, mul-add, add-mul, add-assoc, add-comm, add-left-comm, mul-le-mul-left, pow-suc, pow-succ', pow-zero, le-of-suc-le-suc}
 use native.Mathlib.Omega.{arith}
 
 ruleset ring = (mul-add, add-mul, mul-assoc, mul-comm, mul-left-comm, add-assoc, add-comm, add-left-comm)

@@ -1,7 +1,7 @@
 -- cos² + sin² = 1 for the bounds that enclosures give of sine and cosine: u and k above and below, within the enclosures' width e. What asin needs.
-use mathlib.Core.Path.{_≡_, refl, sym, ap, _∙_, subst}
+use mathlib.Core.Path.{_≡_, ap}
 use Prim.Native.Nat.{ℕ, suc, _+_, _*_, _≤_, _<_}
-use native.Mathlib.Nat.{le-trans, mul-le-mul, mul-le-mul-left, mul-le-mul-right}
+use native.Mathlib.Nat.{mul-le-mul, mul-le-mul-right}
 use native.Mathlib.Omega.{arith}
 use Rattle.series.proofs.Waves.{Enc4}
 use Rattle.series.proofs.Cases.{split}

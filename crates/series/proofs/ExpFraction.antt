@@ -1,12 +1,12 @@
 -- The exponential series sees only the value of its fraction, and grows with it.
-use mathlib.Core.Path.{_≡_, refl, sym, ap, ap₂, _∙_, subst, subst₂}
-use Prim.Native.Nat.{ℕ, zero, suc, _+_, _-_, _*_, _/_, _%_, _^_, _≤_, _<_}
-use native.Mathlib.Nat.{le-trans, le-of-eq, le-refl, add-le-add, mul-assoc, mul-comm, mul-left-comm, mul-le-mul-left, mul-le-mul-right, le-of-mul-le-mul-right, mul-pos, one-le-pow, pow-le-pow-left}
+use mathlib.Core.Path.{_≡_, refl, sym, ap, ap₂, _∙_}
+use Prim.Native.Nat.{ℕ, _*_, _^_, _≤_, _<_}
+use native.Mathlib.Nat.{le-trans, le-of-eq, mul-assoc, mul-comm, mul-le-mul-right, le-of-mul-le-mul-right, mul-pos, one-le-pow}
 use native.Mathlib.Omega.{arith}
 use Rattle.series.specs.Series.{full, num, one, Close}
 use Rattle.series.proofs.Fractions.{full-scale, num-scale, num-mono}
 use Rattle.series.proofs.Exponential.{Enc}
-use Rattle.series.proofs.WaveFraction.{close-up, close-down, wider}
+use Rattle.series.proofs.WaveFraction.{close-up, close-down}
 
 -- from n / d to an equal fraction n' / d'
 module _ (n d n' d' : ℕ) (D : 0 < d) (e : n' * d ≡ n * d') where

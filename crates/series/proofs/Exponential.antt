@@ -1,10 +1,9 @@
 -- Fractions that enclose e ^ x: x = n / d, and lo / m ≤ e ^ x ≤ hi / m. The lower one is below a partial sum, and the upper one above all of them.
-use mathlib.Core.Path.{_≡_, refl, sym, ap, ap₂, _∙_, subst}
-use mathlib.Core.Bool.{Bool, true, false, not, _&&_}
-use Prim.Native.Nat.{ℕ, zero, suc, _+_, _-_, _*_, _/_, _%_, _^_, _≤_, _<_}
-use native.Mathlib.Nat.{le-trans, le-of-eq, le-refl, le-dest, add-zero, add-suc, mul-one, one-mul, mul-assoc, mul-comm, mul-left-comm, mul-right-comm, mul-le-mul, mul-le-mul-left, mul-le-mul-right, mul-pos, le-of-mul-le-mul-right, pow-suc, pow-zero}
+use mathlib.Core.Bool.{Bool, _&&_}
+use Prim.Native.Nat.{ℕ, suc, _+_, _*_, _^_, _≤_, _<_}
+use native.Mathlib.Nat.{le-refl, mul-le-mul, mul-le-mul-left, mul-le-mul-right, mul-pos, le-of-mul-le-mul-right}
 use native.Mathlib.Omega.{arith}
-use lib.Dec.{T, leb, ltb, leb→le, ltb→lt, nltb→le}
+use lib.Dec.{T, leb, leb→le}
 use lib.Ieee.Fits.{and-l, and-r}
 use Rattle.series.specs.Series.{full, num, one}
 use Rattle.series.proofs.Addition.{full-pos, exp-under, exp-over}

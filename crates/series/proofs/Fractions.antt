@@ -1,5 +1,5 @@
 -- A power series sees only the value of its fraction: with n * q / (d * q) for n / d every partial sum has its numerator and denominator multiplied by one power of q.
-use mathlib.Core.Path.{_≡_, refl, sym, ap, ap₂, _∙_}
+use mathlib.Core.Path.{_≡_, sym, ap, ap₂, _∙_}
 use Prim.Native.Nat.{ℕ, zero, suc, _+_, _*_, _^_, _≤_}
 use native.Mathlib.Nat.{mul-one, pow-suc, pow-zero, le-refl, add-le-add, mul-le-mul-left, mul-le-mul-right, pow-le-pow-left}
 use native.Mathlib.Omega.{arith}

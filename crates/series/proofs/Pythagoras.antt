@@ -1,9 +1,8 @@
 -- cos² + sin² = 1, in the positive parts: e_0² + e_1² + e_2² + e_3² = 1 + 2 * (e_0 * e_2 + e_1 * e_3), as inequalities of enclosures.
-use mathlib.Core.Path.{_≡_, refl, sym, ap, ap₂, _∙_, subst, fun-ext}
-use Prim.Native.Nat.{ℕ, zero, suc, _+_, _-_, _*_, _/_, _%_, _^_, _≤_, _<_}
-use native.Mathlib.Nat.{le-trans, le-of-eq, le-refl, zero-add, add-zero, add-suc, suc-add, mul-zero, mul-assoc, mul-comm, mul-left-comm, mul-le-mul, mul-le-mul-left, mul-le-mul-right, mul-pos, eq-of-mul-eq-mul-right, le-of-mul-le-mul-right, add-comm}
+use mathlib.Core.Path.{_≡_, refl, sym, ap, ap₂, _∙_, fun-ext}
+use Prim.Native.Nat.{ℕ, zero, suc, _+_, _-_, _*_, _^_, _≤_, _<_}
+use native.Mathlib.Nat.{le-trans, le-of-eq, le-refl, suc-add, mul-assoc, mul-comm, mul-left-comm, mul-le-mul, mul-le-mul-left, mul-le-mul-right, mul-pos, eq-of-mul-eq-mul-right, le-of-mul-le-mul-right, add-comm}
 use native.Mathlib.Omega.{arith}
-use lib.Pow.{pow-add}
 use Rattle.series.specs.Series.{full, num, class, one}
 use Rattle.series.proofs.Cauchy.{fac, S, D, Tri, Sq, tri-sq, sq-tri, sq-product, W, W-ext, W-diag, D-scale}
 use Rattle.series.proofs.Addition.{co, row-num, full-pos, full-pow, at-P, on-diagonal}

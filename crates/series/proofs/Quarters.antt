@@ -1,12 +1,12 @@
 -- The exponential series cut into the four classes of exponents modulo 4, and the sum of two arguments: what lies behind the addition theorems of sine and cosine. All terms are positive.
 -- With e_r x the sum of the x ^ k / k! whose k leaves r: cos x = e_0 x - e_2 x, sin x = e_1 x - e_3 x.
-use mathlib.Core.Path.{_≡_, refl, sym, ap, ap₂, _∙_, subst, fun-ext}
-use Prim.Native.Nat.{ℕ, zero, suc, _+_, _-_, _*_, _/_, _%_, _^_, _≤_, _<_}
-use native.Mathlib.Nat.{le-trans, le-of-eq, le-refl, add-le-add, zero-add, suc-add, mul-assoc, mul-comm, mul-left-comm, mul-le-mul-right, eq-of-mul-eq-mul-right, le-of-mul-le-mul-right}
+use mathlib.Core.Path.{_≡_, refl, sym, ap, ap₂, _∙_, fun-ext}
+use Prim.Native.Nat.{ℕ, zero, suc, _+_, _-_, _*_, _≤_, _<_}
+use native.Mathlib.Nat.{le-trans, le-of-eq, le-refl, zero-add, suc-add, mul-assoc, mul-comm, mul-left-comm, mul-le-mul-right, eq-of-mul-eq-mul-right, le-of-mul-le-mul-right}
 use native.Mathlib.Omega.{arith}
 use Rattle.series.specs.Series.{full, num, class}
 use Rattle.series.proofs.Cauchy.{S, Tri, Sq, tri-sq, sq-tri, sq-product}
-use Rattle.series.proofs.Addition.{co, w, h, tri-num, row-num, full-pos}
+use Rattle.series.proofs.Addition.{co, h, tri-num, row-num, full-pos}
 
 abbrev Law : ℕ → ℕ → Type 0
 Law i j =

@@ -1,7 +1,7 @@
 -- Fractions that enclose e ^ -x: x = n / d, and lo / m ≤ e ^ -x ≤ hi / m, by the reciprocals of partial sums of e ^ x.
-use mathlib.Core.Path.{_≡_, refl, sym, ap, ap₂, _∙_, subst}
-use Prim.Native.Nat.{ℕ, zero, suc, _+_, _-_, _*_, _/_, _%_, _^_, _≤_, _<_}
-use native.Mathlib.Nat.{le-trans, le-of-eq, le-refl, le-dest, mul-assoc, mul-comm, mul-le-mul, mul-le-mul-left, mul-le-mul-right, mul-pos, le-of-mul-le-mul-right}
+use mathlib.Core.Path.{subst}
+use Prim.Native.Nat.{ℕ, _+_, _*_, _≤_, _<_}
+use native.Mathlib.Nat.{le-trans, le-refl, le-dest, mul-le-mul-left, mul-le-mul-right, le-of-mul-le-mul-right}
 use native.Mathlib.Omega.{arith}
 use Rattle.series.specs.Series.{full, num, one, Close}
 use Rattle.series.proofs.Addition.{full-pos, exp-under, exp-over}

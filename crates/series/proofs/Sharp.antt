@@ -1,5 +1,4 @@
 -- Every angle A / 2 ^ 56 up to 2 has its four classes enclosed within two units of 1 / M, as sharp as one likes: N terms are enough where M * 2 ^ N is at most N!.
-use mathlib.Core.Path.{_≡_}
 use Prim.Native.Nat.{ℕ, suc, _+_, _*_, _/_, _^_, _≤_, _<_}
 use native.Mathlib.Nat.{le-trans, div-mul-le-self, lt-div-mul-add, mul-le-mul-left, pow-le-pow-left}
 use native.Mathlib.Omega.{arith}

@@ -1,7 +1,7 @@
 -- Up to 2 the third class is at most two thirds of the first, term by term, since x² / ((k + 1) (k + 2)) is: so the sine is positive there, and at least a third of the first class.
 use mathlib.Core.Path.{_≡_, refl, sym, ap, _∙_, subst}
 use Prim.Native.Nat.{ℕ, zero, suc, _+_, _*_, _^_, _≤_, _<_}
-use native.Mathlib.Nat.{le-trans, le-refl, mul-le-mul, mul-le-mul-left, mul-le-mul-right, le-of-mul-le-mul-right, mul-pos, pow-suc, add-comm}
+use native.Mathlib.Nat.{le-trans, mul-le-mul, mul-le-mul-left, mul-le-mul-right, le-of-mul-le-mul-right, pow-suc}
 use native.Mathlib.Omega.{arith}
 use Rattle.series.specs.Series.{full, num, class}
 use Rattle.series.proofs.Addition.{full-pos}

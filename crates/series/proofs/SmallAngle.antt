@@ -1,7 +1,7 @@
 -- The four classes of the exponential series at a small angle w / B, in units of 1 / B: five terms and a bound of the rest.
-use mathlib.Core.Path.{_≡_, refl, sym, ap, ap₂, _∙_, subst}
-use Prim.Native.Nat.{ℕ, zero, suc, _+_, _-_, _*_, _/_, _%_, _^_, _≤_, _<_}
-use native.Mathlib.Nat.{le-trans, le-of-eq, le-of-lt, le-refl, mul-pos, div-mul-le-self, lt-div-mul-add, mul-le-mul, mul-le-mul-left, mul-le-mul-right, pow-suc, pow-zero, one-mul}
+use mathlib.Core.Path.{_≡_, ap, _∙_}
+use Prim.Native.Nat.{ℕ, zero, suc, _+_, _*_, _/_, _^_, _≤_, _<_}
+use native.Mathlib.Nat.{le-of-lt, le-refl, mul-pos, div-mul-le-self, lt-div-mul-add, mul-le-mul-right, pow-suc, pow-zero, one-mul}
 use native.Mathlib.Omega.{arith}
 use Rattle.series.specs.Series.{full, num, class}
 use Rattle.series.proofs.Weighted.{above}

@@ -1,7 +1,7 @@
 -- The series of sine and cosine see only the value of their fraction: over n * c / (d * c) each sum is multiplied by one weight.
-use mathlib.Core.Path.{_≡_, refl, sym, ap, ap₂, _∙_, subst, subst₂}
-use Prim.Native.Nat.{ℕ, zero, suc, _+_, _-_, _*_, _/_, _%_, _^_, _≤_, _<_}
-use native.Mathlib.Nat.{le-trans, le-of-eq, le-refl, mul-assoc, mul-comm, mul-left-comm, mul-le-mul-right, mul-pos, le-of-mul-le-mul-right}
+use mathlib.Core.Path.{_≡_, refl, ap, ap₂, _∙_, subst₂}
+use Prim.Native.Nat.{ℕ, zero, suc, _+_, _*_, _≤_, _<_}
+use native.Mathlib.Nat.{le-trans, mul-assoc, mul-comm, mul-left-comm, mul-le-mul-right, mul-pos, le-of-mul-le-mul-right}
 use native.Mathlib.Omega.{arith}
 use lib.Dec.{lit<}
 use Rattle.series.specs.Series.{Sums, grow, sums, Close, Limit, Kind, sine, cosine, top, bottom}

@@ -1,11 +1,7 @@
 -- Fractions that enclose the four classes e_0 .. e_3 of the exponential series at x = n / d, and so sine and cosine; `plus` adds two arguments by the addition theorems.
-use mathlib.Core.Path.{_≡_, refl, sym, ap, ap₂, _∙_, subst}
-use mathlib.Core.Bool.{Bool, true, false, not, _&&_}
-use Prim.Native.Nat.{ℕ, zero, suc, _+_, _-_, _*_, _/_, _%_, _^_, _≤_, _<_}
-use native.Mathlib.Nat.{le-trans, le-of-eq, le-refl, le-dest, add-zero, add-suc, mul-assoc, mul-comm, mul-left-comm, mul-le-mul, mul-le-mul-left, mul-le-mul-right, mul-pos, le-of-mul-le-mul-right, pow-suc, add-le-add}
+use Prim.Native.Nat.{ℕ, _+_, _*_, _≤_, _<_}
+use native.Mathlib.Nat.{mul-le-mul, mul-le-mul-left, mul-le-mul-right, mul-pos, le-of-mul-le-mul-right}
 use native.Mathlib.Omega.{arith}
-use lib.Dec.{T, leb, leb→le}
-use lib.Ieee.Fits.{and-l, and-r}
 use Rattle.series.specs.Series.{full, num, class}
 use Rattle.series.proofs.Addition.{full-pos}
 use Rattle.series.proofs.Quarters.{under-0, under-1, under-2, under-3, over-0, over-1, over-2, over-3}

@@ -1,7 +1,7 @@
 -- The power series of sine and cosine, as fractions of whole numbers. Definitions only.
 -- x is n / d. The terms are a / b, a * n² / (b * d² * K 0), and so on: term k + 1 is term k times n² / (d² * K k).
 -- For the sine a / b = n / d and K k = (2 k + 2) * (2 k + 3); for the cosine a / b = 1 / 1 and K k = (2 k + 1) * (2 k + 2).
-use Prim.Native.Nat.{ℕ, zero, suc, _+_, _*_, _^_, _≤_, _<_}
+use Prim.Native.Nat.{ℕ, zero, suc, _+_, _*_, _^_, _≤_}
 
 -- what j pairs of terms come to, over the one denominator `den`: the terms 0, 2, .., 2 j - 2 are added (`plus`), the terms 1, 3, .., 2 j - 1 are taken off (`minus`).
 -- next / den is the term 2 j, the first that is left out.

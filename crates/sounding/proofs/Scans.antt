@@ -10,7 +10,7 @@ use Rattle.layers.specs.State.{at}
 use Rattle.layers.specs.declared.IonoState.{IonoState}
 use Rattle.heights.specs.Gethp.{gethpOf, gethpScanOf}
 use Rattle.heights.proofs.Whole.{scans-same}
-use Rattle.sounding.specs.Genion.{rowsOf, virtualBy, made, rowsBy, allByProfile, rowsAt, fvertAt, genionBy, genionOf, genionScanOf}
+use Rattle.sounding.specs.Genion.{rowsOf, virtualBy, rowsBy, allByProfile, rowsAt, fvertAt, genionBy, genionOf, genionScanOf}
 
 -- rows by two functions that agree at every frequency
 pub rows-agree : (row other : Float → Float) → ((f : Float) → row f ≡ other f) → (fv : List Float) (first : ℕ) (out : List Float) (n : ℕ) → rowsOf row fv first out n ≡ rowsOf other fv first out n

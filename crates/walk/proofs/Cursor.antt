@@ -1,17 +1,14 @@
 -- The cursor on a rising profile: where it stops, that it may start anywhere below, and that the count is where it stops.
-use mathlib.Core.Path.{_≡_, refl, sym, ap, _∙_, subst}
-use mathlib.Core.Logic.{_⊎_, inl, inr}
-use mathlib.Core.Bool.{Bool, true, false, not, _&&_, _||_}
+use mathlib.Core.Path.{_≡_, refl, ap, _∙_, subst}
+use mathlib.Core.Logic.{inl, inr}
+use mathlib.Core.Bool.{Bool, true, false, not, _||_}
 use mathlib.Core.List.{List}
-use Prim.Native.Nat.{ℕ, zero, suc, _+_, _-_, _≤_, _<_, zero-le}
-use native.Mathlib.Nat.{le-trans, le-of-eq, le-refl, le-antisymm, eq-or-lt-of-le, lt-irrefl, not-suc-le-zero}
+use Prim.Native.Nat.{ℕ, zero, suc, _+_, _≤_, _<_, zero-le}
+use native.Mathlib.Nat.{le-trans, le-of-eq, le-refl, le-antisymm, eq-or-lt-of-le, lt-irrefl}
 use native.Mathlib.Omega.{arith}
 use lib.Dec.{T, not-T, T-not}
 use lib.Ieee.{Float, nan, inf, fin, binary32, lt, le, fits, isNan}
-use lib.Ieee.Fits.{and-l, and-r, nan-fits}
-use Rattle.order.specs.Units.{real}
-use Rattle.order.proofs.Tests.{le-real, lt-real}
-use Rattle.order.proofs.Chains.{lt→le, le-le, le-lt, lt-le, lt-not-le}
+use Rattle.order.proofs.Chains.{lt→le, le-le, lt-le}
 use Rattle.readings.specs.Scan.{at}
 use Rattle.readings.specs.Cursor.{oneIf, countFrom, countOf, onBy, climbFrom}
 use Rattle.walk.specs.Walk.{Held, Rising}

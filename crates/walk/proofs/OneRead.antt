@@ -1,29 +1,28 @@
 -- One read on a rising profile, from any cursor that is not above the count of its height, is the scan's, and leaves the cursor at the count. Infinite heights, infinite and NaN reads included: on a
 -- segment that rises the tests on differences are comparisons, and the scan stops at the first segment whose upper end is above the read, which is where the cursor stops.
 use mathlib.Core.Path.{_≡_, refl, sym, ap, _∙_, subst}
-use mathlib.Core.Logic.{_⊎_, inl, inr}
-use mathlib.Core.Bool.{Bool, true, false, not, _&&_, _||_, Bool·beq}
-use mathlib.Core.List.{List, [], _∷_, map}
+use mathlib.Core.Logic.{inl, inr}
+use mathlib.Core.Bool.{Bool, true, false, not, _&&_}
+use mathlib.Core.List.{List}
 use Prim.Native.Nat.{ℕ, zero, suc, _+_, _-_, _≤_, _<_, zero-le}
-use native.Mathlib.Nat.{le-trans, le-of-eq, le-refl, le-antisymm, eq-or-lt-of-le, lt-irrefl}
+use native.Mathlib.Nat.{le-trans, le-of-eq, le-refl, eq-or-lt-of-le}
 use native.Mathlib.Omega.{arith}
-use lib.Dec.{T, ltb, lt→ltb, not-T, T-not}
-use lib.Ieee.{Float, nan, inf, fin, binary32, lt, le, fits, isNan, sub}
-use lib.Ieee.Fits.{and-l, and-r, and-i}
+use lib.Dec.{T, ltb, lt→ltb, not-T}
+use lib.Ieee.{Float, nan, inf, fin, binary32, lt, le, fits, sub}
+use lib.Ieee.Fits.{and-l, and-i}
 use Rattle.scalar.specs.F32.{_-f_}
 use Rattle.scalar.specs.Literals.{f0}
-use Rattle.order.specs.Units.{real}
 use Rattle.order.proofs.Tests.{nought-is, sub-lt, sub-le, sameInf, le-real, lt-real}
-use Rattle.order.proofs.Chains.{lt→le, le-le, le-lt, lt-le, lt-not-le, not-le-lt}
+use Rattle.order.proofs.Chains.{lt→le, le-lt, lt-le, lt-not-le, not-le-lt}
 use Rattle.readings.specs.Scan.{at, lineOf, hitIf, risingBy, segmentBy, segmentOf, orOn, scanFrom, readingBy, readingOf}
-use Rattle.readings.specs.Cursor.{countFrom, countOf, climbFrom, climbOf, stoppedBy, stoppedAt, readOnBy, readOnOf}
+use Rattle.readings.specs.Cursor.{countOf, stoppedBy, stoppedAt, readOnBy, readOnOf}
 use Rattle.readings.specs.declared.Hit.{Hit}
 use Rattle.readings.specs.declared.Hit.the-variants.{At, Miss}
 use Rattle.readings.specs.declared.Reading.{Reading}
-use Rattle.readings.specs.declared.Reading.the-variants.{Floor, Segment, Top}
+use Rattle.readings.specs.declared.Reading.the-variants.{Floor, Top}
 use Rattle.readings.specs.declared.Read.{Read}
 use Rattle.walk.specs.Walk.{Held, Rising, scannedRead}
-use Rattle.walk.proofs.Cursor.{Stops, count-stops, climb-finds, count-mono, count-bound}
+use Rattle.walk.proofs.Cursor.{Stops, count-stops, climb-finds}
 
 is-true : (b : Bool) → T b → b ≡ true
 is-true true t = refl

@@ -1,14 +1,13 @@
 -- The reads of a walk over heights that never fall are those of full scans: before each read the cursor stands at the count of the height before, which is not above that of its own height, and from there
 -- a read is the scan's. So the cursor only rises, to 49 at most.
-use mathlib.Core.Path.{_≡_, refl, sym, ap, _∙_}
+use mathlib.Core.Path.{_≡_, refl, sym, ap}
 use mathlib.Core.List.{List}
 use Prim.Native.Nat.{ℕ, zero, suc, _+_, _≤_, _<_, zero-le}
-use native.Mathlib.Nat.{le-trans, le-of-eq, le-refl}
+use native.Mathlib.Nat.{le-trans, le-of-eq}
 use native.Mathlib.Omega.{arith}
 use lib.Dec.{T}
 use lib.Ieee.{Float, binary32, fits}
-use Rattle.readings.specs.Cursor.{countOf, readOnOf}
-use Rattle.readings.specs.Scan.{readingOf}
+use Rattle.readings.specs.Cursor.{countOf}
 use Rattle.readings.specs.declared.Read.{Read}
 use Rattle.walk.specs.Walk.{Held, Rising, Orderly, cursorBefore, walkRead, scannedRead, distance, movesOf}
 use Rattle.walk.proofs.Cursor.{count-mono, count-bound}

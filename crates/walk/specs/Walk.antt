@@ -1,5 +1,5 @@
 -- A walk: reads of the heights z 0, z 1 .. in turn, each on from the cursor that the one before left, the first from 0.
-use mathlib.Core.Bool.{Bool, true, false, _||_}
+use mathlib.Core.Bool.{_||_}
 use mathlib.Core.List.{List}
 use Prim.Native.Nat.{ℕ, zero, suc, _+_, _-_, _<_}
 use lib.Dec.{T}

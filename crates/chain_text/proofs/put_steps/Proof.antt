@@ -1,10 +1,9 @@
 -- After i turns the lines of the first i steps are put, each at most 63 bytes long.
-use mathlib.Core.Path.{_≡_, refl, ap, sym, _∙_}
-use Prim.Native.Nat.{ℕ, _+_, _*_, _-_, _≤_, _<_}
+use mathlib.Core.Path.{_≡_, refl}
+use Prim.Native.Nat.{_+_, _*_, _-_, _≤_}
 use native.Mathlib.Nat.{le-antisymm}
 use native.Mathlib.Numerals.{add-one}
 use native.Mathlib.Omega.{arith}
-use borrow.Author.Needs.{needs}
 use lib.ListN.{length, getD}
 use denote.Ref.{now}
 use Rattle.circuit.proofs.Lists.{length-part}

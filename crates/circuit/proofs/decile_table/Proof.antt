@@ -1,14 +1,13 @@
 -- After i turns the first i numbers are those of the words; a table that is left is all zero, as the words are.
-use Prim.Native.Nat.{ℕ, _≤_, _<_, _+_, _-_}
+use Prim.Native.Nat.{ℕ, _≤_, _-_}
 use mathlib.Core.Path.{_≡_, refl, sym, ap, _∙_}
-use mathlib.Core.List.{List, map}
+use mathlib.Core.List.{map}
 use native.Mathlib.Omega.{arith}
 use borrow.Author.Needs.{needs}
 use lib.ListN.{length, take, replicate, length-set}
 use lib.Seq.{take-all}
 use Rattle.circuit.proofs.Lists.{zeros, sized, mapped-on}
-use lib.Ieee.{Float, ofBits, binary32}
-use denote.Ref.{now}
+use lib.Ieee.{ofBits, binary32}
 use Rattle.circuit.proofs.decile_table.Statement.{statement}
 use Rattle.circuit.proofs.decile_table.Tie as tie
 

@@ -1,13 +1,13 @@
 -- After i turns the first i records stand at the front.
-use Prim.Native.Nat.{ℕ, _≤_, _<_, _+_, _*_, _-_}
-use mathlib.Core.Path.{_≡_, refl, sym, ap, _∙_}
-use mathlib.Core.List.{List, _++_}
+use Prim.Native.Nat.{ℕ, _≤_, _+_, _*_, _-_}
+use mathlib.Core.Path.{_≡_, refl, ap, _∙_}
+use mathlib.Core.List.{_++_}
 use native.Mathlib.Omega.{arith}
 use lib.ListN.{length, drop}
 use denote.Ref.{now}
 use Rattle.circuit.specs.Record.{old}
 use Rattle.circuit.proofs.Lists.{length-part}
-use Rattle.circuit_write.specs.Written.{entriesOf, fileOf, recordsOf}
+use Rattle.circuit_write.specs.Written.{entriesOf, fileOf}
 use Rattle.circuit_write.proofs.Cells.{entry-more, length-entries, length-filled, records-most}
 use Rattle.circuit_write.proofs.entries.Statement.{statement}
 use Rattle.circuit_write.proofs.entries.Tie as tie

@@ -1,5 +1,5 @@
 -- `fixed::high_product` meets its contract: Product.antt has the columns, and no sum of them passes the product's upper half.
-use mathlib.Core.Path.{_≡_, sym, subst}
+use mathlib.Core.Path.{sym, subst}
 use Prim.Native.Nat.{ℕ, _+_, _*_, _/_, _%_, _^_, _<_}
 use native.Mathlib.Omega.{arith}
 use lib.Pow.{shr-lt}

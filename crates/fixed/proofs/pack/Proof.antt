@@ -1,8 +1,6 @@
 -- `fixed::pack` meets its contract: few leading zeros, and a significand of at most 2 ^ 24.
-use mathlib.Core.Path.{_≡_, ap}
-use Prim.Native.Nat.{ℕ, _+_, _-_, _*_, _^_, _≤_}
+use Prim.Native.Nat.{_^_, _≤_}
 use native.Mathlib.Omega.{arith}
-use lib.Count.{leadingZeros}
 use borrow.Author.Needs.{needs}
 use Rattle.fixed.specs.Fixed.{mant}
 use Rattle.fixed.proofs.Round.{rounded}

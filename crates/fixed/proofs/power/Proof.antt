@@ -1,6 +1,5 @@
 -- `fixed::power` meets its contract: 2 ^ k with k below 64 is below 2 ^ 64, so the cut to 64 bits changes nothing.
-use mathlib.Core.Path.{_≡_, _∙_}
-use Prim.Native.Nat.{ℕ, _+_, _*_, _%_, _^_, _≤_, _<_}
+use Prim.Native.Nat.{_^_}
 use native.Mathlib.Nat.{mod-eq-of-lt, one-mul}
 use lib.Pow.{pow-lt}
 use borrow.Author.Needs.{needs}

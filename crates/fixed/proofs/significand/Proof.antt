@@ -1,5 +1,5 @@
 -- `fixed::significand` meets its contract: s has at most 33 leading zeros, so nothing is shifted out.
-use mathlib.Core.Path.{_≡_, ap}
+use mathlib.Core.Path.{ap}
 use Prim.Native.Nat.{ℕ, _+_, _/_, _^_, _≤_}
 use native.Mathlib.Nat.{mod-eq-of-lt}
 use native.Mathlib.Omega.{arith}

@@ -1,5 +1,5 @@
 -- The state is owned, so its heights are f32 numbers, and the walk's reads are those of scans.
-use mathlib.Core.Path.{_≡_, _∙_}
+use mathlib.Core.Path.{_∙_}
 use borrow.Author.Needs.{needs}
 use Rattle.walk.specs.Walk.{Held}
 use Rattle.heights.proofs.Owned.{field-held}

@@ -1,4 +1,4 @@
-use mathlib.Core.Path.{_≡_, _∙_}
+use mathlib.Core.Path.{_∙_}
 use borrow.Author.Needs.{needs}
 use Rattle.heights.proofs.Walks.{gethp-scan-so}
 use Rattle.heights.proofs.gethp_scan.Statement.{statement}

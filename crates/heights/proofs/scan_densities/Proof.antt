@@ -1,7 +1,7 @@
 -- The loop's invariant: the table holds the densities of the turns that are done.
 use mathlib.Core.Path.{_≡_, refl}
 use mathlib.Core.List.{List}
-use Prim.Native.Nat.{_≤_, _<_, _+_, _-_, _/_, _%_, ℕ, suc}
+use Prim.Native.Nat.{_≤_, _+_, _-_, _/_, _%_, ℕ}
 use native.Mathlib.Nat.{le-antisymm}
 use native.Mathlib.Numerals.{add-one}
 use native.Mathlib.Omega.{arith}

@@ -2,7 +2,7 @@
 use mathlib.Core.Path.{_≡_, refl}
 use mathlib.Core.Bool.{Bool}
 use mathlib.Core.List.{List}
-use Prim.Native.Nat.{_≤_, _<_, _+_, _-_, _*_, ℕ, suc}
+use Prim.Native.Nat.{_≤_, _+_, _-_, _*_, ℕ}
 use native.Mathlib.Nat.{le-antisymm}
 use native.Mathlib.Numerals.{add-one}
 use native.Mathlib.Omega.{arith}
@@ -13,7 +13,6 @@ use Rattle.scalar.specs.F32.{_≥f_}
 use Rattle.scalar.specs.Literals.{f0}
 use Rattle.readings.specs.Scan.{at}
 use Rattle.readings.specs.Cursor.{readOnOf}
-use Rattle.readings.specs.declared.Reading.{Reading}
 use Rattle.readings.specs.declared.Read.{Read}
 use Rattle.walk.specs.Walk.{cursorBefore}
 use Rattle.heights.specs.Nodes.{heightOf, heightAt, igAt, ibAt}

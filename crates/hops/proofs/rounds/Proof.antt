@@ -1,7 +1,6 @@
 -- What is left to do from the present round, with the rounds that are left, is what was to be done at the start. The round that stops is the last of those.
 use mathlib.Core.Path.{_≡_, refl}
-use Prim.Native.Nat.{ℕ, suc, _≤_, _<_, _+_, _-_}
-use native.Mathlib.Nat.{le-antisymm}
+use Prim.Native.Nat.{ℕ, suc, _<_, _+_, _-_}
 use native.Mathlib.Omega.{arith}
 use borrow.Author.Needs.{needs}
 use Rattle.hops.specs.Rounds.{roundsOf, roundOf, settledOf, stopBy}

@@ -1,8 +1,8 @@
 -- `put_decimal` meets its contract: the digits that `io::decimal` gives are the fewest, so they are the decimal.
-use mathlib.Core.Path.{_≡_, refl, ap, sym, _∙_}
+use mathlib.Core.Path.{_∙_}
 use native.Mathlib.Omega.{arith}
 use borrow.Author.Needs.{needs}
-use Rattle.lines.proofs.Decimals.{fewest-decimal, length-digits}
+use Rattle.lines.proofs.Decimals.{fewest-decimal}
 use Rattle.lines.proofs.put_decimal.Statement.{statement}
 use Rattle.lines.proofs.put_decimal.Tie as tie
 

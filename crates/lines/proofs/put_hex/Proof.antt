@@ -1,5 +1,5 @@
 -- `put_hex` meets its contract: eight is the fewest digits that `io::hex` gives at that width, since they hold every u32.
-use mathlib.Core.Path.{_≡_, refl, ap, sym, _∙_}
+use mathlib.Core.Path.{ap, _∙_}
 use Prim.Native.Nat.{ℕ}
 use native.Mathlib.Omega.{arith}
 use borrow.Author.Needs.{needs}

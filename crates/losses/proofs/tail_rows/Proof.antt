@@ -1,5 +1,5 @@
 -- After i turns the rows from the first up to first + i are done.
-use Prim.Native.Nat.{_≤_, _<_, _+_, _-_}
+use Prim.Native.Nat.{_≤_, _-_}
 use borrow.Author.Needs.{needs}
 use mathlib.Core.Path.{_≡_, refl, ap, _∙_}
 use native.Mathlib.Nat.{le-antisymm}

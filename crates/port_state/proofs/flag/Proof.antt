@@ -1,5 +1,4 @@
 -- By the flag's two values.
-use mathlib.Core.Path.{refl}
 use Rattle.port_state.specs.Words.{flagOf}
 use Rattle.port_state.proofs.flag.Statement.{statement}
 use Rattle.port_state.proofs.flag.Tie as tie

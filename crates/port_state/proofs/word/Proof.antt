@@ -1,13 +1,9 @@
 -- A number that is not negative is its own word; of a negative one n the word is 2^32 - 1 - (-1 - n), which stays in range.
-use mathlib.Core.Path.{_≡_, _∙_}
-use Prim.Native.Nat.{_-_, _<_, _≤_}
+use mathlib.Core.Path.{_∙_}
+use Prim.Native.Nat.{_<_}
 use native.Mathlib.Omega.{arith}
 use borrow.Author.Needs.{needs}
-use lib.IntN.{ℤ, pos, negsuc}
 use lib.Signed.{mag}
-use mir.Val.{toZ, ofZ}
-use mir.Syntax.{w32}
-use Rattle.port_state.specs.Words.{wordOf}
 use Rattle.port_state.proofs.Signs.{below-half, less-neg, positive-is, negative-is, read-back, word-pos, word-neg}
 use Rattle.port_state.proofs.word.Statement.{statement}
 use Rattle.port_state.proofs.word.Tie as tie

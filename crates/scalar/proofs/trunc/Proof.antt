@@ -9,9 +9,9 @@ use lib.Dec.{T, leb, le→leb}
 use lib.Arith.{lt→nleb}
 use lib.Signed.{mag}
 use mir.Syntax.{w32}
-use mir.Val.{SFits, toZ, ofZ}
+use mir.Val.{SFits, toZ}
 use mir.Facts.{toZ-ofZ, toZ-pos}
-use lib.Ieee.{Float, nan, binary32, fits, isNan, ofBits, toBits}
+use lib.Ieee.{Float, nan, binary32, isNan, ofBits, toBits}
 use lib.Ieee.Bits.{is-true, is-false, ofBits-toBits}
 use Rattle.scalar.specs.Scalar.{truncOf}
 use Rattle.scalar.proofs.Nan.{differs, not-nan}

@@ -1,6 +1,6 @@
 -- The chain was followed to its end, so every record named is in the file.
 use Prim.Native.Nat.{_+_, _≤_}
-use mathlib.Core.Path.{_≡_, sym, ap, _∙_}
+use mathlib.Core.Path.{sym, ap, _∙_}
 use native.Mathlib.Omega.{arith}
 use denote.Ref.{now}
 use Rattle.circuit.specs.declared.Chain.{Chain}

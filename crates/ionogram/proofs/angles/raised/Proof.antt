@@ -3,7 +3,6 @@ use mathlib.Core.Path.{_≡_, refl, ap, sym, _∙_}
 use Prim.Native.Nat.{ℕ, suc, _+_, _-_, _≤_, _<_}
 use native.Mathlib.Nat.{le-antisymm}
 use native.Mathlib.Omega.{arith}
-use borrow.Author.Needs.{needs}
 use lib.Ieee.{Float}
 use Rattle.scalar.specs.F32.{_-f_, _≥f_}
 use Rattle.scalar.specs.Literals.{f0, f8·5}

@@ -1,10 +1,9 @@
 -- After ia turns the cells of the first ia angles are written, and no other.
 use mathlib.Core.Path.{_≡_, refl, ap, _∙_}
-use Prim.Native.Nat.{ℕ, _+_, _*_, _-_, _≤_, _<_}
+use Prim.Native.Nat.{_-_, _≤_}
 use native.Mathlib.Nat.{le-antisymm}
 use native.Mathlib.Numerals.{add-one}
 use native.Mathlib.Omega.{arith}
-use borrow.Author.Needs.{needs}
 use lib.ListN.{length}
 use Rattle.ionogram.specs.Fobby.{anglesInto}
 use Rattle.ionogram.proofs.Cells.{length-angles}

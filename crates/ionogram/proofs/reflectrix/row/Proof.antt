@@ -1,17 +1,13 @@
 -- After ih turns the first ih cells of the angle are written.
 use mathlib.Core.Path.{_≡_, refl, ap, _∙_}
-use mathlib.Core.List.{List}
-use Prim.Native.Nat.{ℕ, zero, suc, _+_, _-_, _≤_, _<_}
+use Prim.Native.Nat.{_-_, _≤_}
 use native.Mathlib.Nat.{le-antisymm}
 use native.Mathlib.Numerals.{add-one}
 use native.Mathlib.Omega.{arith}
 use mir.Facts.{toZ-ofZ}
 use borrow.Author.Needs.{needs, sfits-of}
-use lib.IntN.{ℤ}
-use lib.Ieee.{Float}
-use lib.ListN.{length, set, length-set}
+use lib.ListN.{length}
 use Rattle.ionogram.specs.Fobby.{cellOf, rowInto}
-use Rattle.ionogram.specs.declared.Ionogram.{Ionogram}
 use Rattle.ionogram.proofs.Cells.{length-row}
 use Rattle.ionogram.proofs.reflectrix.row.Statement.{statement}
 use Rattle.ionogram.proofs.reflectrix.row.Tie as tie

@@ -1,5 +1,4 @@
 -- The lengths first, in their order; then what `curmuf` answers of the words' floats.
-use mathlib.Core.Path.{refl}
 use borrow.Author.Needs.{needs}
 use borrow.Author.Tests.{lt-ltb, le-ltb}
 use Rattle.port_muf.specs.Exports.{curmufLeft}

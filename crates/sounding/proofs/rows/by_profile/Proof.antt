@@ -1,18 +1,15 @@
 -- After i turns the first i rows of both columns are done.
 use mathlib.Core.Path.{_≡_, refl, ap, _∙_}
 use mathlib.Core.List.{List}
-use Prim.Native.Nat.{ℕ, _≤_, _<_, _+_, _-_}
+use Prim.Native.Nat.{ℕ, _≤_, _+_, _-_}
 use native.Mathlib.Nat.{le-antisymm, zero-add}
 use native.Mathlib.Numerals.{add-one}
 use native.Mathlib.Omega.{arith}
-use borrow.Author.Needs.{needs}
 use lib.ListN.{replicate, set}
 use lib.Ieee.{Float}
 use Rattle.scalar.specs.Literals.{f0}
 use Rattle.layers.specs.State.{at}
-use Rattle.heights.specs.declared.Heights.{Heights}
 use Rattle.heights.specs.Gethp.{gethpOf}
-use Rattle.profile.specs.Rising.{risesOf}
 use Rattle.sounding.specs.Genion.{rowsOf}
 use Rattle.sounding.proofs.rows.by_profile.Statement.{statement}
 use Rattle.sounding.proofs.rows.by_profile.Tie as tie

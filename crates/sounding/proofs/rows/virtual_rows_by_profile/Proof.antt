@@ -1,11 +1,9 @@
 -- After i turns the first i rows above the E layer are done.
 use mathlib.Core.Path.{_≡_, refl, ap, _∙_}
-use Prim.Native.Nat.{_≤_, _<_, _+_, _-_}
+use Prim.Native.Nat.{_≤_, _-_}
 use native.Mathlib.Nat.{le-antisymm}
 use native.Mathlib.Numerals.{add-one}
 use native.Mathlib.Omega.{arith}
-use borrow.Author.Needs.{needs}
-use lib.Ieee.{Float}
 use Rattle.heights.specs.Gethp.{gethpOf}
 use Rattle.sounding.specs.Genion.{HPE, rowsOf}
 use Rattle.sounding.proofs.rows.virtual_rows_by_profile.Statement.{statement}
