@@ -71,13 +71,17 @@ use Rattle.muf_records.specs.Records.{recordAt, recordsDoneOf, recordsBy
 use Rattle.muf_records.proofs.Rows.{records-below}
 use Rattle.muf_records.proofs.search as search′
 use Rattle.muf_records.proofs.search.Symbol as search-def
+use Rattle.muf_records.proofs.search.Symbol.{name as #search}
 use Rattle.muf_records.proofs.search.Met as search-thm
 use Rattle.muf.proofs.searched as searched
 use Rattle.muf.proofs.searched.Symbol as searched-def
+use Rattle.muf.proofs.searched.Symbol.{name as #searched}
 use Rattle.muf.proofs.searched.Met as searched-thm
 use Rattle.muf_records.proofs.rewrite as rewrite′
 use Rattle.muf_records.proofs.rewrite.Symbol as rewrite-def
+use Rattle.muf_records.proofs.rewrite.Symbol.{name as #rewrite}
 use Rattle.muf_records.proofs.rewrite.Met as rewrite-thm
+use Rattle.muf_records.proofs.curmuf_records.Key.{name as #curmuf-records}
 use Rattle.muf_records.proofs.curmuf_records as records
 use Rattle.muf_records.proofs.curmuf_records.Statement as stated
 use Rattle.muf_records.proofs.curmuf_records.Code as code

@@ -58,7 +58,9 @@ use Rattle.muf.proofs.MufAnswer.Laws as An′
 use Rattle.muf_records.specs.Records.{noEs, lowered, recordsBy}
 use Rattle.muf_records.proofs.with_lower as with-lower
 use Rattle.muf_records.proofs.with_lower.Symbol as with-lower-def
+use Rattle.muf_records.proofs.with_lower.Symbol.{name as #with-lower}
 use Rattle.muf_records.proofs.with_lower.Met as with-lower-thm
+use Rattle.muf_records.proofs.rewrite.Key.{name as #rewrite}
 use Rattle.muf_records.proofs.rewrite as rewrite′
 use Rattle.muf_records.proofs.rewrite.Statement as stated
 use Rattle.muf_records.proofs.rewrite.Code as code

@@ -64,13 +64,17 @@ use Rattle.muf.proofs.EsStep.Laws as St′
 use Rattle.muf_records.specs.Records.{noEs, recordAt, turnOf}
 use Rattle.muf.proofs.rows_taken as rows-taken
 use Rattle.muf.proofs.rows_taken.Symbol as rows-taken-def
+use Rattle.muf.proofs.rows_taken.Symbol.{name as #rows-taken}
 use Rattle.muf.proofs.rows_taken.Met as rows-taken-thm
 use Rattle.muf_records.proofs.first as first
 use Rattle.muf_records.proofs.first.Symbol as first-def
+use Rattle.muf_records.proofs.first.Symbol.{name as #first}
 use Rattle.muf_records.proofs.first.Met as first-thm
 use Rattle.muf_records.proofs.turn as turn
 use Rattle.muf_records.proofs.turn.Symbol as turn-def
+use Rattle.muf_records.proofs.turn.Symbol.{name as #turn}
 use Rattle.muf_records.proofs.turn.Met as turn-thm
+use Rattle.muf_records.proofs.search.Key.{name as #search}
 use Rattle.muf_records.proofs.search as search′
 use Rattle.muf_records.proofs.search.Statement as stated
 use Rattle.muf_records.proofs.search.Code as code
