@@ -2,7 +2,7 @@
 -- All that the proof knows of the two callees is that they meet their contracts.
 -- Assumes nothing.
 use mathlib.Core.Path.{_≡_, refl, sym, _∙_, subst}
-use Prim.Native.Nat.{ℕ}
+use Prim.Native.Nat.{ℕ, _<_}
 use mathlib.Core.List.{List, [], _∷_}
 use lib.ListN.{length}
 use lib.Dec.{lit<}
@@ -64,10 +64,13 @@ use Rattle.muf.proofs.MufAnswer.Laws as An′
 use Rattle.muf_records.specs.Records.{recordsMufOf, recordsAfterOf}
 use Rattle.muf_records.proofs.curmuf_records as records
 use Rattle.muf_records.proofs.curmuf_records.Symbol as records-def
+use Rattle.muf_records.proofs.curmuf_records.Symbol.{name as #records}
 use Rattle.muf_records.proofs.curmuf_records.Met as records-thm
 use Rattle.muf_records_trials.proofs.print as print
 use Rattle.muf_records_trials.proofs.print.Symbol as print-def
+use Rattle.muf_records_trials.proofs.print.Symbol.{name as #print}
 use Rattle.muf_records_trials.proofs.print.Met as print-thm
+use Rattle.muf_records_trials.proofs.lend.Key.{name as #lend}
 use Rattle.muf_records_trials.proofs.lend as lend
 use Rattle.muf_records_trials.proofs.lend.Statement as stated
 use Rattle.muf_records_trials.proofs.lend.Code as code
