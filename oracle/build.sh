@@ -5,16 +5,22 @@
 # repository.
 set -e
 cd "$(dirname "$0")/.."
+# Runs a command and prints its last line; ends with its log where it fails, since
+# an archive that an earlier build left would be compared otherwise.
+made() {
+    log=$("$@" 2>&1) || { echo "$log"; exit 1; }
+    echo "$log" | tail -n 1
+}
 for name in scalar_c port_circuit port_state port_heights port_muf port_ionogram; do
     if [ -d "crates/$name" ]; then
-        rt staticlib "$name" | tail -n 1
+        made rt staticlib "$name"
     else
         echo "crates/$name is not there"
     fi
 done
 for name in chain sheet; do
     if [ -d "crates/$name" ]; then
-        rt check "$name" | tail -n 1
+        made rt check "$name"
     else
         echo "crates/$name is not there"
     fi

@@ -128,8 +128,9 @@ pub fn finish(verdicts: &[Verdict]) -> ! {
     let (same, differ) = (count(Verdict::Same), count(Verdict::Differs));
     let not_made = count(Verdict::NotMade);
     println!("comparisons: {same} without a difference, {differ} WITH, {not_made} NOT MADE");
+    // No comparison at all, by a name that nothing has, is none made.
     std::process::exit(match (differ, not_made) {
-        (0, 0) => 0,
+        (0, 0) if same > 0 => 0,
         (0, _) => 2,
         _ => 1,
     })

@@ -1,4 +1,4 @@
--- The angles of the tables: tangents i / 128 and 128 / (i + 1), each shown by one computed test on sharp enclosures of its sine and cosine.
+-- The angles of a table, each with its tangent: one computed test on sharp enclosures of sine and cosine shows an entry; here for the tangents i / 128 and 128 / (i + 1).
 use mathlib.Core.Path.{_≡_, sym, subst₂}
 use mathlib.Core.Bool.{Bool, true, _&&_}
 use mathlib.Core.List.{List, [], _∷_}

@@ -1,4 +1,4 @@
--- The whole root that stands for the cosine: with r its eighth, (8 r)² + X² is at most 2 ^ 70, and (8 r + 8)² + X² is not below it.
+-- The cosine to a sine X in units of 2 ^ -35, as a whole root: with r its eighth, (8 r)² + X² is at most 2 ^ 70, and (8 r + 8)² + X² is not below it.
 use Prim.Native.Nat.{ℕ, suc, _+_, _-_, _*_, _/_, _^_, _≤_, _<_}
 use native.Mathlib.Nat.{mul-le-mul}
 use native.Mathlib.Omega.{arith}

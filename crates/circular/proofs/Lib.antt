@@ -12,3 +12,4 @@ pub mod Arcs
 pub mod AsinBits
 pub mod AtanMost
 pub mod Within
+pub mod Special

@@ -197,7 +197,7 @@ pub fn node_cosine(i: usize) -> u64
     }
 }
 
-// the angle with the sine i / 256, in units of 2^-56
+// the angle whose tangent is i / 256 over that cosine, in units of 2^-56
 pub fn node_angle(i: usize) -> u64
     requires { ⌜ i < 183 ⌝ }
     ensures { λ r. ⌜ r ≡ getD arcs i 0 ⌝ }

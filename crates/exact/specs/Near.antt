@@ -1,7 +1,7 @@
 -- What it is for an f32 r to be less than one unit in the last place from the exact value, for each of the six functions. Definitions only.
 -- No real numbers are here: the exact value is spoken of by the partial sums of its power series (crate `series`), which have whole numerators and denominators.
 -- Each statement says "at most 15/16 of an ulp" of partial sums, or of an argument, so that less than one ulp follows for the limit.
-use Prim.Native.Nat.{ℕ, zero, suc, _+_, _*_, _^_, _≤_, _<_}
+use Prim.Native.Nat.{ℕ, zero, suc, _+_, _-_, _*_, _^_, _≤_, _<_}
 use mathlib.Core.Path.{_≡_}
 use mathlib.Core.Logic.{_⊎_}
 use mathlib.Core.Bool.{Bool, true, false, cond, Bool·beq}
@@ -93,11 +93,11 @@ abbrev pub NearAtan : Float → Float → Type 0
 NearAtan nan r = r ≡ nan
 NearAtan (inf s) nan = ⊥
 NearAtan (inf s) (inf t) = ⊥
--- π / 2: the cosine is not negative before r, and not positive behind it
+-- π / 2, and r is the f32 nearest to it: the cosine is not negative half a unit before r, and not positive half a unit behind it
 NearAtan (inf s) (fin t n f) =
     (s ≡ t) × (behind (fin t n f) ≤ 2 * unity)
-    × Later (λ k. num (class 2) (before (fin t n f)) unity k ≤ num (class 0) (before (fin t n f)) unity k)
-    × Later (λ k. num (class 0) (behind (fin t n f)) unity k ≤ num (class 2) (behind (fin t n f)) unity k)
+    × Later (λ k. num (class 2) (16 * steps (fin t n f) - 8 * ulp (fin t n f)) unity k ≤ num (class 0) (16 * steps (fin t n f) - 8 * ulp (fin t n f)) unity k)
+    × Later (λ k. num (class 0) (16 * steps (fin t n f) + 8 * ulp (fin t n f)) unity k ≤ num (class 2) (16 * steps (fin t n f) + 8 * ulp (fin t n f)) unity k)
 NearAtan (fin s m e) nan = ⊥
 NearAtan (fin s m e) (inf t) = ⊥
 NearAtan (fin s m e) (fin t n f) =

@@ -23,7 +23,7 @@ use Rattle.series.proofs.Bounds.{le-same, ge-same}
 use Rattle.circular.proofs.Angle.{angle-le, angle-ge, angle-2}
 use Rattle.circular.proofs.Reduce.{case}
 use Rattle.circular.proofs.AtanBits.{small-bits, mid-bits, big-bits, nan-bits, angle-big}
-use Rattle.exact_circular.proofs.Ends.{small-le, small-ge, half-le, half-ge, half-plus, half-minus}
+use Rattle.exact_circular.proofs.Ends.{small-le, small-ge, half-le, half-ge, nearest-plus, nearest-minus}
 
 -- ---- what is asked of the value v of r, in units of 2 ^ -149, where x = n / c
 pub record Within (n c v : ℕ) : Type 0 where
@@ -88,9 +88,9 @@ near-inf s (fin b l j) g =
     let st : 13176795 * 2 ^ 126 ≡ steps (fin b l j) = sym (steps-is s b l (13176795 * 2 ^ 126) j g) in
     subst (λ (y : ℕ).
     (s ≡ b) × (16 * y + 15 * 2 ^ (size y - 24) ≤ 2 * (16 * 2 ^ 149))
-    × Later (λ k. num (class 2) (16 * y - 15 * 2 ^ (size y - 24)) (16 * 2 ^ 149) k ≤ num (class 0) (16 * y - 15 * 2 ^ (size y - 24)) (16 * 2 ^ 149) k)
-    × Later (λ k. num (class 0) (16 * y + 15 * 2 ^ (size y - 24)) (16 * 2 ^ 149) k ≤ num (class 2) (16 * y + 15 * 2 ^ (size y - 24)) (16 * 2 ^ 149) k)) st
-    (sym (g .0), lit≤ tt, half-plus, half-minus)
+    × Later (λ k. num (class 2) (16 * y - 8 * 2 ^ (size y - 24)) (16 * 2 ^ 149) k ≤ num (class 0) (16 * y - 8 * 2 ^ (size y - 24)) (16 * 2 ^ 149) k)
+    × Later (λ k. num (class 0) (16 * y + 8 * 2 ^ (size y - 24)) (16 * 2 ^ 149) k ≤ num (class 2) (16 * y + 8 * 2 ^ (size y - 24)) (16 * 2 ^ 149) k)) st
+    (sym (g .0), lit≤ tt, nearest-plus, nearest-minus)
 
 -- ---- below 2 ^ -12
 small-within : (v : ℕ) → v ≤ 2 ^ 137 → Within (16 * v) (16 * 2 ^ 149) v

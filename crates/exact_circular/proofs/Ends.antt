@@ -1,4 +1,4 @@
--- The two ends of the arc tangent: x itself below 2 ^ -12, where x³ / 3 is less than an ulp, and half pi from 2 ^ 26 on, by sharp enclosures on both sides of it.
+-- The two ends of the arc tangent and of the arc sine: x itself below 2 ^ -12, where x³ / 3 is less than an ulp, and half pi, by sharp enclosures on both sides of it.
 use mathlib.Core.Path.{_≡_, refl, sym, ap, ap₂, _∙_, subst}
 use Prim.Native.Nat.{ℕ, zero, suc, _+_, _-_, _*_, _/_, _^_, _≤_, _<_}
 use native.Mathlib.Nat.{le-trans, le-of-eq, le-refl, le-dest, mul-pos, mul-le-mul, mul-le-mul-left, mul-le-mul-right, le-of-mul-le-mul-right, pow-suc, mul-zero, add-le-add}
@@ -205,3 +205,26 @@ half-sine c =
   where
     go : (p m : ℕ) → (p + m) * c ≡ p * c + c * m
     go p m = omega arith
+
+-- ---- half a unit below and above: no f32 is nearer to half pi
+abbrev nearer : ℕ
+nearer = (16 * 13176795 - 8) * 2 ^ 29
+
+abbrev further : ℕ
+further = (16 * 13176795 + 8) * 2 ^ 29
+
+nearer-2 : part 2 nearer + 2 ≤ part 0 nearer
+unfolding portion num full class
+nearer-2 = lit≤ tt
+
+further-0 : part 0 further + 2 ≤ part 2 further
+unfolding portion num full class
+further-0 = lit≤ tt
+
+pub nearest-plus : Later (λ k. num (class 2) (nearer * 2 ^ 97) (16 * 2 ^ 149) k ≤ num (class 0) (nearer * 2 ^ 97) (16 * 2 ^ 149) k)
+nearest-plus = cos-plus (nearer * 2 ^ 97) (16 * 2 ^ 149) (2 ^ 62) (part 0 nearer) (part 1 nearer) (part 2 nearer) (part 3 nearer) (part 0 nearer + 2) (part 1 nearer + 2) (part 2 nearer + 2) (part 3 nearer + 2) (pow-pos 153) (pow-pos 62)
+    (enc-scaled nearer (2 ^ 56) (2 ^ 97) (2 ^ 62) (part 0 nearer) (part 1 nearer) (part 2 nearer) (part 3 nearer) (part 0 nearer + 2) (part 1 nearer + 2) (part 2 nearer + 2) (part 3 nearer + 2) (sharp nearer (lit≤ tt))) nearer-2
+
+pub nearest-minus : Later (λ k. num (class 0) (further * 2 ^ 97) (16 * 2 ^ 149) k ≤ num (class 2) (further * 2 ^ 97) (16 * 2 ^ 149) k)
+nearest-minus = cos-minus (further * 2 ^ 97) (16 * 2 ^ 149) (2 ^ 62) (part 0 further) (part 1 further) (part 2 further) (part 3 further) (part 0 further + 2) (part 1 further + 2) (part 2 further + 2) (part 3 further + 2) (pow-pos 153) (pow-pos 62)
+    (enc-scaled further (2 ^ 56) (2 ^ 97) (2 ^ 62) (part 0 further) (part 1 further) (part 2 further) (part 3 further) (part 0 further + 2) (part 1 further + 2) (part 2 further + 2) (part 3 further + 2) (sharp further (lit≤ tt))) further-0

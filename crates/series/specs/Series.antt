@@ -1,4 +1,4 @@
--- The power series of sine and cosine, as fractions of whole numbers. Definitions only.
+-- The power series of sine, cosine and e to a power, as fractions of whole numbers. Definitions only.
 -- x is n / d. The terms are a / b, a * n² / (b * d² * K 0), and so on: term k + 1 is term k times n² / (d² * K k).
 -- For the sine a / b = n / d and K k = (2 k + 2) * (2 k + 3); for the cosine a / b = 1 / 1 and K k = (2 k + 1) * (2 k + 2).
 use Prim.Native.Nat.{ℕ, zero, suc, _+_, _*_, _^_, _≤_}
@@ -26,12 +26,12 @@ unfoldable pub sums : (K : ℕ → ℕ) (n d a b : ℕ) → ℕ → Sums
 sums K n d a b zero = record { den = b; next = a; plus = 0; minus = 0 }
 sums K n d a b (suc j) = grow K n d j (sums K n d a b j)
 
--- A partial sum (p - q) / c is less than u / m from the number (r - t) / m, where one of r and t is 0
+-- A partial sum (p - q) / c is at most u / m from the number (r - t) / m, where one of r and t is 0
 pub record Close (m r t u p q c : ℕ) : Type 0 where
   pub low : r * c + m * q ≤ m * p + (t + u) * c
   pub high : m * p + t * c ≤ m * q + (r + u) * c
 
--- Every partial sum from the one with 2 * j terms on is that close: so is their limit, within u / m (no less than it, if the u here is smaller)
+-- Every partial sum from the one with 2 * j terms on is that close, and so is their limit
 pub record Limit (K : ℕ → ℕ) (n d a b j m r t u : ℕ) : Type 0 where
   pub even : (i : ℕ) → j ≤ i → Close m r t u (sums K n d a b i .plus) (sums K n d a b i .minus) (sums K n d a b i .den)
   pub odd : (i : ℕ) → j ≤ i → Close m r t u (sums K n d a b i .plus + sums K n d a b i .next) (sums K n d a b i .minus) (sums K n d a b i .den)
