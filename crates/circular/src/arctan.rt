@@ -11,7 +11,7 @@ use fixed::power;
 use fixed::scaled;
 
 // x from 2^-12 to 2^-7: no table
-pub fn low_angle(a: u32) -> u64
+fn low_angle(a: u32) -> u64
     requires { ⌜ (0x3980_0000 ≤ a) × (a < 0x3c00_0000) ⌝ }
     ensures { λ r. ⌜ r ≡ lowAngle a ⌝ }
 {
@@ -19,7 +19,7 @@ pub fn low_angle(a: u32) -> u64
 }
 
 // x from 2^-7 to 1
-pub fn mid_angle(a: u32) -> u64
+fn mid_angle(a: u32) -> u64
     requires { ⌜ (0x3c00_0000 ≤ a) × (a < 0x3f80_0000) ⌝ }
     ensures { λ r. ⌜ r ≡ midAngle a ⌝ }
 {
@@ -30,7 +30,7 @@ pub fn mid_angle(a: u32) -> u64
 }
 
 // x from 1 to 2^26
-pub fn high_angle(a: u32) -> u64
+fn high_angle(a: u32) -> u64
     requires { ⌜ (0x3f80_0000 ≤ a) × (a < 0x4c80_0000) ⌝ }
     ensures { λ r. ⌜ r ≡ highAngle a ⌝ }
 {
@@ -42,7 +42,7 @@ pub fn high_angle(a: u32) -> u64
     angle_sum(steep_angle(i as usize), q)
 }
 
-pub fn atan_mag(a: u32) -> u64
+fn atan_mag(a: u32) -> u64
     requires { ⌜ (0x3980_0000 ≤ a) × (a < 0x4c80_0000) ⌝ }
     ensures { λ r. ⌜ r ≡ atanMag a ⌝ }
 {

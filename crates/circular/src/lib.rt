@@ -6,11 +6,11 @@ ghost use Rattle.circular.specs.Asin.{asinOf};
 ghost use Rattle.circular.specs.Atan.{atanOf};
 ghost use Rattle.circular.specs.Answers.{sinAnswer, cosAnswer, answerNumber};
 
-pub mod arcsin;
-pub mod arctan;
-pub mod nodes;
-pub mod table;
-pub mod waves;
+mod arcsin;
+mod arctan;
+mod nodes;
+mod table;
+mod waves;
 
 use refusal::Refusal;
 

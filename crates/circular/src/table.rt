@@ -282,7 +282,7 @@ pub fn steep_angle(i: usize) -> u64
 }
 
 // v^3 / 3 for v = q * 2^-56
-pub fn cube(q: u64) -> u64
+fn cube(q: u64) -> u64
     requires { ⌜ q < 2 ^ 50 ⌝ }
     ensures { λ r. ⌜ r ≡ cubeOf q ⌝ }
 {
