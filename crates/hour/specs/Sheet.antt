@@ -12,10 +12,10 @@ use Rattle.profile.specs.Lecden.{lecdenOf}
 use Rattle.ionogram.specs.Fobby.{anglesInto, roomFor}
 use Rattle.ionogram.specs.declared.Ionogram.{Ionogram}
 use Rattle.losses.specs.Alosfv.{alosfvOf}
-use Rattle.sounding.specs.Genion.{noRows, genionOf, genionScanOf}
+use Rattle.sounding.specs.Genion.{Finder, noRows, genionBy, genionOf}
 use Rattle.hour.specs.declared.SlotSheet.{SlotSheet}
 
--- `genion`, by a walk or by forty scans in place of each
+-- `genion`, by a way of finding heights
 abbrev pub Sounder : Type 0
 Sounder = IonoState → ℕ → Ionogram
 
@@ -43,9 +43,9 @@ slotSheetOf s k nang layers cells = sheetBy (leb k 2) (roomFor nang cells) genio
 unfoldable pub sheetCellsOf : IonoState → ℕ → ℕ → List ℤ → List ℤ
 sheetCellsOf s k nang cells = cellsBy (leb k 2) (roomFor nang cells) genionOf s k nang cells
 
--- with forty scans in place of each walk
-unfoldable pub slotSheetScanOf : IonoState → ℕ → ℕ → List LayerMuf → List ℤ → SlotSheet
-slotSheetScanOf s k nang layers cells = sheetBy (leb k 2) (roomFor nang cells) genionScanOf s k layers
+-- the same by another way of finding heights
+unfoldable pub slotSheetWith : Finder → IonoState → ℕ → ℕ → List LayerMuf → List ℤ → SlotSheet
+slotSheetWith find s k nang layers cells = sheetBy (leb k 2) (roomFor nang cells) (genionBy find) s k layers
 
-unfoldable pub sheetCellsScanOf : IonoState → ℕ → ℕ → List ℤ → List ℤ
-sheetCellsScanOf s k nang cells = cellsBy (leb k 2) (roomFor nang cells) genionScanOf s k nang cells
+unfoldable pub sheetCellsWith : Finder → IonoState → ℕ → ℕ → List ℤ → List ℤ
+sheetCellsWith find s k nang cells = cellsBy (leb k 2) (roomFor nang cells) (genionBy find) s k nang cells

@@ -19,7 +19,7 @@ use Rattle.heights.specs.Bendy.{bendyOf, penOf}
 use Rattle.heights.specs.declared.Heights.{Heights}
 use Rattle.ionogram.specs.declared.Ionogram.{Ionogram}
 use Rattle.sounding.specs.Genion.{HTE, HPE, rowsOf, trueByProfile, virtualByParabola, virtualBy, made, rowsBy, fvertAt, allByProfile, rowsAt, genionBy, genionOf}
-use Rattle.sounding.proofs.Scans.{rows-agree}
+use Rattle.sounding.proofs.Ways.{rows-agree}
 use Rattle.losses.specs.Alosfv.{eRows, lineAt, aboveBy, aboveOf, notBelowZeros, withAfac, alosfvOf}
 use Rattle.losses.specs.declared.Factors.{Factors}
 use Rattle.losses.specs.declared.Decay.{Decay}

@@ -205,7 +205,7 @@ both-true a b ha hb = rw (ha, hb)
 -- ---- any call
 
 -- the slot that an answered call prepares
-abbrev slotOf : IonoState → Call → ℕ
+abbrev pub slotOf : IonoState → Call → ℕ
 slotOf s (aMuf es f2d clat clck c) = controllingOf s
 slotOf s (aSheet k nang layers cells) = k
 
@@ -223,6 +223,10 @@ same-left : (c : Call) (s t : IonoState) → Common s t → FreshFor s t c → a
 unfolding afterOf answered answerOf slotSheetOf pick
 same-left (aMuf es f2d clat clck c) s t g fresh = muf-follows es s t f2d clat clck c g fresh .1
 same-left (aSheet k nang layers cells) s t g fresh = sheet-left (leb k 2) (roomFor nang cells) s t k layers
+
+-- every call leaves the state that it got, or that with a slot prepared
+pub call-leaves : (c : Call) (t : IonoState) → afterOf t c ≡ preparedIf (answered t c) t (slotOf t c)
+call-leaves c t = same-left c t t (common-self t) (λ k e. refl)
 
 picks-own : (c : Call) (s : IonoState) → answered s c ≡ true → pick s c ≡ some (slotOf s c)
 unfolding pick

@@ -2,25 +2,23 @@
 use mathlib.Core.Bool.{Bool, true, false}
 use mathlib.Core.List.{List, [], _∷_, map}
 use mathlib.Core.Option.{Option, none, some, Option·none-ne-some}
-use mathlib.Core.Path.{_≡_, refl, ap, _∙_, subst}
+use mathlib.Core.Path.{_≡_, refl, sym, ap, _∙_, subst}
 use Prim.Native.Nat.{ℕ}
 use borrow.Author.Tests.{eqb-true, eqb-false}
-use lib.Dec.{leb}
-use lib.IntN.{ℤ}
 use Rattle.layers.specs.declared.IonoState.{IonoState}
-use Rattle.layers.specs.declared.LayerMuf.{LayerMuf}
 use Rattle.layers.specs.Ionset.{ionsetOf}
 use Rattle.profile.specs.Lecden.{slotAt, lecdenOf}
+use Rattle.heights.specs.Gethp.{gethpOf, gethpScanOf}
 use Rattle.heights.proofs.Whole.{forty-reads}
-use Rattle.ionogram.specs.Fobby.{roomFor}
-use Rattle.sounding.specs.Genion.{genionOf, genionScanOf}
-use Rattle.sounding.proofs.Scans.{genion-scan}
-use Rattle.hour.specs.Sheet.{sheetBy, cellsBy, slotSheetOf, sheetCellsOf, slotSheetScanOf, sheetCellsScanOf}
-use Rattle.hour.specs.declared.SlotSheet.{SlotSheet}
-use Rattle.hour_laws.specs.Calls.{Call, aMuf, aSheet, Answer, ofSheet, answerOf, afterOf, answerScanOf, afterScanOf, answered, pick}
-use Rattle.hour_laws.specs.Lists.{runOf, answersOf, runScanOf, answersScanOf, readOf, Every, Together, Allowed, picks, orElse, own, laterOr, onlyIf, lastOf, alone, SameProfile, ReadsWell, ListOfCalls, ListsOfCalls}
+use Rattle.sounding.specs.Genion.{Finder}
+use Rattle.sounding.proofs.Ways.{Agree, scans-agree}
+use Rattle.hour_laws.specs.Ways.{gethpWalkOf}
+use Rattle.hour_laws.specs.Calls.{Call, Answer, answerOf, afterOf, afterWith, answered, pick}
+use Rattle.hour_laws.specs.Lists.{runOf, answersOf, runWith, answersWith, withPicked, readOf, Every, Together, Allowed, picks, orElse, own, laterOr, onlyIf, lastOf, alone, SameProfile, ReadsWell, Numbers, ListOfCalls, ListsOfCalls}
 use Rattle.hour_laws.proofs.Prepared.{Common, common-self}
-use Rattle.hour_laws.proofs.Frames.{not-both, FreshFor, some-same, one-step}
+use Rattle.hour_laws.proofs.Numbers.{lecden-numbers, ionset-numbers}
+use Rattle.hour_laws.proofs.Ways.{walks-agree, answer-with, after-with}
+use Rattle.hour_laws.proofs.Frames.{not-both, FreshFor, preparedIf, slotOf, call-leaves, some-same, one-step}
 
 -- ---- who picks a slot
 
@@ -44,7 +42,7 @@ no-other-by false s d k rest p apart e = e
 no-other : (s : IonoState) (c : Call) (k : ℕ) (cs : List Call) → Every (Together s c) cs → pick s c ≡ some k → own s cs k ≡ none
 unfolding own
 no-other s c k [] h e = refl
-no-other s c k (d ∷ cs) h e = no-other-by (picks (pick s d) k) s d k (own s cs k) refl (h .0 .1 k e) (no-other s c k cs (h .1) e)
+no-other s c k (d ∷ cs) h e = no-other-by (picks (pick s d) k) s d k (own s cs k) refl (h .0 k e) (no-other s c k cs (h .1) e)
 
 -- ---- the induction
 
@@ -79,7 +77,7 @@ ran s [] t g fresh allowed = record { all-answers = refl; all-common = g; all-sl
 ran s (c ∷ cs) t g fresh allowed =
     let x = one-step s t c g (fresh .0) in
     let t₁ = afterOf t c in
-    let still = every-both (FreshFor s t) (Together s c) (FreshFor s t₁) cs (fresh .1) (allowed .0) (λ d f h. λ k e. x .other-slot k (λ p. h .1 k p e) ∙ f k e) in
+    let still = every-both (FreshFor s t) (Together s c) (FreshFor s t₁) cs (fresh .1) (allowed .0) (λ d f h. λ k e. x .other-slot k (λ p. h k p e) ∙ f k e) in
     let ih = ran s cs t₁ (x .still-common) still (allowed .1) in
     record {
       all-answers = rw (x .answer-same, ih .all-answers);
@@ -88,45 +86,54 @@ ran s (c ∷ cs) t g fresh allowed =
       the-profile = profile-step s t t₁ (runOf t₁ cs) c (lastOf s cs) (answered s c) (x .profile-answered) (x .state-refused) (ih .the-profile);
     }
 
--- ---- scans in place of walks
+-- ---- f32 numbers stay f32 numbers
 
-sheet-scanned : (a b : Bool) (s : IonoState) (k : ℕ) (layers : List LayerMuf) → sheetBy a b genionScanOf s k layers ≡ sheetBy a b genionOf s k layers
-sheet-scanned true true s k layers = rw (genion-scan (lecdenOf s k) k)
-sheet-scanned true false s k layers = refl
-sheet-scanned false b s k layers = refl
+prepared-numbers : (b : Bool) (t : IonoState) (k : ℕ) → Numbers t → Numbers (preparedIf b t k)
+prepared-numbers true t k n = lecden-numbers t k n
+prepared-numbers false t k n = n
 
-cells-scanned : (a b : Bool) (s : IonoState) (k nang : ℕ) (cells : List ℤ) → cellsBy a b genionScanOf s k nang cells ≡ cellsBy a b genionOf s k nang cells
-cells-scanned true true s k nang cells = rw (genion-scan (lecdenOf s k) k)
-cells-scanned true false s k nang cells = refl
-cells-scanned false b s k nang cells = refl
+after-numbers : (t : IonoState) (c : Call) → Numbers t → Numbers (afterOf t c)
+after-numbers t c n = subst Numbers (sym (call-leaves c t)) (prepared-numbers (answered t c) t (slotOf t c) n)
 
-answer-scanned : (c : Call) (s : IonoState) → answerScanOf s c ≡ answerOf s c
-unfolding answerScanOf answerOf slotSheetScanOf slotSheetOf sheetCellsScanOf sheetCellsOf
-answer-scanned (aMuf es f2d clat clck c) s = refl
-answer-scanned (aSheet k nang layers cells) s =
-    ap (λ (r : SlotSheet). ofSheet (r .outcome) (r .ion) (cellsBy (leb k 2) (roomFor nang cells) genionScanOf s k nang cells)) (sheet-scanned (leb k 2) (roomFor nang cells) s k layers) ∙ ap (λ (l : List ℤ). ofSheet (sheetBy (leb k 2) (roomFor nang cells) genionOf s k layers .outcome) (sheetBy (leb k 2) (roomFor nang cells) genionOf s k layers .ion) l) (cells-scanned (leb k 2) (roomFor nang cells) s k nang cells)
+-- ---- other ways of finding heights
 
-after-scanned : (c : Call) (s : IonoState) → afterScanOf s c ≡ afterOf s c
-unfolding afterScanOf afterOf slotSheetScanOf slotSheetOf
-after-scanned (aMuf es f2d clat clck c) s = refl
-after-scanned (aSheet k nang layers cells) s = ap (λ (r : SlotSheet). r .state) (sheet-scanned (leb k 2) (roomFor nang cells) s k layers)
+-- P holds of every state that the list comes through, and where it holds `find` agrees with `gethpOf`
+module _ (find : Finder) (P : IonoState → Type 0) (stays : (t : IonoState) (c : Call) → P t → P (afterOf t c)) (agree : (t : IonoState) → P t → (k : ℕ) → Agree find gethpOf (lecdenOf t k)) where
+  run-with : (cs : List Call) (t : IonoState) → P t → runWith find t cs ≡ runOf t cs
+  unfolding runWith runOf
+  run-with [] t p = refl
+  run-with (c ∷ cs) t p = ap (λ (w : IonoState). runWith find w cs) (after-with find t (agree t p) c) ∙ run-with cs (afterOf t c) (stays t c p)
 
-run-scanned : (cs : List Call) (s : IonoState) → runScanOf s cs ≡ runOf s cs
-unfolding runScanOf runOf
-run-scanned [] s = refl
-run-scanned (c ∷ cs) s = ap (λ (w : IonoState). runScanOf w cs) (after-scanned c s) ∙ run-scanned cs (afterOf s c)
+  answers-with : (cs : List Call) (t : IonoState) → P t → answersWith find t cs ≡ answersOf t cs
+  unfolding answersWith answersOf
+  answers-with [] t p = refl
+  answers-with (c ∷ cs) t p =
+      ap (λ (a : Answer). a ∷ answersWith find (afterWith find t c) cs) (answer-with find t (agree t p) c)
+      ∙ ap (λ (w : IonoState). answerOf t c ∷ answersWith find w cs) (after-with find t (agree t p) c)
+      ∙ ap (λ (rest : List Answer). answerOf t c ∷ rest) (answers-with cs (afterOf t c) (stays t c p))
 
-answers-by-scan : (cs : List Call) (s : IonoState) → answersScanOf s cs ≡ answersOf s cs
-unfolding answersScanOf answersOf
-answers-by-scan [] s = refl
-answers-by-scan (c ∷ cs) s =
-    ap (λ (a : Answer). a ∷ answersScanOf (afterScanOf s c) cs) (answer-scanned c s) ∙ ap (λ (w : IonoState). answerOf s c ∷ answersScanOf w cs) (after-scanned c s) ∙ ap (λ (rest : List Answer). answerOf s c ∷ rest) (answers-by-scan cs (afterOf s c))
+by-walks : (t : IonoState) → Numbers t → (k : ℕ) → Agree gethpWalkOf gethpOf (lecdenOf t k)
+by-walks t n k = walks-agree (lecdenOf t k) (lecden-numbers t k n .htr-held)
+
+by-scans : (t : IonoState) → Unit {0} → (k : ℕ) → Agree gethpScanOf gethpOf (lecdenOf t k)
+by-scans t u k = scans-agree (lecdenOf t k)
+
+-- with `gethpOf` itself they are the contracts' definitions, for any list on any state
+pub with-contracts : (s : IonoState) (calls : List Call) → (answersWith gethpOf s calls ≡ answersOf s calls) × (runWith gethpOf s calls ≡ runOf s calls)
+with-contracts s calls =
+    let same : (t : IonoState) → Unit {0} → (k : ℕ) → Agree gethpOf gethpOf (lecdenOf t k) = λ t u k f. (refl, refl) in
+    (answers-with gethpOf (λ t. Unit {0}) (λ t c u. tt) same calls s tt, run-with gethpOf (λ t. Unit {0}) (λ t c u. tt) same calls s tt)
 
 -- ---- the reads
 
-every-reads : (xs : List IonoState) → Every ReadsWell xs
-every-reads [] = tt
-every-reads (u ∷ xs) = (λ f held rises. forty-reads u f held rises, every-reads xs)
+picked-reads : (o : Option ℕ) (t : IonoState) (rest : List IonoState) → Numbers t → Every ReadsWell rest → Every ReadsWell (withPicked o t rest)
+picked-reads none t rest n h = h
+picked-reads (some k) t rest n h = (λ f rises. forty-reads (lecdenOf t k) f (lecden-numbers t k n .htr-held) rises, h)
+
+every-reads : (cs : List Call) (t : IonoState) → Numbers t → Every ReadsWell (readOf t cs)
+unfolding readOf
+every-reads [] t n = tt
+every-reads (c ∷ cs) t n = picked-reads (pick t c) t (readOf (afterOf t c) cs) n (every-reads cs (afterOf t c) (after-numbers t c n))
 
 -- ---- the whole
 
@@ -139,8 +146,8 @@ left-alone none s = refl
 left-alone (some c) s = refl
 
 -- for any first state
-pub any-list : (s : IonoState) (calls : List Call) → Allowed s calls → ListOfCalls s calls
-any-list s calls allowed =
+pub any-list : (s : IonoState) → Numbers s → (calls : List Call) → Allowed s calls → ListOfCalls s calls
+any-list s n calls allowed =
     let r = ran s calls s (common-self s) (at-first s calls) allowed in
     let c = r .all-common in
     record {
@@ -156,10 +163,12 @@ any-list s calls allowed =
       kfx-left = c .kfx-common;
       iedp-left = c .iedp-common;
       ielect-left = c .ielect-common;
-      answers-scanned = answers-by-scan calls s;
-      state-scanned = run-scanned calls s;
-      reads-well = every-reads (readOf s calls);
+      answers-walked = answers-with gethpWalkOf Numbers after-numbers by-walks calls s n;
+      state-walked = run-with gethpWalkOf Numbers after-numbers by-walks calls s n;
+      answers-scanned = answers-with gethpScanOf (λ t. Unit {0}) (λ t c u. tt) by-scans calls s tt;
+      state-scanned = run-with gethpScanOf (λ t. Unit {0}) (λ t c u. tt) by-scans calls s tt;
+      reads-well = every-reads calls s n;
     }
 
 pub lists-of-calls : ListsOfCalls
-lists-of-calls = λ first h calls allowed. any-list (ionsetOf first .state) calls allowed
+lists-of-calls = λ first n h calls allowed. any-list (ionsetOf first .state) (ionset-numbers first n) calls allowed

@@ -14,11 +14,14 @@ use Rattle.layers.specs.declared.EsParams.{EsParams}
 use Rattle.ionogram.specs.declared.Ionogram.{Ionogram}
 use Rattle.layer_mufs.specs.Controlling.{controllingOf}
 use Rattle.layer_mufs.specs.declared.Circuit.{Circuit}
-use Rattle.muf.specs.Curmuf.{inDomain, flatOf, rewrittenBy}
+use Rattle.muf.specs.Curmuf.{inDomain, takenRows, rowsOf, flatOf, rewrittenBy}
+use Rattle.muf.specs.Sporadic.{rowAt}
 use Rattle.muf.specs.declared.MufHour.{MufHour}
 use Rattle.muf.specs.declared.Done.{Done}
-use Rattle.muf_records.specs.Records.{recordsDoneOf, recordsBy}
-use Rattle.hour.specs.Sheet.{slotSheetOf, sheetCellsOf, slotSheetScanOf, sheetCellsScanOf}
+use Rattle.muf_records.specs.Records.{recordAt, recordsDoneOf, recordsBy}
+use Rattle.sounding.specs.Genion.{Finder}
+use Rattle.hour.specs.Sheet.{slotSheetOf, sheetCellsOf, slotSheetWith, sheetCellsWith}
+use Rattle.hour_laws.specs.Ways.{doneWith}
 
 -- ---- the Es rows lent to a circuit MUF: flat, four numbers a row, or records
 
@@ -56,14 +59,19 @@ unfoldable pub afterOf : IonoState → Call → IonoState
 afterOf s (aMuf es f2d clat clck c) = mufOf s es f2d clat clck c .answer .state
 afterOf s (aSheet k nang layers cells) = slotSheetOf s k nang layers cells .state
 
--- the same with forty scans in place of each walk
-unfoldable pub answerScanOf : IonoState → Call → Answer
-answerScanOf s (aMuf es f2d clat clck c) = answerOf s (aMuf es f2d clat clck c)
-answerScanOf s (aSheet k nang layers cells) = let r = slotSheetScanOf s k nang layers cells in ofSheet (r .outcome) (r .ion) (sheetCellsScanOf s k nang cells)
+-- ---- the same by a way of finding heights
 
-unfoldable pub afterScanOf : IonoState → Call → IonoState
-afterScanOf s (aMuf es f2d clat clck c) = afterOf s (aMuf es f2d clat clck c)
-afterScanOf s (aSheet k nang layers cells) = slotSheetScanOf s k nang layers cells .state
+unfoldable pub mufWith : Finder → IonoState → EsRows → List Float → List Float → List Float → Circuit → Done
+mufWith find s (flat es) f2d clat clck c = doneWith find s (rowsOf (length es) (s .km)) (rowAt es) f2d clat clck c
+mufWith find s (records es) f2d clat clck c = doneWith find s (takenRows (length es) (s .km)) (recordAt es) f2d clat clck c
+
+unfoldable pub answerWith : Finder → IonoState → Call → Answer
+answerWith find s (aMuf es f2d clat clck c) = let d = mufWith find s es f2d clat clck c in ofMuf (d .answer .outcome) (d .answer .hour) (esAfter es (d .rewrites) (d .ksx) (d .lower))
+answerWith find s (aSheet k nang layers cells) = let r = slotSheetWith find s k nang layers cells in ofSheet (r .outcome) (r .ion) (sheetCellsWith find s k nang cells)
+
+unfoldable pub afterWith : Finder → IonoState → Call → IonoState
+afterWith find s (aMuf es f2d clat clck c) = mufWith find s es f2d clat clck c .answer .state
+afterWith find s (aSheet k nang layers cells) = slotSheetWith find s k nang layers cells .state
 
 -- ---- answered or refused, and the slot that a call picks
 
@@ -86,7 +94,3 @@ pickIf false k = none
 unfoldable pub pick : IonoState → Call → Option ℕ
 pick s (aMuf es f2d clat clck c) = pickIf (inDomain c && eqb (length f2d) 576) (controllingOf s)
 pick s (aSheet k nang layers cells) = pickIf (answered s (aSheet k nang layers cells)) k
-
-abbrev pub IsMuf : Call → Type 0
-IsMuf (aMuf es f2d clat clck c) = Unit {0}
-IsMuf (aSheet k nang layers cells) = ⊥

@@ -15,8 +15,11 @@ use Rattle.layers.specs.declared.IonoState.{IonoState}
 use Rattle.profile.specs.Lecden.{slotAt, lecdenOf}
 use Rattle.profile.specs.Rising.{risesOf}
 use Rattle.walk.specs.Walk.{Held}
+use Rattle.heights.specs.Gethp.{gethpScanOf}
 use Rattle.heights.specs.Reads.{FortyReads}
-use Rattle.hour_laws.specs.Calls.{Call, Answer, answerOf, afterOf, answerScanOf, afterScanOf, answered, pick, IsMuf}
+use Rattle.sounding.specs.Genion.{Finder}
+use Rattle.hour_laws.specs.Ways.{gethpWalkOf}
+use Rattle.hour_laws.specs.Calls.{Call, Answer, answerOf, afterOf, answerWith, afterWith, answered, pick}
 
 -- ---- a list run: the state at its end, and the answers in their order
 
@@ -28,15 +31,32 @@ unfoldable pub answersOf : IonoState → List Call → List Answer
 answersOf s [] = []
 answersOf s (c ∷ cs) = answerOf s c ∷ answersOf (afterOf s c) cs
 
-unfoldable pub runScanOf : IonoState → List Call → IonoState
-runScanOf s [] = s
-runScanOf s (c ∷ cs) = runScanOf (afterScanOf s c) cs
+-- ---- the same by a way of finding heights
 
-unfoldable pub answersScanOf : IonoState → List Call → List Answer
-answersScanOf s [] = []
-answersScanOf s (c ∷ cs) = answerScanOf s c ∷ answersScanOf (afterScanOf s c) cs
+unfoldable pub runWith : Finder → IonoState → List Call → IonoState
+runWith find s [] = s
+runWith find s (c ∷ cs) = runWith find (afterWith find s c) cs
 
--- the states whose profiles its calls read: each with the slot prepared that the call picks
+unfoldable pub answersWith : Finder → IonoState → List Call → List Answer
+answersWith find s [] = []
+answersWith find s (c ∷ cs) = answerWith find s c ∷ answersWith find (afterWith find s c) cs
+
+-- by walks, as the code reads
+abbrev pub runWalkOf : IonoState → List Call → IonoState
+runWalkOf s calls = runWith gethpWalkOf s calls
+
+abbrev pub answersWalkOf : IonoState → List Call → List Answer
+answersWalkOf s calls = answersWith gethpWalkOf s calls
+
+-- by forty full scans in place of each walk
+abbrev pub runScanOf : IonoState → List Call → IonoState
+runScanOf s calls = runWith gethpScanOf s calls
+
+abbrev pub answersScanOf : IonoState → List Call → List Answer
+answersScanOf s calls = answersWith gethpScanOf s calls
+
+-- ---- the states whose profiles its calls read: each with the slot prepared that the call picks
+
 abbrev pub withPicked : Option ℕ → IonoState → List IonoState → List IonoState
 withPicked none s rest = rest
 withPicked (some k) s rest = lecdenOf s k ∷ rest
@@ -51,9 +71,9 @@ abbrev pub Every : {A : Type 0} → (A → Type 0) → List A → Type 0
 Every P [] = Unit {0}
 Every P (c ∷ cs) = P c × Every P cs
 
--- At most one MUF, answered or refused; no slot picked twice: of each slot at most one answered sheet, and none of the MUF's pick. A refused sheet picks nothing, so any number of them may stand anywhere.
+-- No slot is picked twice: each has at most one answered sheet, or one MUF that picks it, not both. A refused sheet picks nothing, nor does a MUF refused 9, or 10 for its deciles: any number of these may stand anywhere.
 abbrev pub Together : IonoState → Call → Call → Type 0
-Together s c d = (IsMuf c → IsMuf d → ⊥) × ((k : ℕ) → pick s c ≡ some k → pick s d ≡ some k → ⊥)
+Together s c d = (k : ℕ) → pick s c ≡ some k → pick s d ≡ some k → ⊥
 
 abbrev pub Allowed : IonoState → List Call → Type 0
 Allowed s [] = Unit {0}
@@ -95,9 +115,15 @@ alone s (some c) = afterOf s c
 abbrev pub SameProfile : IonoState → IonoState → Type 0
 SameProfile u v = (u .htr ≡ v .htr) × (u .fnsq ≡ v .fnsq) × (u .«htr_rises» ≡ v .«htr_rises»)
 
--- the forty reads of any frequency, where the heights are numbers of the format, as all numbers of a state are, and rise
+-- the forty reads of any frequency, where the heights rise
 abbrev pub ReadsWell : IonoState → Type 0
-ReadsWell u = (f : Float) → Held (u .htr) → T (risesOf (u .htr)) → FortyReads u f
+ReadsWell u = (f : Float) → T (risesOf (u .htr)) → FortyReads u f
+
+-- The definitions' numbers are of any precision, those of a state that a program holds are f32. It is asked of the first state, where a walk depends on it: semi-thicknesses, layers' heights and the profile's heights.
+pub record Numbers (s : IonoState) : Type 0 where
+  pub yi-held : Held (s .yi)
+  pub hi-held : Held (s .hi)
+  pub htr-held : Held (s .htr)
 
 -- ---- the claim
 
@@ -118,12 +144,14 @@ pub record ListOfCalls (s : IonoState) (calls : List Call) : Type 0 where
   pub kfx-left : runOf s calls .kfx ≡ s .kfx
   pub iedp-left : runOf s calls .iedp ≡ s .iedp
   pub ielect-left : runOf s calls .ielect ≡ s .ielect
-  -- (v) with forty scans in place of each walk every row, every cell and the state left are the same
+  -- (v) read by walks, as the code does, every answer (rows, cells, hours, Es rows) and the state left are these; and they are the same with forty full scans in place of each walk
+  pub answers-walked : answersWalkOf s calls ≡ answersOf s calls
+  pub state-walked : runWalkOf s calls ≡ runOf s calls
   pub answers-scanned : answersScanOf s calls ≡ answersOf s calls
   pub state-scanned : runScanOf s calls ≡ runOf s calls
   -- (vi) on each profile that is read the forty reads are the scans', in rising order, with the cursor as counted and moved 49 places at most
   pub reads-well : Every ReadsWell (readOf s calls)
 
--- for what `ionset` answers of any state with 1 to 5 points
+-- for what `ionset` answers of any state of f32 numbers with 1 to 5 points
 abbrev pub ListsOfCalls : Type 0
-ListsOfCalls = (first : IonoState) → T (countTaken (first .km)) → (calls : List Call) → Allowed (ionsetOf first .state) calls → ListOfCalls (ionsetOf first .state) calls
+ListsOfCalls = (first : IonoState) → Numbers first → T (countTaken (first .km)) → (calls : List Call) → Allowed (ionsetOf first .state) calls → ListOfCalls (ionsetOf first .state) calls

@@ -11,7 +11,7 @@ use Rattle.scalar.specs.F32.{_+f_, _-f_, _*f_, _>f_}
 use Rattle.scalar.specs.Literals.{f0, f2, f70, f84·51, f87·4, f88·52, f93, f94, f94·26, f95·71, f97·68, f98·68, f100·2, f100·27, f102·65, f104·22, f107·15, f107·19, f113·74, f125·25, f140·03}
 use Rattle.layers.specs.State.{at}
 use Rattle.layers.specs.declared.IonoState.{IonoState}
-use Rattle.heights.specs.Gethp.{gethpOf, gethpScanOf}
+use Rattle.heights.specs.Gethp.{gethpOf}
 use Rattle.heights.specs.Xlin.{xlinOf}
 use Rattle.heights.specs.Bendy.{bendyOf, penOf}
 use Rattle.heights.specs.declared.Heights.{Heights}
@@ -33,7 +33,7 @@ unfoldable pub rowsOf : (Float → Float) → List Float → ℕ → List Float 
 rowsOf row fv first out zero = out
 rowsOf row fv first out (suc n) = set (rowsOf row fv first out n) (first + n) (row (at fv (first + n)))
 
--- the two heights, as `gethp` finds them: by a walk, or by forty scans
+-- a way of finding the two heights of a frequency: the contracts' is `gethpOf`
 abbrev pub Finder : Type 0
 Finder = IonoState → Float → Heights
 
@@ -74,10 +74,6 @@ genionBy find s k = rowsAt find s k (fvertAt s k)
 
 unfoldable pub genionOf : IonoState → ℕ → Ionogram
 genionOf s k = genionBy gethpOf s k
-
--- with forty scans in place of each walk
-unfoldable pub genionScanOf : IonoState → ℕ → Ionogram
-genionScanOf s k = genionBy gethpScanOf s k
 
 abbrev pub noRows : Ionogram
 noRows = record { fvert = replicate 30 f0; hprim = replicate 30 f0; htrue = replicate 30 f0; afac = replicate 30 f0 }

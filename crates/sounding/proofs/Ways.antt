@@ -1,0 +1,46 @@
+-- A row takes from `gethp` its two heights only: two ways of finding heights that agree on a state give it the same rows.
+use mathlib.Core.Bool.{Bool, true, false}
+use mathlib.Core.List.{List}
+use mathlib.Core.Path.{_≡_, refl, sym}
+use Prim.Native.Nat.{ℕ, zero, suc, _+_, _*_}
+use lib.Ieee.{Float}
+use Rattle.scalar.specs.F32.{_>f_}
+use Rattle.scalar.specs.Literals.{f0}
+use Rattle.layers.specs.State.{at}
+use Rattle.layers.specs.declared.IonoState.{IonoState}
+use Rattle.heights.specs.Gethp.{gethpOf, gethpScanOf}
+use Rattle.heights.proofs.Whole.{scans-same}
+use Rattle.sounding.specs.Genion.{Finder, rowsOf, virtualBy, rowsBy, allByProfile, rowsAt, fvertAt, genionBy, genionOf}
+
+-- the same heights of every frequency on s
+abbrev pub Agree : Finder → Finder → IonoState → Type 0
+Agree find other s = (f : Float) → (find s f .hp ≡ other s f .hp) × (find s f .ht ≡ other s f .ht)
+
+-- rows by two functions that agree at every frequency
+pub rows-agree : (row other : Float → Float) → ((f : Float) → row f ≡ other f) → (fv : List Float) (first : ℕ) (out : List Float) (n : ℕ) → rowsOf row fv first out n ≡ rowsOf other fv first out n
+unfolding rowsOf
+rows-agree row other e fv first out zero = refl
+rows-agree row other e fv first out (suc n) = rw (rows-agree row other e fv first out n, e (at fv (first + n)))
+
+module _ (find other : Finder) (s : IonoState) (agree : Agree find other s) where
+  virtual-agrees : (b : Bool) (k : ℕ) (f : Float) → virtualBy b find s k f ≡ virtualBy b other s k f
+  virtual-agrees true k f = agree f .0
+  virtual-agrees false k f = refl
+
+  by-shape : (b : Bool) (k : ℕ) (fv : List Float) → rowsBy b find s k fv ≡ rowsBy b other s k fv
+  by-shape true k fv =
+      rw (rows-agree (λ f. find s f .hp) (λ f. other s f .hp) (λ f. agree f .0) fv 0 _ 30, rows-agree (λ f. find s f .ht) (λ f. other s f .ht) (λ f. agree f .1) fv 0 _ 30)
+  by-shape false k fv =
+      rw (rows-agree _ _ (virtual-agrees (at (s .fi) (3 * k + 1) >f f0) k) fv 10 _ 20)
+
+  pub genion-agrees : (k : ℕ) → genionBy find s k ≡ genionBy other s k
+  unfolding genionBy rowsAt
+  genion-agrees k = by-shape (allByProfile s) k (fvertAt s k)
+
+-- forty scans in place of each walk: the same heights, so the same rows
+pub scans-agree : (s : IonoState) → Agree gethpScanOf gethpOf s
+scans-agree s f = let e = scans-same s f in (sym (e .0), sym (e .1))
+
+pub genion-scan : (s : IonoState) (k : ℕ) → genionBy gethpScanOf s k ≡ genionOf s k
+unfolding genionOf
+genion-scan s k = genion-agrees gethpScanOf gethpOf s (scans-agree s) k
