@@ -11,6 +11,7 @@ use Rattle.circuit.specs.Chain.{lengthGood, headGood, kmOf, stepOf, byStep, wal
 use Rattle.circuit.specs.Read.{numbersOf, circuitOf, readOf}
 use Rattle.circuit.proofs.Steps.{step-to, step-next}
 use Rattle.circuit.proofs.Followed.{walk-ind, by-pick}
+use Rattle.circuit_laws.specs.Laws.{OffChain}
 use Rattle.circuit_laws.specs.OnChain.{OnChain}
 use Rattle.circuit_laws.specs.OnChain.OnChain.{first, after}
 
@@ -102,6 +103,9 @@ module _ (o : Form) (f g : List ℕ) (long : length f ≡ length g)
         )
         refl
 
-    pub off-chain : readOf o f ≡ readOf o g
+    same-read : readOf o f ≡ readOf o g
     unfolding readOf
-    off-chain = rw (same-circuit, same-chain) refl
+    same-read = rw (same-circuit, same-chain) refl
+
+pub off-chain : OffChain
+off-chain = same-read

@@ -1,5 +1,5 @@
 -- A circuit that is written is the one read back: record i of the file is entry i, its next index is i + 1 and the last
--- one's is zero, so the chain is 0, 1, 2, .., and each record gives its words back.
+-- one's is zero, so the chain is 0, 1, 2, .., and each record gives its words back. No entry holds a word past the km points.
 use Prim.Native.Nat.{ℕ, zero, suc, _+_, _*_, _-_, _/_, _%_, _^_, _≤_, _<_}
 use mathlib.Core.Path.{_≡_, refl, ap, _∙_, sym}
 use mathlib.Core.List.{List, [], _∷_, _++_, append-assoc, append-nil}
@@ -24,8 +24,9 @@ use Rattle.circuit.proofs.Steps.{walk-end, walk-on}
 use Rattle.circuit.proofs.Followed.{read-answered}
 use Rattle.circuit_write.specs.declared.WriteAnswer.{WriteAnswer}
 use Rattle.circuit_write.specs.Written.{goodOf, answerBy, answerOf, leftOf, bytesOf, headOf, recordOf, pointAt, twelveAt, decileRecords, recordsOf, nextBy, nextIn, entryBy, entryOf, entriesOf, fileOf}
-use Rattle.circuit_write.proofs.Cells.{length-entry, length-entries, records-most}
-use Rattle.circuit_laws.specs.Forms.{Each, Whole, upTo}
+use Rattle.circuit_write.proofs.Cells.{length-entry, length-entries, length-file, records-most, write-good}
+use Rattle.circuit_laws.specs.Forms.{Each, Whole, heldOf, upTo}
+use Rattle.circuit_laws.specs.Laws.{ReadWritten, ReadSame, WrittenLength}
 use Rattle.circuit_laws.proofs.Back.{half-back, word-back, next-back, record-words, record-fits}
 
 pub each-take : (n k : ℕ) (l : List ℕ) → Each n l → Each n (take k l)
@@ -121,10 +122,6 @@ module _ (c : Circuit) (w : Whole c) (some : 1 ≤ c .km) (most : c .km ≤ 5) (
   N-most : N ≤ c .km + 49
   N-most = records-most c
 
-  pub length-file : length file ≡ 64 * N
-  unfolding fileOf
-  length-file = length-entries c N N
-
   at-file : (i : ℕ) → i < N → recordAt old file i ≡ entryOf old c N i
   unfolding fileOf
   at-file i h = entry-in c N N i h
@@ -162,7 +159,7 @@ module _ (c : Circuit) (w : Whole c) (some : 1 ≤ c .km) (most : c .km ≤ 5) (
       rw (
         e,
         ne-eqb (i + 1) 0 (λ z. omega arith),
-        lt-ltb (i + 1) (length file / 64) (omega (arith, length-file)),
+        lt-ltb (i + 1) (length file / 64) (omega (arith, length-file c)),
         fresh (i + 1) (i + 1) (omega arith),
       )
 
@@ -226,9 +223,9 @@ module _ (c : Circuit) (w : Whole c) (some : 1 ≤ c .km) (most : c .km ≤ 5) (
   chain-file =
       let q : c .km + 48 ≡ c .km + 48 - 0 = omega arith in
       rw (
-        eq-eqb (length file % 64) 0 (omega (arith, length-file)),
-        le-leb 128 (length file) (omega (arith, length-file, N-least)),
-        le-leb (length file) 4096 (omega (arith, length-file, N-most)),
+        eq-eqb (length file % 64) 0 (omega (arith, length-file c)),
+        le-leb 128 (length file) (omega (arith, length-file c, N-least)),
+        le-leb (length file) 4096 (omega (arith, length-file c, N-most)),
         ap (headGood old) head-at ∙ head-good,
         head-km,
         q,
@@ -267,10 +264,8 @@ module _ (c : Circuit) (w : Whole c) (some : 1 ≤ c .km) (most : c .km ≤ 5) (
       rw (deciles-back n (omega arith), order-at (1 + c .km + n) (omega arith), twelve-words n (omega arith), q)
       (sym (take-add (12 * n) 12 (c .deciles)))
 
-  points-file : padded 75 (numbersOf old file order 1 15 (c .km)) ≡ c .points
-  points-file =
-      let l : length (take (15 * c .km) (c .points)) ≡ 15 * c .km = length-take-le (15 * c .km) (c .points) (omega (arith, w .five)) in
-      rw (points-back (c .km) (omega arith), l, ← w .unused) (take-append-drop (15 * c .km) (c .points))
+  points-file : padded 75 (numbersOf old file order 1 15 (c .km)) ≡ padded 75 (take (15 * c .km) (c .points))
+  points-file = ap (padded 75) (points-back (c .km) (omega arith))
 
   deciles-file : (b : Bool) → allZero (c .deciles) ≡ b
       → padded 576 (numbersOf old file order (1 + c .km) 12 (N - (1 + c .km))) ≡ c .deciles
@@ -299,8 +294,8 @@ module _ (c : Circuit) (w : Whole c) (some : 1 ≤ c .km) (most : c .km ≤ 5) (
       ap (λ (n : ℕ). padded 576 (numbersOf old file order (1 + c .km) 12 (n - (1 + c .km)))) (length-up N)
       ∙ deciles-file (allZero (c .deciles)) refl
 
-  circuit-file : circuitOf old file (answered (upTo N)) ≡ c
-  unfolding circuitOf
+  circuit-file : circuitOf old file (answered (upTo N)) ≡ heldOf c
+  unfolding circuitOf heldOf
   circuit-file =
       rw (
         head-km,
@@ -313,7 +308,7 @@ module _ (c : Circuit) (w : Whole c) (some : 1 ≤ c .km) (most : c .km ≤ 5) (
         deciles-counted,
       )
 
-  pub read-file : readOf old file ≡ record { outcome = Outcome.Answered; circuit = c }
+  pub read-file : readOf old file ≡ record { outcome = Outcome.Answered; circuit = heldOf c }
   read-file =
       read-answered file (answered (upTo N)) (sym chain-file) refl
       ∙ ap {B = ReadAnswer} (λ (x : Circuit). record { outcome = Outcome.Answered; circuit = x }) circuit-file
@@ -324,25 +319,38 @@ written-by true false m n e = absurd (let z : _≡_ {A = ℕ} 0 1 = cc in omega 
 written-by false r m n e = absurd (let z : _≡_ {A = ℕ} 0 1 = cc in omega arith)
 
 module _ (c : Circuit) (out : List ℕ) (n : ℕ) (e : answerOf old c out ≡ WriteAnswer.Written n) where
-  pub taken : (goodOf c ≡ true) × (leb (64 * recordsOf c) (length out) ≡ true) × (64 * recordsOf c ≡ n)
+  taken : (goodOf c ≡ true) × (leb (64 * recordsOf c) (length out) ≡ true) × (64 * recordsOf c ≡ n)
   unfolding answerOf
   taken = written-by (goodOf c) (leb (64 * recordsOf c) (length out)) (64 * recordsOf c) n e
 
-  -- the length written: 64 bytes for record 0, for each point, and for the 48 of kind 3 where they are written
-  pub written-length : n ≡ 64 * recordsOf c
-  written-length = sym (taken .2)
-
-  pub written-file : take n (leftOf old c out) ≡ fileOf old c
-  unfolding leftOf fileOf
-  written-file =
-      rw (taken .0, taken .1)
-      (take-at (entriesOf old c (recordsOf c) (recordsOf c)) (drop (64 * recordsOf c) out) n
-      (length-entries c (recordsOf c) (recordsOf c) ∙ taken .2))
-
-  -- the circuit that the writer took is read back from the bytes that it wrote, every number by its bits
-  pub read-written : Whole c → readOf old (take n (leftOf old c out)) ≡ record { outcome = Outcome.Answered; circuit = c }
-  read-written w =
+  -- km and shape, as the writer tested them
+  pub in-range : (1 ≤ c .km) × (c .km ≤ 5) × (c .shape ≤ 1)
+  in-range =
       let g = both (leb 1 (c .km)) (leb (c .km) 5 && leb (c .shape) 1) (taken .0) in
       let h = both (leb (c .km) 5) (leb (c .shape) 1) (g .1) in
-      ap (readOf old) written-file
-      ∙ read-file c w (leb-true _ _ (g .0)) (leb-true _ _ (h .0)) (leb-true _ _ (h .1))
+      (leb-true _ _ (g .0), leb-true _ _ (h .0), leb-true _ _ (h .1))
+
+  pub written-file : take n (leftOf old c out) ≡ fileOf old c
+  written-file =
+      ap (take n) (sym (write-good c out (taken .0) (leb-true _ _ (taken .1)) .1))
+      ∙ take-at (fileOf old c) (drop (64 * recordsOf c) out) n (length-file c ∙ taken .2)
+
+  held-same : Whole c → drop (15 * c .km) (c .points) ≡ replicate (75 - 15 * c .km) 0 → heldOf c ≡ c
+  unfolding heldOf
+  held-same w z =
+      let l : length (take (15 * c .km) (c .points)) ≡ 15 * c .km
+      = length-take-le (15 * c .km) (c .points) (omega (arith, w .five, in-range .1)) in
+      let p : padded 75 (take (15 * c .km) (c .points)) ≡ c .points = rw (l, ← z) (take-append-drop (15 * c .km) (c .points)) in
+      rw p refl
+
+pub written-length : WrittenLength
+written-length c out n e = sym (taken c out n e .2)
+
+pub read-written : ReadWritten
+read-written c out n w e =
+    let t = in-range c out n e in ap (readOf old) (written-file c out n e) ∙ read-file c w (t .0) (t .1) (t .2)
+
+pub read-same : ReadSame
+read-same c out n w e z =
+    read-written c out n w e
+    ∙ ap {B = ReadAnswer} (λ (x : Circuit). record { outcome = Outcome.Answered; circuit = x }) (held-same c out n e w z)

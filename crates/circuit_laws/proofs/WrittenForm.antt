@@ -3,23 +3,22 @@
 use Prim.Native.Nat.{ℕ, zero, suc, _+_, _*_, _-_, _/_, _≤_, _<_}
 use mathlib.Core.Path.{_≡_, refl, ap}
 use mathlib.Core.List.{List, [], _∷_, _++_}
-use mathlib.Core.Bool.{Bool, true, false, _&&_}
+use mathlib.Core.Bool.{Bool, true, false}
 use native.Mathlib.Omega.{arith}
 use lib.ListN.{length, take, replicate}
 use lib.Seq.{take-at}
 use lib.Dec.{eqb, leb}
-use borrow.Author.Tests.{leb-true}
 use Rattle.refusal.specs.declared.Outcome.{Outcome}
 use Rattle.circuit.specs.declared.Circuit.{Circuit}
 use Rattle.circuit.specs.declared.ReadAnswer.{ReadAnswer}
 use Rattle.circuit.specs.Record.{old, allZero}
 use Rattle.circuit.specs.Chain.{chainOf}
 use Rattle.circuit.specs.Read.{readOf}
-use Rattle.circuit.proofs.Lists.{both}
-use Rattle.circuit_write.specs.declared.WriteAnswer.{WriteAnswer}
-use Rattle.circuit_write.specs.Written.{halfOf, wordOf, bytesOf, headOf, recordOf, pointAt, twelveAt, decileRecords, recordsOf, nextIn, entryBy, entryOf, entriesOf, fileOf, answerOf, leftOf}
-use Rattle.circuit_laws.specs.Forms.{Each, Whole, InForm, upTo}
-use Rattle.circuit_laws.proofs.ReadWritten.{length-file, chain-file, read-file, taken, written-file}
+use Rattle.circuit_write.specs.Written.{halfOf, wordOf, bytesOf, headOf, recordOf, pointAt, twelveAt, decileRecords, recordsOf, nextIn, entryBy, entryOf, entriesOf, fileOf}
+use Rattle.circuit_write.proofs.Cells.{length-file}
+use Rattle.circuit_laws.specs.Forms.{Each, Whole, heldOf, InForm, upTo}
+use Rattle.circuit_laws.specs.Laws.{WrittenInForm}
+use Rattle.circuit_laws.proofs.ReadWritten.{chain-file, read-file, in-range, written-file}
 
 each-append : (n : ℕ) (l m : List ℕ) → Each n l → Each n m → Each n (l ++ m)
 each-append n [] m p q = q
@@ -75,11 +74,11 @@ module _ (c : Circuit) (w : Whole c) (some : 1 ≤ c .km) (most : c .km ≤ 5) (
   unfolding fileOf
   file-bytes = entries-bytes (recordsOf c) (recordsOf c)
 
-  read-is : readOf old (fileOf old c) ≡ record { outcome = Outcome.Answered; circuit = c }
+  read-is : readOf old (fileOf old c) ≡ record { outcome = Outcome.Answered; circuit = heldOf c }
   read-is = read-file c w some most form
 
   records-are : length (fileOf old c) / 64 ≡ recordsOf c
-  records-are = omega (arith, length-file c w some most form)
+  records-are = omega (arith, length-file c)
 
   order-is : take (chainOf old (fileOf old c) .count) (chainOf old (fileOf old c) .order) ≡ upTo (length (fileOf old c) / 64)
   order-is =
@@ -92,6 +91,7 @@ module _ (c : Circuit) (w : Whole c) (some : 1 ≤ c .km) (most : c .km ≤ 5) (
   written-deciles false e h = refl
 
   pub file-in-form : InForm (fileOf old c)
+  unfolding heldOf
   file-in-form =
       record {
         bytes = file-bytes;
@@ -100,10 +100,6 @@ module _ (c : Circuit) (w : Whole c) (some : 1 ≤ c .km) (most : c .km ≤ 5) (
         deciles = λ h. rw read-is (written-deciles (allZero (c .deciles)) refl (rw (read-is, records-are) at h));
       }
 
--- what the writer left of any cells, up to the length that it answered
-module _ (c : Circuit) (out : List ℕ) (n : ℕ) (e : answerOf old c out ≡ WriteAnswer.Written n) where
-  pub written-in-form : Whole c → InForm (take n (leftOf old c out))
-  written-in-form w =
-      let g = both (leb 1 (c .km)) (leb (c .km) 5 && leb (c .shape) 1) (taken c out n e .0) in
-      let h = both (leb (c .km) 5) (leb (c .shape) 1) (g .1) in
-      rw (written-file c out n e) (file-in-form c w (leb-true _ _ (g .0)) (leb-true _ _ (h .0)) (leb-true _ _ (h .1)))
+pub written-in-form : WrittenInForm
+written-in-form c out n w e =
+    let t = in-range c out n e in rw (written-file c out n e) (file-in-form c w (t .0) (t .1) (t .2))

@@ -24,6 +24,7 @@ use Rattle.circuit_write.specs.declared.WriteAnswer.{WriteAnswer}
 use Rattle.circuit_write.specs.Written.{recordOf, headOf, pointAt, twelveAt, recordsOf, nextIn, entryOf, entriesOf, fileOf, goodOf, answerOf, leftOf}
 use Rattle.circuit_write.proofs.Cells.{write-good, good-is}
 use Rattle.circuit_laws.specs.Forms.{Each, InForm, upTo}
+use Rattle.circuit_laws.specs.Laws.{WrittenRead}
 use Rattle.circuit_laws.proofs.Back.{all-zeros}
 use Rattle.circuit_laws.proofs.ReadWritten.{each-take, each-drop, length-up, up-at}
 use Rattle.circuit_laws.proofs.Linked.{Ends, linked}
@@ -233,9 +234,8 @@ module _ (f : List ℕ) (w : InForm f) where
   unfolding fileOf
   file-is = rw records-are (entries-are N (omega arith) ∙ take-all (64 * N) f (omega (arith, length-is)))
 
-  -- read and written again, a file in the writer's form has its own bytes
-  pub written-read : fileOf old (readOf old f .circuit) ≡ f
-  written-read = ap (fileOf old) read-is ∙ file-is
+  file-again : fileOf old (readOf old f .circuit) ≡ f
+  file-again = ap (fileOf old) read-is ∙ file-is
 
   good : goodOf c ≡ true
   unfolding circuitOf
@@ -250,13 +250,16 @@ module _ (f : List ℕ) (w : InForm f) where
         × (fileOf old c ++ drop (64 * recordsOf c) out ≡ leftOf old c out)
     wrote = write-good c out good (rw size-is room)
 
-    pub written-answer : answerOf old (readOf old f .circuit) out ≡ WriteAnswer.Written (length f)
-    written-answer =
+    answer-again : answerOf old (readOf old f .circuit) out ≡ WriteAnswer.Written (length f)
+    answer-again =
         ap (λ (x : Circuit). answerOf old x out) read-is ∙ sym (wrote .0) ∙ ap WriteAnswer.Written size-is
 
-    pub written-bytes : take (length f) (leftOf old (readOf old f .circuit) out) ≡ f
-    written-bytes =
+    bytes-again : take (length f) (leftOf old (readOf old f .circuit) out) ≡ f
+    bytes-again =
         ap (λ (x : Circuit). take (length f) (leftOf old x out)) read-is
         ∙ ap (take (length f)) (sym (wrote .1))
         ∙ take-at (fileOf old c) (drop (64 * recordsOf c) out) (length f) (ap length file-is)
         ∙ file-is
+
+pub written-read : WrittenRead
+written-read f w = record { file = file-again f w; answer = answer-again f w; bytes = bytes-again f w }

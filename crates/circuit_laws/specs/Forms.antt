@@ -1,13 +1,14 @@
--- What the laws of the circuit file speak of: a circuit that is a value of its type, and a file in the writer's form.
-use Prim.Native.Nat.{ℕ, zero, suc, _+_, _*_, _-_, _/_, _^_, _<_}
+-- What the laws of the circuit file speak of: a circuit that is a value of its type, what a file holds of it, and a file in the
+-- writer's form.
+use Prim.Native.Nat.{ℕ, zero, suc, _+_, _*_, _/_, _^_, _<_}
 use mathlib.Core.Path.{_≡_}
 use mathlib.Core.List.{List, [], _∷_, _++_}
 use mathlib.Core.Bool.{false}
-use lib.ListN.{length, drop, take, replicate}
+use lib.ListN.{length, take}
 use Rattle.circuit.specs.declared.Circuit.{Circuit}
 use Rattle.refusal.specs.declared.Outcome.{Outcome}
 use Rattle.circuit.specs.Record.{old, allZero}
-use Rattle.circuit.specs.Chain.{chainOf}
+use Rattle.circuit.specs.Chain.{padded, chainOf}
 use Rattle.circuit.specs.Read.{readOf}
 
 -- each number of a list is below n
@@ -15,7 +16,7 @@ abbrev pub Each : ℕ → List ℕ → Type 0
 Each n [] = Unit
 Each n (x ∷ xs) = (x < n) × Each n xs
 
--- every word of a circuit is a u32, its arrays have their lengths, and the points that it does not use are zero
+-- what the type of a circuit says: every word is a u32, and the arrays have their lengths
 pub record Whole (c : Circuit) : Type 0 where
   pub gcd : c .gcd < 2 ^ 32
   pub gcdkm : c .gcdkm < 2 ^ 32
@@ -25,7 +26,21 @@ pub record Whole (c : Circuit) : Type 0 where
   pub deciles : Each (2 ^ 32) (c .deciles)
   pub five : length (c .points) ≡ 75
   pub all : length (c .deciles) ≡ 576
-  pub unused : drop (15 * c .km) (c .points) ≡ replicate (75 - 15 * c .km) 0
+
+-- A circuit is the numbers of record 0, its km points of fifteen words and the 576 deciles. The words past its km points are
+-- no part of it: here they are zero.
+unfoldable pub heldOf : Circuit → Circuit
+heldOf c =
+    record {
+      km = c .km;
+      shape = c .shape;
+      gcd = c .gcd;
+      gcdkm = c .gcdkm;
+      amind = c .amind;
+      ssn = c .ssn;
+      points = padded 75 (take (15 * c .km) (c .points));
+      deciles = c .deciles;
+    }
 
 -- 0, 1, 2, .., n - 1
 unfoldable pub upTo : ℕ → List ℕ

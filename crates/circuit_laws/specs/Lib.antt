@@ -1,2 +1,3 @@
 pub mod OnChain
 pub mod Forms
+pub mod Laws

@@ -6,7 +6,7 @@ use native.Mathlib.Omega.{arith}
 use native.Mathlib.Numerals.{add-one}
 use native.Mathlib.Nat.{add-sub-cancel-left}
 use lib.ListN.{length, getD, take, drop, set, replicate, length-take, length-replicate, length-append, length-drop, drop-of-length-le}
-use lib.Seq.{take-at, drop-at, drop-drop, take-suc, length-take-le}
+use lib.Seq.{take-at, drop-at, take-all, drop-drop, take-suc, length-take-le}
 use mathlib.Core.Bool.{Bool, true, false}
 use lib.Dec.{eqb, leb}
 use borrow.Author.Tests.{eq-eqb, ne-eqb, le-leb, lt-leb}
@@ -155,6 +155,10 @@ unfolding entriesOf
 length-entries c n zero = omega arith
 length-entries c n (suc k) = simp (length-append, length-entries c n k, length-entry) (omega arith)
 
+pub length-file : (c : Circuit) → length (fileOf old c) ≡ 64 * recordsOf c
+unfolding fileOf
+length-file c = length-entries c (recordsOf c) (recordsOf c)
+
 -- one more record put
 pub entry-more : (c : Circuit) (n i : ℕ) (l l₀ ys : List ℕ) → l ≡ entriesOf old c n i ++ drop (64 * i) l₀
     → ys ≡ entryOf old c n i
@@ -206,7 +210,10 @@ module _ (c : Circuit) (out : List ℕ) where
       → (WriteAnswer.Written (64 * recordsOf c) ≡ answerOf old c out)
       × (fileOf old c ++ drop (64 * recordsOf c) out ≡ leftOf old c out)
   unfolding answerOf leftOf
-  write-good e h = let t = le-leb (64 * recordsOf c) (length out) h in (rw (e, t), rw (e, t))
+  write-good e h =
+      let t = le-leb (64 * recordsOf c) (length out) h in
+      let all = take-all (64 * recordsOf c) (fileOf old c) (omega (arith, length-file c)) in
+      (rw (e, t), rw (e, t, all))
 
 pub good-is : (c : Circuit) → 1 ≤ c .km → c .km ≤ 5 → c .shape ≤ 1 → goodOf c ≡ true
 good-is c a b d = rw (le-leb 1 (c .km) a, le-leb (c .km) 5 b, le-leb (c .shape) 1 d)

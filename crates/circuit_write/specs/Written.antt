@@ -90,16 +90,7 @@ answerBy true true n = WriteAnswer.Written n
 unfoldable pub answerOf : Form → Circuit → List ℕ → WriteAnswer
 answerOf o c out = answerBy (goodOf c) (leb (sizeOf o c) (length out)) (sizeOf o c)
 
-abbrev pub leftBy : Bool → List ℕ → List ℕ → List ℕ
-leftBy true written out = written
-leftBy false written out = out
-
--- the cells lent, afterwards: those past the file's end, and all of them at a refusal, are as they were
-unfoldable pub leftOf : Form → Circuit → List ℕ → List ℕ
-leftOf o c out =
-    leftBy (goodOf c && leb (sizeOf o c) (length out)) (fileOf o c ++ drop (sizeOf o c) out) out
-
--- the paper's number and the length, for every case of the answer
+-- document 01's number, and the bytes written, for every case of the answer
 abbrev pub numberIn : WriteAnswer → ℕ
 numberIn (WriteAnswer.Written n) = 0
 numberIn (WriteAnswer.Refused r) = numberOf r
@@ -107,3 +98,8 @@ numberIn (WriteAnswer.Refused r) = numberOf r
 abbrev pub lengthIn : WriteAnswer → ℕ
 lengthIn (WriteAnswer.Written n) = n
 lengthIn (WriteAnswer.Refused r) = 0
+
+-- the cells lent, afterwards: as many as were written hold the file, those past its end, and all of them at a refusal, are as
+-- they were
+unfoldable pub leftOf : Form → Circuit → List ℕ → List ℕ
+leftOf o c out = let n = lengthIn (answerOf o c out) in take n (fileOf o c) ++ drop n out
