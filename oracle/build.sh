@@ -1,6 +1,6 @@
 #!/bin/sh
-# Proves and archives the export crates and the programs that are there, then
-# builds the oracle.
+# Proves and archives the export crates, proves the programs, then builds the
+# oracle. A crate that is not there is named and passed over.
 # The Rust source is read from HFCAST_SRC, or from shared/docs/src beside the
 # repository.
 set -e

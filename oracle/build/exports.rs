@@ -1,6 +1,6 @@
-//! Wrappers for what our static libraries export. A function whose library
-//! isn't built, or doesn't have it yet, gets a stand-in and is listed as
-//! missing, so that the programs can say so and run the rest.
+//! Wrappers for what our static libraries export. A function that no built
+//! library has gets a stand-in and is listed as missing, so that the programs
+//! can say so and run the rest.
 
 use std::fs;
 use std::path::Path;

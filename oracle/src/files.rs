@@ -1,5 +1,5 @@
-//! Circuit files of every kind: valid, permuted, with rubbish off the chain,
-//! damaged, and random.
+//! Circuit files of every kind: valid, permuted, with any bytes off the
+//! chain, damaged, and random.
 
 use crate::circuit::{zeros, Circuit, DECILES, DECILE_RECORDS, POINT, RECORD};
 use crate::random::Random;
@@ -37,7 +37,8 @@ fn deciles(r: &mut Random) -> Vec<u32> {
     d
 }
 
-/// A file that holds the circuit, its chain in any order among rubbish.
+/// A file that holds the circuit, its chain in any order among records of
+/// any bytes.
 pub fn permuted(r: &mut Random, circuit: &Circuit) -> Vec<u8> {
     let with_deciles = !zeros(&circuit.deciles) || r.once_in(4);
     let deciles = if with_deciles { DECILE_RECORDS } else { 0 };

@@ -7,7 +7,8 @@ pub fn has(name: &str) -> bool {
     !MISSING.contains(&name)
 }
 
-/// Says LOUDLY which of `names` no library has; whether all are there.
+/// Prints which of `names` no library has, lest they pass for compared; answers
+/// whether all are there.
 pub fn all_built(names: &[&str]) -> bool {
     let missing: Vec<&&str> = names.iter().filter(|n| !has(n)).collect();
     for name in &missing {
@@ -28,7 +29,8 @@ const ROUTES: [&str; 8] = [
     "scalar_max",
 ];
 
-/// Says LOUDLY which routes end in a stand-in.
+/// Prints which routes end in a stand-in: there the routed Rust does not call
+/// ours.
 pub fn warn_of_stand_ins() {
     for name in ROUTES.iter().filter(|n| !has(n)) {
         println!("**** {name} IS NOT BUILT: THE ROUTED RUST CALLS A STAND-IN ****");

@@ -324,7 +324,7 @@ pub fn any_path(r: &mut Random) -> [f32; 4] {
     }
 }
 
-/// An Es row: lower decile, median, upper decile, height.
+/// An Es row: three of `fs`, then `hs`.
 pub fn es_row(r: &mut Random) -> [f32; 4] {
     let median = r.tabled(0.5, 8.0);
     let row = [median * 0.6, median, median * 1.5, 110.0];

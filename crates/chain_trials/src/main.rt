@@ -1,4 +1,5 @@
-// What `chain` prints of files of every refusal and of unusual chains. The stored output has the paper's answers.
+// What `chain` prints of files of every refusal that it gives, and of unusual chains. The stored output has the
+// paper's answers.
 ghost use Prim.Native.Nat.{_<_, _≤_};
 
 // Record n has this kind and next index.

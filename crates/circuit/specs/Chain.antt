@@ -1,4 +1,4 @@
--- The chain of a circuit file: where it leads, and where it is turned away, in document 01's order.
+-- The chain of a circuit file: where it leads, and where it is turned away, in the paper's order.
 use Prim.Native.Nat.{ℕ, zero, suc, _+_, _*_, _-_, _/_, _%_}
 use mathlib.Core.List.{List, [], _∷_, _++_}
 use mathlib.Core.Bool.{Bool, true, false, _&&_, _||_, not}
@@ -70,7 +70,7 @@ byStep Step.End e on = e
 byStep (Step.To n) e on = on n
 byStep Step.Astray e on = refused Refusal.ChainStep
 
--- The record that `left` more may follow: a point while all 48 of kind 3 are to come, else one of these.
+-- The record that `left` more may follow: a point while all 48 of kind 3 are left, else one of these.
 abbrev pub soundBy : Form → Bool → List ℕ → Bool
 soundBy o true r = fits 2 (o .point) r
 soundBy o false r = fits 3 12 r

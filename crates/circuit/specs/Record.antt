@@ -1,4 +1,4 @@
--- A record of a circuit file, and the numbers in it, least significant byte first (document 01, "Circuit file").
+-- A record of a circuit file, and the numbers in it, least significant byte first (the paper, "Circuit file").
 use Prim.Native.Nat.{ℕ, zero, suc, _+_, _*_}
 use mathlib.Core.List.{List, [], _∷_, _++_}
 use mathlib.Core.Bool.{Bool, true, _&&_}

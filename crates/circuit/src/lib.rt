@@ -86,7 +86,7 @@ pub fn has_deciles(c: Circuit) -> bool
     !numbers::all_zero(&d)
 }
 
-// The flat decile table. It stays as it is made where the chain had no record of kind 3.
+// The flat decile table. It stays as it is made where every decile is +0, as without records of kind 3.
 pub fn decile_table(c: Circuit) -> [f32; 576]
     ensures { λ t. ⌜ t ≡ map (ofBits binary32) (c .deciles) ⌝ }
 {

@@ -1,4 +1,4 @@
--- The sheet of a circuit file. MUF and slot sheets each start from the slots as `ionset` left them, over the state that `from_layers` makes of the points. Document 01: 1 to 4 for the file, then 7, then the MUF's refusals.
+-- The sheet of a circuit file. MUF and slot sheets each start from the slots as `ionset` left them, over the state that `from_layers` makes of the points. The paper's refusals: 1 to 4 for the file, then 7, then the MUF's.
 use mathlib.Core.Bool.{Bool, true, false}
 use mathlib.Core.List.{List, [], _∷_, map}
 use Prim.Native.Nat.{ℕ, _+_, _*_}

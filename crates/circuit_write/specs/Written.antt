@@ -1,4 +1,4 @@
--- The file that holds a circuit, and what the writer answers and leaves (document 01, "Circuit file").
+-- The file that holds a circuit, and what the writer answers and leaves (the paper, "Circuit file").
 use Prim.Native.Nat.{ℕ, zero, suc, _+_, _*_, _-_, _/_, _%_}
 use mathlib.Core.List.{List, [], _∷_, _++_}
 use mathlib.Core.Bool.{Bool, true, false, _&&_}

@@ -1,4 +1,4 @@
--- `f2dis`: the standard deviation of the F2 MUF. With no table (its first number at most 0) the classical value; else by time block, sunspot row, hemisphere, latitude and the half of the distribution in which `freq` lies.
+-- `f2dis`: how far the F2 MUF spreads about its median, as a standard deviation. With no table (its first number at most 0) the classical value; else by time block, sunspot row, hemisphere, latitude and the half of the distribution in which `freq` lies.
 use mathlib.Core.Bool.{Bool, true, false}
 use mathlib.Core.List.{List}
 use Prim.Native.Nat.{ℕ, _+_, _*_, _-_}
@@ -91,7 +91,7 @@ lengthBy false f2d fmuf ssn clat freq abb = Deviation.Refused Refusal.MufLists
 unfoldable pub f2disOf : List Float → Float → Float → Float → Float → Float → Deviation
 f2disOf f2d fmuf ssn clat freq abb = lengthBy (eqb (length f2d) 576) f2d fmuf ssn clat freq abb
 
--- document 01's number of each case, 0 for an answer, and the value, +0 beside a refusal
+-- the paper's number of each case, 0 for an answer, and the value, +0 beside a refusal
 abbrev pub deviationNumber : Deviation → ℕ
 deviationNumber (Deviation.Value x) = 0
 deviationNumber (Deviation.Refused r) = numberOf r

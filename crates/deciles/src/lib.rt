@@ -1,4 +1,4 @@
-// The standard deviation of the F2 MUF, from the table of its deciles.
+// How far the F2 MUF spreads about its median, as a standard deviation out of the decile table.
 ghost use mathlib.Core.Path.{_≡_};
 ghost use Prim.Native.Nat.{_<_, _≤_};
 ghost use Rattle.deciles.specs.F2dis.{sunspotRowOf, jOf, iOf, iclOf, timeBlockOf, iccOf, placeOf, classicalOf, spreadOf, f2disOf};
@@ -80,7 +80,7 @@ fn place(icc: usize, j: usize, iz: usize) -> usize
     ((icc - 1) * 6 + (j - 1)) * 16 + (iz - 1)
 }
 
-// What is taken where there is no table.
+// Without a table a decile is taken to lie 15 percent of the MUF away from it.
 fn classical(fmuf: f32) -> f32
     ensures { λ r. ⌜ r ≡ classicalOf fmuf ⌝ }
 {
@@ -95,7 +95,7 @@ fn spread(fmuf: f32, decile: f32) -> f32
     scalar::max(sig, 0.001)
 }
 
-// `clat` in radians; `abb` is local mean time, in hours.
+// `abb` is the point's clock, in hours of local mean time, and `clat` its latitude in radians.
 pub fn f2dis(f2d: &[f32], fmuf: f32, ssn: f32, clat: f32, freq: f32, abb: f32) -> Deviation
     ensures { λ r. ⌜ r ≡ f2disOf (now (f2d .entry)) fmuf ssn clat freq abb ⌝ }
 {

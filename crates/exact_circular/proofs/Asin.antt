@@ -286,7 +286,7 @@ near-bits b B =
     meet : (a : ℕ) → 0x3f80_0000 ≤ a → a ≤ 0x3f80_0000 → a ≡ 0x3f80_0000
     meet a l h = omega arith
 
--- THE THEOREM: for every f32
+-- the theorem, for every f32
 pub asin-near : (x : Float) → T (fits binary32 x) → NearAsin x (asinOf x)
 unfolding asinOf
 asin-near x F = subst (λ (y : Float). NearAsin y (ofBits binary32 (asinBits (toBits binary32 x)))) (ofBits-toBits binary32 x F) (near-bits (toBits binary32 x) (toBits-lt binary32 x F))

@@ -148,6 +148,6 @@ atanOf-is : (x : Float) → atanOf x ≡ ofBits binary32 (atanBits (toBits binar
 unfolding atanOf
 atanOf-is x = refl
 
--- THE THEOREM: for every f32
+-- the theorem, for every f32
 pub atan-near : (x : Float) → T (fits binary32 x) → NearAtan x (atanOf x)
 atan-near x F = subst₂ (λ (y z : Float). NearAtan y z) (ofBits-toBits binary32 x F) (sym (atanOf-is x)) (near-bits (toBits binary32 x) (toBits-lt binary32 x F))

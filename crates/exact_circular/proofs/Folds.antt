@@ -145,7 +145,7 @@ module _ (n : ℕ) (h : n ≤ 2 ^ 63) (a b u : ℕ) where
   any-limit sine k = sin-limit k
   any-limit cosine k = cos-limit k
 
--- THE FOLD: with the sine's sign, or with the other one
+-- the fold: with the sine's sign, or with the other one
 module _ (w : Kind) (x r : ℕ) (X : x ≤ 2 ^ 63) (R : r < 2 ^ 62) where
   pub fold-plus : Alike (part (first w) x) (part (second w) x) (part 1 r) (part 3 r) gap → Limit (Kat (shift w)) x (2 ^ 61) (top w x) (bottom w (2 ^ 61)) 9 (2 ^ 93) (ratioOf r * r) 0 (20 * r + 2 ^ 37 + 2 ^ 30)
   fold-plus A = any-limit x X (ratioOf r * r) 0 (20 * r + 2 ^ 37) w (alike-close (ratioOf r * r) (20 * r) (part (first w) x) (part (second w) x) (part 1 r) (part 3 r) whole gap gap-small A (small-close r R))

@@ -84,7 +84,7 @@ cos-nan nan = tt
 cos-nan (inf s) = tt
 cos-nan (fin s m e) = tt
 
--- THE THEOREMS: for every f32
+-- the theorems, for every f32
 pub sin-literal : (x : Float) → T (fits binary32 x) → LiteralSin x (sinOf x)
 unfolding sinOf
 sin-literal x F =

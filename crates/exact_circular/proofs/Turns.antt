@@ -513,7 +513,7 @@ module _ (x r : ℕ) (X : x ≤ 5 * 2 ^ 61) (R : r ≤ 2 ^ 62) where
         cosine-less-three whole rest δ (part 0 x) (part 1 x) (part 2 x) (part 3 x) (part 0 r) (part 1 r) (part 2 r) (part 3 r) (part 0 p) (part 1 p) (part 2 p) (part 3 p) whole-pos (up-to-five x 0 X (lit< tt)) (up-to-five x 1 X (lit< tt)) (up-to-five x 2 X (lit< tt)) (up-to-five x 3 X (lit< tt)) four
         (sums-at 0 _ (sum-0 x r X r-five T')) (sums-at 1 _ (sum-1 x r X r-five T')) (sums-at 2 _ (sum-2 x r X r-five T')) (sums-at 3 _ (sum-3 x r X r-five T')) (circle r r-five .0) (circle r r-five .1) (f .0) (f .1) (f .2) (f .3)
 
-  -- THE FIVE FOLDS
+  -- the five folds
   pub sin-below-half : x + r ≡ halfTurn → AlikeAt 1 3
   sin-below-half e = sine-turn halfTurn (lit≤ tt) e half-facts
 

@@ -400,7 +400,7 @@ near-bits w b B =
 near-wave : (w : Kind) (x : Float) → T (fits binary32 x) → NearWave w x (ofBits binary32 (waveBits w (toBits binary32 x)))
 near-wave w x F = subst (λ (y : Float). NearWave w y (ofBits binary32 (waveBits w (toBits binary32 x)))) (ofBits-toBits binary32 x F) (near-bits w (toBits binary32 x) (toBits-lt binary32 x F))
 
--- THE THEOREMS: for every f32
+-- the theorems, for every f32
 pub sin-near : (x : Float) → T (fits binary32 x) → NearSin x (sinOf x)
 unfolding sinOf
 sin-near x F = is-sin x (ofBits binary32 (waveBits sine (toBits binary32 x))) (near-wave sine x F)

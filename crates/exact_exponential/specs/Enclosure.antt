@@ -1,4 +1,4 @@
--- e ^ x enclosed by two fractions, for a reader: a partial sum of the power series at x, and the same with its last term once more, which is more than all later terms together. Definitions only.
+-- e ^ x enclosed by two fractions: a partial sum of the power series at x, and the same with its last term once more, which is more than all later terms together. Definitions only.
 -- With x = n / d the terms up to number N come to num one n d N / full d N, and the last of them is n ^ N / full d N (crate `series`).
 use Prim.Native.Nat.{ℕ, suc, _+_, _*_, _^_, _≤_, _<_}
 use mathlib.Core.Bool.{true, false}

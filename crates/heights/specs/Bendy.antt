@@ -1,4 +1,4 @@
--- `bendy` and `pen`: what a parabolic layer i of slot k adds to the virtual height, below its critical frequency and above it.
+-- `bendy` and `pen`: how much a parabolic layer i of slot k raises the virtual height of a frequency that it reflects, and of one that passes through it.
 use mathlib.Core.Bool.{Bool, true, false}
 use mathlib.Core.List.{List, [], _∷_}
 use Prim.Native.Nat.{ℕ, _+_, _*_}
@@ -32,7 +32,7 @@ bendyAnswer s i k f = answerBy (ltb 2 i) (ltb 2 k) (bendyOf s i k f)
 unfoldable pub penAnswer : IonoState → ℕ → ℕ → Float → LayerNumber
 penAnswer s i k f = answerBy (ltb 2 i) (ltb 2 k) (penOf s i k f)
 
--- ---- document 01's number and values of each case
+-- ---- the paper's number and values of each case
 unfoldable pub layerNumberOf : LayerNumber → ℕ
 layerNumberOf (LayerNumber.Value v) = 0
 layerNumberOf (LayerNumber.Refused r) = numberOf r

@@ -1,4 +1,4 @@
--- `gethp`: the virtual and the true height of a vertical frequency, off the density profile, with the cursor that document 01 adds.
+-- `gethp`: the virtual and the true height of a vertical frequency, off the density profile, with the cursor that the paper adds.
 -- The densities are those of forty full scans. On a rising profile the code reads them by one walk; that this is the same is proved (`walk-is-scan`).
 use mathlib.Core.Bool.{Bool, true, false}
 use mathlib.Core.List.{List}
@@ -43,7 +43,7 @@ gethpBy false htr fnsq fr ysq cursor =
     let hp = hpOf (ysq ht) 20 in
     record { hp = at htr 0 +f hrmz *f hp; ht = at htr 0 +f ht; cursor = cursor ht }
 
--- the cursor after the last read: document 01's count where the heights rise, and 0 where no walk runs
+-- the cursor after the last read: the paper's count where the heights rise, and 0 where no walk runs
 unfoldable pub cursorBy : Bool → List Float → Float → ℕ
 cursorBy true htr ht = countOf htr (heightAt (at htr 0) ht 39)
 cursorBy false htr ht = 0

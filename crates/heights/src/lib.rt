@@ -1,4 +1,5 @@
-// Heights off the density profile: port of GETHP, by 20-point Gaussian integration.
+// Heights of a vertical frequency: off the profile by a Gauss rule (`gethp`) or by interpolation
+// (`xlin`); and what bending and delay in a parabolic layer come to (`bendy`, `pen`).
 ghost use mathlib.Core.Path.{_≡_};
 ghost use Prim.Native.Nat.{_<_};
 ghost use lib.Dec.{eqb};
@@ -19,15 +20,14 @@ use readings::value;
 use refusal::Refusal;
 
 pub struct Heights {
-    // virtual height, km
+    // virtual and true, in km
     pub hp: f32,
-    // true height, km
     pub ht: f32,
     // the walk's cursor after its last read; 0 where no walk ran
     pub cursor: usize,
 }
 
-// 20-point Gauss abscissas.
+// The positive abscissas of the Gauss rule with forty nodes; the others are their negatives.
 const XT: [f32; 20] = [
     0.0387724175,
     0.1160840707,
@@ -51,7 +51,7 @@ const XT: [f32; 20] = [
     0.9982377097,
 ];
 
-// The matching weights.
+// The weight of each, and of its negative.
 const WT: [f32; 20] = [
     0.0775059480,
     0.0770398182,
@@ -211,7 +211,7 @@ fn mup(ysq: f32) -> f32
     1.0 / scalar::sqrt(1.0 - ysq)
 }
 
-// The sum in `ig` order from 0: the order in which terms are added decides the last bits.
+// From `ig` 0 up, as in the Rust: another order of the sum would be rounded otherwise.
 fn quadrature(ysq: &[f32; 40], wts: &[f32; 20]) -> f32
     requires { ⌜ now wts ≡ wt ⌝ }
     ensures { λ r. ⌜ r ≡ hpOf (flat (now (ysq .entry))) 20 ⌝ }
@@ -284,7 +284,9 @@ pub fn gethp_scan(s: IonoState, fxx: f32) -> Heights
     gethp_read(&htr, &fnsq, false, fxx)
 }
 
-// Linear interpolation of `yn` at `x` over the grid `xn`, with the Fortran's handling of level and falling segments.
+// The number of `yn` that goes with `x`, on the line between the neighbours of `x` in `xn`; the
+// first one where `x` is below the first of `xn`. Level and falling segments are treated as by
+// `profile_interpolate`.
 pub fn xlin(x: f32, xn: &[f32; 50], yn: &[f32; 50]) -> f32
     ensures { λ r. ⌜ r ≡ xlinOf x (now (xn .entry)) (now (yn .entry)) ⌝ }
 {
@@ -321,7 +323,8 @@ pub fn pen_at(s: IonoState, i: usize, k: usize, f: f32) -> f32
     s.yi[n] * l * x
 }
 
-// The bending that the parabolic layer `i` of slot `k` adds to the virtual height.
+// How much the virtual height of a frequency is raised by the parabolic layer `i` of slot `k` that
+// reflects it.
 pub fn bendy(s: IonoState, i: usize, k: usize, f: f32) -> LayerNumber
     ensures { λ r. ⌜ r ≡ bendyAnswer s i k f ⌝ }
 {
@@ -334,7 +337,7 @@ pub fn bendy(s: IonoState, i: usize, k: usize, f: f32) -> LayerNumber
     LayerNumber::Value(bendy_at(s, i, k, f))
 }
 
-// The retardation that the parabolic layer `i` of slot `k` adds where it lies below the reflection.
+// The same for a frequency that the layer lets through, delayed, to a higher one.
 pub fn pen(s: IonoState, i: usize, k: usize, f: f32) -> LayerNumber
     ensures { λ r. ⌜ r ≡ penAnswer s i k f ⌝ }
 {

@@ -1,4 +1,4 @@
--- `hop_geometry` of the Rust, with document 01's refusal of a hop count outside 0 to 999.
+-- `hop_geometry` of the Rust, with the paper's refusal of a hop count outside 0 to 999.
 use mathlib.Core.Bool.{Bool, true, false}
 use lib.IntN.{ℤ, pos, _+ℤ_}
 use lib.Signed.{ltZ}
@@ -41,7 +41,7 @@ hopsBy false false nhops = Hops.Count (ofInt binary32 (nhops +ℤ pos 1))
 unfoldable pub hopsOf : Float → Float → Float → Hops
 hopsOf gcdkm amind h = let nhops = truncOf (hopRatioOf gcdkm amind h) in hopsBy (ltZ nhops (pos 0)) (ltZ (pos 999) nhops) nhops
 
--- split_first: the E and F1 sections
+-- split_first: E and F1, where two divisions are rounded
 abbrev pub psiOf : Float → Float → Bool → Float
 psiOf gcdkm xhops true = let p = gcdkm /f (f2 *f RZ) in p /f xhops
 psiOf gcdkm xhops false = gcdkm /f ((f2 *f RZ) *f xhops)

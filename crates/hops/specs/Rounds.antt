@@ -1,4 +1,4 @@
--- The correction to Martyn's theorem, round after round: the `loop` of the Rust's F1 and F2 sections.
+-- What Martyn's theorem lacks, made up round after round: the `loop` of the Rust's F1 and F2 sections.
 use mathlib.Core.Bool.{Bool, true, false}
 use Prim.Native.Nat.{ℕ, zero, suc}
 use lib.Ieee.{Float}

@@ -1,4 +1,4 @@
-// One layer's hop geometry, and the rounds that correct its MUF for the bent path.
+// The hops of a path by one layer, their angles, and the rounds that correct the MUF for bending.
 ghost use mathlib.Core.Path.{_≡_};
 ghost use Rattle.hops.specs.Geometry.{hopRatioOf, hopsOf, psiOf, delOf, spheOf, secpOf, hopGeometryOf, geometryOf};
 ghost use Rattle.hops.specs.Rounds.{sphOf, roundOf, settledOf, roundsOf};
@@ -79,7 +79,7 @@ pub fn hop_count(gcdkm: f32, amind: f32, h: f32) -> Hops
     Hops::Count(xhops)
 }
 
-// The E and F1 sections round twice here, the F2 section once.
+// Divided in two steps for E and F1 and in one for F2, as the Rust does: the last bits differ.
 fn half_angle(gcdkm: f32, xhops: f32, split_first: bool) -> f32
     ensures { λ r. ⌜ r ≡ psiOf gcdkm xhops «split_first» ⌝ }
 {
@@ -147,7 +147,7 @@ pub fn hop_geometry(gcdkm: f32, amind: f32, hp: f32, ht: f32, split_first: bool)
     }
 }
 
-// What Martyn's theorem adds to the virtual height at the frequency of the round before.
+// What the virtual height needs beyond Martyn's theorem, at the frequency of the round before.
 fn correction(p: Ray, t: Round) -> f32
     ensures { λ r. ⌜ r ≡ sphOf p t ⌝ }
 {

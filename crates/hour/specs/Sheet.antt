@@ -1,4 +1,4 @@
--- The slot sheet: `lecden`, `genion`, `fobby` and `alosfv` of slot k in turn, with a layer table given. Document 01: 6 for a slot above 2, then 8 for over 40 angles or fewer than 30 cells an angle.
+-- The slot sheet: `lecden`, `genion`, `fobby` and `alosfv` of slot k in turn, with a layer table given. The paper's refusals: 6 for a slot above 2, then 8 for over 40 angles or fewer than 30 cells an angle.
 use mathlib.Core.Bool.{Bool, true, false}
 use mathlib.Core.List.{List}
 use Prim.Native.Nat.{ℕ}

@@ -1,4 +1,4 @@
--- The elevation angles of the scan, and `sang`: how many of them apply to a path. Document 01: 7 where the truncated gcdkm / 2000 + 1 is below 1.
+-- The elevation angles of the scan, and `sang`: how many of them apply to a path. The paper's refusal: 7 where the truncated gcdkm / 2000 + 1 is below 1.
 use mathlib.Core.Bool.{Bool, true, false}
 use mathlib.Core.List.{List, [], _∷_}
 use Prim.Native.Nat.{ℕ, zero, suc, _+_, _-_}
@@ -21,7 +21,7 @@ ANG =
     f26 ∷ f28 ∷ f30 ∷ f32 ∷ f34 ∷ f36 ∷ f38 ∷ f40 ∷ f42 ∷ f44 ∷ f46 ∷ f48 ∷ f50 ∷ f52 ∷ f54 ∷ f56 ∷
     f60 ∷ f65 ∷ f70 ∷ f75 ∷ f80 ∷ f85 ∷ f89·99 ∷ []
 
--- how many of the angles apply, by steps of 2000 km
+-- the count of angles for each step of 2000 km: a longer path has flat rays only
 unfoldable pub NANGX : List ℕ
 NANGX = 40 ∷ 34 ∷ 29 ∷ 24 ∷ 19 ∷ 14 ∷ 12 ∷ 9 ∷ []
 
@@ -43,7 +43,7 @@ unfoldable pub raisedFrom : Float → ℕ → ℕ → ℕ
 raisedFrom amind zero i = 40
 raisedFrom amind (suc n) i = raisedBy (at ANG i -f f8·5 -f amind ≥f f0) (i + 1) (raisedFrom amind n (i + 1))
 
--- raised only if the least takeoff angle asks for it
+-- counted again where the last angle is less than 10 degrees above a least takeoff angle above 0
 abbrev pub countBy : Bool → Bool → Float → ℕ → ℕ
 countBy true true amind iang = raisedFrom amind 40 0
 countBy true false amind iang = iang

@@ -1,4 +1,4 @@
--- `fobby`: the reflectrix. A cell is the oblique frequency in kHz, cut to a whole number, for an angle of the scan and a row of the ionogram. Document 01: 8 for over 40 angles or fewer than 30 cells an angle.
+-- `fobby`: the reflectrix. A cell is the oblique frequency in kHz, cut to a whole number, for an angle of the scan and a row of the ionogram. The paper's refusal: 8 for over 40 angles or fewer than 30 cells an angle.
 use mathlib.Core.Bool.{Bool, true, false, _&&_}
 use mathlib.Core.List.{List}
 use Prim.Native.Nat.{ℕ, zero, suc, _+_, _*_}

@@ -1,4 +1,4 @@
--- `selmod`: which slot controls the ray-path calculations.
+-- `selmod`: the slot by which ray paths are worked out, at an end of the path: the one with the lower F2, or with the lower E where F2 is alike.
 use mathlib.Core.Bool.{Bool, true, false}
 use Prim.Native.Nat.{ℕ}
 use lib.Dec.{eqb}
@@ -19,7 +19,7 @@ threeBy false s delfi = slotIf (delfi >f f0) 2
 
 abbrev pub selmodBy : Bool → Bool → IonoState → ℕ
 selmodBy true _ s = 0
--- the two slots share the F layer, so the E layer decides
+-- `ionset` gave both slots one F2, so E tells them apart
 selmodBy false true s = slotIf (at (s .fi) 0 >f at (s .fi) 3) 1
 selmodBy false false s =
     let delfi = at (s .fi) 2 -f at (s .fi) 8 in

@@ -50,7 +50,7 @@ const ANG: [f32; 40] = [
     89.99,
 ];
 
-// How many of the angles apply, by steps of 2000 km.
+// The count of angles for each step of 2000 km: a longer path has flat rays only.
 const NANGX: [usize; 8] = [40, 34, 29, 24, 19, 14, 12, 9];
 
 pub fn angle(ia: usize) -> f32
@@ -93,7 +93,7 @@ fn raised(amind: f32) -> usize
     40
 }
 
-// Raised only if the least takeoff angle asks for it.
+// Counted again where the last angle is less than 10 degrees above a least takeoff angle above 0.
 fn count(amind: f32, iang: usize) -> usize
     requires { ⌜ (0 < iang) × (iang ≤ 40) ⌝ }
     ensures { λ r. ⌜ r ≡ countOf amind iang ⌝ }

@@ -1,4 +1,4 @@
-// Which slot controls the ray-path calculations.
+// `selmod`: the slot by which ray paths are worked out.
 ghost use mathlib.Core.Path.{_≡_};
 ghost use Rattle.ionogram.specs.Selmod.{selmodOf, slotIf};
 use layers::IonoState;

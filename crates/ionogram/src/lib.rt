@@ -1,5 +1,5 @@
-// The ionogram of a slot: its thirty rows, the scan of elevation angles, the slot that controls the
-// ray path, and the reflectrix.
+// The ionogram of a slot: its thirty rows, the scan of elevation angles, the slot that ray
+// paths go by, and the reflectrix.
 mod angles;
 mod control;
 mod reflectrix;
@@ -10,15 +10,15 @@ pub use reflectrix::fobby;
 use refusal::Outcome;
 use refusal::Refusal;
 
-// The thirty rows.
+// The thirty rows, by columns.
 pub struct Ionogram {
-    // vertical sounding frequencies, MHz
+    // the frequency that is sounded, in MHz
     pub fvert: [f32; 30],
-    // virtual heights of reflection, km
+    // its virtual height, in km
     pub hprim: [f32; 30],
-    // true heights of reflection, km
+    // its true height, in km
     pub htrue: [f32; 30],
-    // deviative loss factors
+    // the factor of its deviative loss
     pub afac: [f32; 30],
 }
 

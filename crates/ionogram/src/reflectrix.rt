@@ -1,4 +1,5 @@
-// The reflectrix: oblique frequencies in kHz, thirty cells for each angle of the scan.
+// The reflectrix: for each angle of the scan thirty cells, the oblique frequency of each row in
+// whole kHz.
 ghost use mathlib.Core.Path.{_≡_};
 ghost use Prim.Native.Nat.{_+_, _*_, _<_, _≤_};
 ghost use lib.ListN.{length};

@@ -1,4 +1,4 @@
--- The controlling sample area `ks` of `curmuf`, of the transmitter's slot kt = 0 and the receiver's slot kr. `s .fi` at 3 * k is the E layer of slot k, at 3 * k + 2 its F2 layer.
+-- `ks` of `curmuf`: which slot controls, the transmitter's, kt = 0, or the receiver's, kr. `s .fi` at 3 * k is the E layer of slot k, at 3 * k + 2 its F2 layer.
 use mathlib.Core.Bool.{Bool, true, false}
 use Prim.Native.Nat.{ℕ, _*_}
 use lib.Dec.{leb, eqb}

@@ -75,7 +75,7 @@ parabolicOf t l ks x =
       ht = l .hi2 -f l .yi2 +f l .yi2 *f (f1 -f sqrtOf (f1 -f x .xt2 *f x .xt2));
     }
 
--- iedp < 0, fi1 > 0: NaN is no F1 layer here
+-- iedp < 0, fi1 > 0: a NaN counts as no F1 here
 abbrev pub f2HeightsBy : Bool → Bool → IonoState → Slot → ℕ → Tangents → Pair
 f2HeightsBy true f1 t l ks x = readOf t (x .fx2)
 f2HeightsBy false true t l ks x = readOf t (x .fx2)
@@ -132,7 +132,7 @@ f1OwnBy (Geometry.Refused r) h fc fx1 = LineAnswer.Refused r
 unfoldable pub f1OwnOf : IonoState → Float → Float → Float → Float → LineAnswer
 f1OwnOf t fc fx1 gcdkm amind = let h = readOf t fx1 in f1OwnBy (geometryOf gcdkm amind (h .hp) (h .ht) true) h fc fx1
 
--- fi1 <= 0: no F1 layer, and the E line again; NaN has one here
+-- fi1 <= 0: no F1, and the E line again; here a NaN counts as an F1
 abbrev pub f1LineBy : Bool → IonoState → Slot → Float → LayerMuf → Float → Float → LineAnswer
 f1LineBy true t l fx1 e gcdkm amind = LineAnswer.Found e
 f1LineBy false t l fx1 e gcdkm amind = f1OwnOf t (l .fi1) fx1 gcdkm amind

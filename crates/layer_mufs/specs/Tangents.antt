@@ -12,7 +12,7 @@ use Rattle.layer_mufs.specs.declared.Tangents.{Tangents}
 unfoldable pub xtOf : Float → Float → Float
 xtOf y h = f1 /f sqrtOf (f1 +f f0·5 *f y /f h)
 
--- is there an F1 layer: NaN is none here
+-- is there an F1; a NaN counts as none here
 abbrev pub fx1By : Bool → Slot → Float
 fx1By true l = let xt1 = xtOf (l .yi1) (l .hi1) in xt1 *f l .fi1
 fx1By false l = f0

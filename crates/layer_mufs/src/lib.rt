@@ -1,4 +1,4 @@
-// The E, F2 and F1 lines of a MUF hour, at the controlling sample area.
+// The slot that controls a MUF hour, and its E, F2 and F1 lines.
 ghost use mathlib.Core.Path.{_≡_};
 ghost use Prim.Native.Nat.{_<_};
 ghost use Rattle.layer_mufs.specs.Controlling.{compareE, controllingOf};
@@ -45,7 +45,7 @@ pub struct Pair {
     pub ht: f32,
 }
 
-// Lower and upper standard deviation of the F2 MUF.
+// How far the F2 MUF spreads below its median, and above.
 pub enum Deviations {
     Both(f32, f32),
     Refused(Refusal),
@@ -68,7 +68,8 @@ fn compare_e(s: IonoState, kr: usize) -> usize
     kr
 }
 
-// The controlling sample area, of the transmitter's slot 0 and the receiver's.
+// The transmitter's slot, 0, or the receiver's, the last: the one with the lower F2, or with the
+// lower E where F2 does not tell them apart.
 pub fn controlling(s: IonoState) -> usize
     ensures { λ r. ⌜ r ≡ controllingOf s ⌝ }
 {
@@ -95,7 +96,7 @@ fn tangent_ratio(y: f32, h: f32) -> f32
     1.0 / scalar::sqrt(1.0 + 0.5 * y / h)
 }
 
-// 0 where there is no F1 layer, NaN among them.
+// 0 without an F1; a NaN counts as none.
 fn f1_tangent(l: Slot) -> f32
     ensures { λ r. ⌜ r ≡ fx1Of l ⌝ }
 {
@@ -106,7 +107,7 @@ fn f1_tangent(l: Slot) -> f32
     0.0
 }
 
-// What makes the F2 MUF approach the critical frequency at short distances.
+// The factor that lifts the F2 tangent frequency towards the critical one as a path gets short.
 fn short_path(xt2: f32, gcdkm: f32) -> f32
     ensures { λ r. ⌜ r ≡ betaOf xt2 gcdkm ⌝ }
 {
@@ -178,7 +179,7 @@ pub fn line(
     }
 }
 
-// Whether every height comes from the density profile.
+// Whether the profile alone gives heights.
 fn by_profile(t: IonoState) -> bool
     ensures { λ r. ⌜ r ≡ byProfileOf t ⌝ }
 {
@@ -186,7 +187,8 @@ fn by_profile(t: IonoState) -> bool
     iedp < 0
 }
 
-// Off the profile, or those of a parabolic E layer at 110 km, 20 km thick.
+// Off the profile, or fixed: those of a parabola that peaks at 110 km and is 20 km in
+// semi-thickness.
 fn e_heights(t: IonoState, fxe: f32) -> Pair
     ensures { λ r. ⌜ r ≡ eHeightsOf t fxe ⌝ }
 {
@@ -236,7 +238,7 @@ fn parabolic(t: IonoState, l: Slot, ks: usize, x: Tangents) -> Pair
     }
 }
 
-// The parabolic form only where there is no F1 layer: with one there are too many shapes.
+// By parabolas only if F1 is missing: the closed form is of E and F2 alone.
 fn f2_heights(t: IonoState, l: Slot, ks: usize, x: Tangents) -> Pair
     requires { ⌜ ks < 3 ⌝ }
     ensures { λ r. ⌜ r ≡ f2HeightsOf t l ks x ⌝ }
@@ -369,7 +371,7 @@ fn f1_own(t: IonoState, fc: f32, fx1: f32, gcdkm: f32, amind: f32) -> LineAnswer
     }
 }
 
-// The E line again where there is no F1 layer; a NaN F1 has one.
+// Without an F1 the E line again; a NaN counts as an F1 here.
 pub fn f1_line(t: IonoState, l: Slot, fx1: f32, e: LayerMuf, gcdkm: f32, amind: f32) -> LineAnswer
     ensures { λ r. ⌜ r ≡ f1LineOf t l fx1 e gcdkm amind ⌝ }
 {

@@ -1,4 +1,4 @@
--- `from_layers`: the state that the points' layers make. Document 01: 5 where the point count is not 1 to 5.
+-- `from_layers`: the state that the points' layers make. The paper's refusal: 5 where the point count is not 1 to 5.
 use mathlib.Core.Bool.{Bool, true, false, _&&_}
 use mathlib.Core.List.{List, []}
 use Prim.Native.Nat.{ℕ, zero, suc, _+_, _*_}

@@ -1,4 +1,4 @@
--- `ionset`: the points' layers assigned to one, two or three slots, then made consistent slot by slot. Document 01: 5 where the point count is not 1 to 5.
+-- `ionset`: the points' layers assigned to one, two or three slots, then made to agree slot by slot. The paper's refusal: 5 where the point count is not 1 to 5.
 use mathlib.Core.Bool.{Bool, true, false, _||_}
 use Prim.Native.Nat.{ℕ, zero, suc, _+_, _*_}
 use lib.Dec.{leb}
@@ -22,14 +22,14 @@ layerFrom s k p i =
     (set (s .yi) (3 * k + i) (at (s .yi) (3 * p + i)))
     (set (s .hi) (3 * k + i) (at (s .hi) (3 * p + i)))
 
--- two slots: F2 of slot 0 from the middle point; E and F1 of slot 1 from point 2
+-- two slots: point 1, whose F2 slot 1 has already, gives it to slot 0 too; point 2 gives slot 1 the layers below
 unfoldable pub twoSlots : IonoState → IonoState
 twoSlots s =
     let s1 = layerFrom (withKfx s 2) 0 1 2 in
     let s2 = layerFrom s1 1 2 0 in
     layerFrom s2 1 2 1
 
--- three slots: F2 from points 1, 2 and 3; E and F1 from points 0, 2 and 4
+-- three slots: points 1, 2, 3 give them their F2, points 0, 2, 4 the layers below
 unfoldable pub threeSlots : IonoState → IonoState
 threeSlots s =
     let s1 = layerFrom (withKfx s 3) 0 1 2 in
@@ -49,7 +49,7 @@ assignedBy false false s = threeSlots s
 unfoldable pub assignedOf : IonoState → IonoState
 assignedOf s = assignedBy (leb (s .km) 1) (leb (s .km) 3) s
 
--- the criticals of E and F1, or of F1 and F2, lie too close
+-- F1 is at most 0.2 MHz above E, or F2 above F1
 unfoldable pub tooClose : Float → Float → Float → Bool
 tooClose e f1 f2' = (f1 -f e -f f0·2 ≤f f0) || (f2' -f f1 -f f0·2 ≤f f0)
 

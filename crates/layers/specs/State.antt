@@ -1,4 +1,4 @@
--- Reading and changing an `IonoState`. Each setter is a whole record once, so that a field added to the state is added here and at `zeroState`, and nowhere else.
+-- Reading and changing an `IonoState`. States are built here alone, as whole records, so that of all definitions a further field changes only these and the layout of a state as words.
 use mathlib.Core.Bool.{Bool, false}
 use mathlib.Core.List.{List}
 use Prim.Native.Nat.{ℕ}

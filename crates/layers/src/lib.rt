@@ -1,4 +1,5 @@
-// The layer parameters of a control point, and the state that the Fortran keeps in /RON/, by value.
+// A control point's layers, a layer's MUF line, and the state over all slots: by value where the
+// Fortran shares COMMON blocks, made by `from_layers` and divided into slots by `ionset`.
 ghost use mathlib.Core.Path.{_≡_};
 ghost use Prim.Native.Nat.{_<_, _≤_};
 ghost use Rattle.layers.specs.State.{zeroState, withIedp, withIelect};
@@ -7,64 +8,63 @@ ghost use Rattle.layers.specs.Ionset.{layerFrom, twoSlots, threeSlots, a
 use refusal::Outcome;
 use refusal::Refusal;
 
-// One control point's layers (index 0 E, 1 F1, 2 F2).
+// The regular layers over a control point: in each list E first, then F1, then F2.
 pub struct LayerParams {
-    // critical frequencies, MHz
+    // critical frequency in MHz; an F1 of 0 is no F1
     pub fi: [f32; 3],
-    // semithicknesses, km
+    // semi-thickness of the parabola, in km
     pub yi: [f32; 3],
-    // heights of maximum ionisation, km
+    // where the layer peaks, in km
     pub hi: [f32; 3],
 }
 
-// Sporadic E at one control point.
+// Sporadic E over a control point.
 pub struct EsParams {
-    // critical frequency: lower decile, median, upper decile, MHz
+    // its critical frequency in MHz: the median `fs[1]`, and the deciles below and above it
     pub fs: [f32; 3],
-    // height of reflection, km
+    // where it reflects, in km
     pub hs: f32,
 }
 
-// The Rust's `fi[k][i]` is `fi[3 * k + i]` here, and so for `yi` and `hi`.
+// The tables are flat: `fi[3 * k + i]`, layer i of point or slot k, is the Rust's `fi[k][i]`.
 pub struct IonoState {
     pub fi: [f32; 15],
     pub yi: [f32; 15],
     pub hi: [f32; 15],
-    // number of sample areas (control points)
+    // how many control points there are
     pub km: usize,
-    // number of ionosphere slots after `ionset`
+    // how many slots `ionset` made of them
     pub kfx: usize,
-    // true heights of the profile, km
+    // the profile: fifty heights in km
     pub htr: [f32; 50],
-    // plasma frequency squared at those heights, MHz²
+    // and at each the square of the plasma frequency, in MHz²
     pub fnsq: [f32; 50],
-    // whether `htr` rises at every step, as `lecden` last found it
+    // the rising mark, which only `lecden` sets; `gethp` tests the heights itself
     pub htr_rises: bool,
-    // `FSECV` of each slot, written on some paths of `lecden` only
+    // the slots' `FSECV`; where a slot has no F1 `lecden` leaves its number alone
     pub fsecv: [f32; 3],
-    // how the layer heights are obtained: below zero all from the density profile
+    // below zero the profile alone gives heights, else tables and parabolas do where they can
     pub iedp: i32,
-    // the electron density profile was supplied from outside: `lecden` leaves it alone
+    // set where the profile came from outside, which makes `lecden` do nothing
     pub ielect: bool,
 }
 
-// One layer's MUF line.
+// A layer's MUF line.
 pub struct LayerMuf {
     pub sigl: f32,
     pub sigu: f32,
-    // takeoff angle, degrees
+    // the angle of takeoff, in degrees
     pub delmuf: f32,
-    // virtual height, km
+    // where the ray is reflected: virtual and true height, in km
     pub hpmuf: f32,
-    // true height, km
     pub htmuf: f32,
-    // equivalent vertical frequency, MHz
+    // the vertical frequency, in MHz, that stands for the oblique one
     pub fvmuf: f32,
-    // deviative loss factor
+    // the factor of its deviative loss, which is 0 in every line made
     pub afmuf: f32,
-    // number of hops
+    // hops of the path
     pub nhopmf: i32,
-    // lower decile, median and upper decile of the MUF
+    // the MUF: the median `ymuf`, and the deciles below and above it
     pub yfot: f32,
     pub ymuf: f32,
     pub yhpf: f32,
@@ -104,7 +104,7 @@ pub fn zero_state() -> IonoState
     }
 }
 
-// `iedp` below zero: every height comes from the density profile.
+// `iedp` is -1, as the Fortran starts with: heights off the profile only.
 fn empty(n: usize) -> IonoState
     ensures { λ r. ⌜ r ≡ emptyOf n ⌝ }
 {
@@ -299,7 +299,8 @@ fn settle_slots(s: IonoState, n: usize) -> IonoState
     t
 }
 
-// E from the closer sample area, F2 from the farther; then each slot's layers made consistent.
+// Of two slots or three, one at an end of the path has E and F1 from the point there and F2 from
+// the next point inward. Then the layers of each slot are made to agree.
 pub fn ionset(s: IonoState) -> StateAnswer
     ensures { λ r. ⌜ r ≡ ionsetOf s ⌝ }
 {

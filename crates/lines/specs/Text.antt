@@ -47,7 +47,7 @@ refusedWord = 114 ∷ 101 ∷ 102 ∷ 117 ∷ 115 ∷ 101 ∷ 100 ∷ space ∷ 
 unfoldable pub refusedText : Refusal → List ℕ
 refusedText r = refusedWord ++ (decimalOf (numberOf r) ++ (lineFeed ∷ []))
 
--- The text was put into the bytes l from the place `at`: l′ is what they hold now, every other byte as it was, and r the place after the text.
+-- The text was put into the bytes l from the place `at`: l′ is what they hold then, every other byte as it was, and r the place after the text.
 pub record Put (text l : List ℕ) (at : ℕ) (l′ : List ℕ) (r : ℕ) : Type 0 where
   pub next : r ≡ at + length text
   pub cells : l′ ≡ sets l at text

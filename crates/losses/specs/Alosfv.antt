@@ -1,4 +1,4 @@
--- `alosfv`: the deviative loss factors of the thirty rows for slot k. They are above zero only for reflections from above the height at each layer's MUF.
+-- `alosfv`: a factor of deviative loss for each of slot k's thirty rows. A layer's own rows have zero up to the true height at its MUF; the two rows of a cusp between layers have one at any height.
 use mathlib.Core.Bool.{Bool, true, false}
 use mathlib.Core.List.{List}
 use Prim.Native.Nat.{ℕ, zero, suc, _+_, _*_}
@@ -91,15 +91,15 @@ unfoldable pub tailRows : Factors → Ionogram → LayerMuf → Decay → Float 
 tailRows f ion l d floor first zero = f
 tailRows f ion l d floor first (suc n) = tailRow (tailRows f ion l d floor first n) ion l d floor (first + n)
 
--- ---- the rows above the E layer
+-- ---- rows 10 to 29
 
--- F2 layer with no F1 layer: the source's floor of the tail is 0.5 here, and 0.05 everywhere else
+-- F2 straight after E. The constant of its rows stays at 0.5 or more, where that of cusps and of other tails stays at 0.05 or more: so the Fortran has it
 unfoldable pub withoutF1 : Factors → Ionogram → LayerMuf → Float → Factors
 withoutF1 f ion f2l y2 =
     let d : Decay = record { hz = at (ion .htrue) 10; y = y2 } in
     tailRows (cuspOf f ion d 10) ion f2l d f0·5 13 17
 
--- F1 layer, and F2 above it: the F1-F2 cusp starts from the last constant of the F1 rows, or from that of the E-F1 cusp where these used none
+-- F1, then F2. The cusp between them takes the constant that was last worked out: that of an F1 row, or of the cusp under F1 if all F1 rows have zero
 unfoldable pub withF1 : Factors → Ionogram → LayerMuf → LayerMuf → Float → Float → Factors
 withF1 f ion f1l f2l y1 y2 =
     let d1 : Decay = record { hz = at (ion .htrue) 10; y = y1 } in

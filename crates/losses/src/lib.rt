@@ -1,5 +1,6 @@
-// `alosfv`: the deviative loss factors of an ionogram's thirty rows. They are above zero only for
-// reflections from above the height at each layer's MUF.
+// `alosfv`: a factor of deviative loss for each of an ionogram's thirty rows. A layer's own rows
+// have zero up to the true height at its MUF; the two rows of a cusp between layers have one at any
+// height.
 ghost use mathlib.Core.Path.{_≡_};
 ghost use Prim.Native.Nat.{_+_, _<_, _≤_};
 ghost use Rattle.losses.specs.Alosfv.{decayOf, factorOf, eLoss, eRows, cuspLoss, cuspOf, tailLoss, tailRows, withoutF1, withF1, aboveOf, notBelowZero, notBelowZeros, withAfac, alosfvOf, alosfvAnswer};
@@ -22,7 +23,7 @@ pub struct Loss {
     pub a: f32,
 }
 
-// How the constant falls with the height: from the height hz, by the semithickness y.
+// How the constant falls with the height: from the height hz, by the semi-thickness y.
 pub struct Decay {
     pub hz: f32,
     pub y: f32,
@@ -79,7 +80,8 @@ fn cusp_loss(a: f32, htrue: f32, hprim: f32, d: Decay, hm: f32) -> Loss
     }
 }
 
-// Continuity at a cusp between two layers.
+// A cusp between two layers: two rows carry on the constant of the layer below, so that the loss
+// does not jump there, and the third has zero.
 fn cusp(mut f: Factors, ion: Ionogram, d: Decay, ih: usize) -> Factors
     requires { ⌜ ih < 28 ⌝ }
     ensures { λ r. ⌜ r ≡ cuspOf f ion d ih ⌝ }
@@ -133,8 +135,8 @@ fn tail_rows(
     g
 }
 
-// F2 layer with no F1 layer. The source forces the tail's floor to 0.5 here, unlike the 0.05
-// everywhere else.
+// F2 straight after E. The constant of its rows stays at 0.5 or more, where that of cusps and of
+// other tails stays at 0.05 or more: so the Fortran has it.
 fn without_f1(f: Factors, ion: Ionogram, f2: LayerMuf, y2: f32) -> Factors
     ensures { λ r. ⌜ r ≡ withoutF1 f ion f2 y2 ⌝ }
 {
@@ -145,8 +147,8 @@ fn without_f1(f: Factors, ion: Ionogram, f2: LayerMuf, y2: f32) -> Factors
     tail_rows(cusp(f, ion, d, 10), ion, f2, d, 0.5, 13, 17)
 }
 
-// F1 layer, and F2 above its ledge. The source starts the F1-F2 cusp from the last constant that
-// it worked out: the F1 rows' last, or the E-F1 cusp's where no F1 row used one.
+// F1, then F2. The cusp between them takes the constant that was last worked out, as the Fortran's
+// variable does: that of an F1 row, or of the cusp under F1 if all F1 rows have zero.
 fn with_f1(f: Factors, ion: Ionogram, f1: LayerMuf, f2: LayerMuf, y1: f32, y2: f32) -> Factors
     ensures { λ r. ⌜ r ≡ withF1 f ion f1 f2 y1 y2 ⌝ }
 {

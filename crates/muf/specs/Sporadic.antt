@@ -1,4 +1,4 @@
--- The sporadic E section of `curmuf`: the weakest reflecting row controls. A row is `fs[0]`, `fs[1]`, `fs[2]` and `hs` of the Rust's `EsParams`.
+-- The sporadic E section of `curmuf`: of the rows that reflect, the one with the lowest MUF controls. A row is `fs[0]`, `fs[1]`, `fs[2]` and `hs` of the Rust's `EsParams`.
 use mathlib.Core.Bool.{Bool, true, false}
 use mathlib.Core.List.{List}
 use Prim.Native.Nat.{ℕ, zero, suc, _+_, _*_}
@@ -30,7 +30,7 @@ rayOf hs hop gcd =
     let secp = f1 /f sqrtOf (f1 -f sphe *f sphe) in
     record { tdel = tdel; secp = secp }
 
--- esmuf - esd > 0: row k is the weakest so far. The hop count is kept either way.
+-- esmuf - esd > 0: row k has the lowest MUF so far. The hop count is kept either way.
 abbrev pub takenBy : Bool → EsSearch → ℕ → EsRow → EsRay → Float → Float → EsSearch
 takenBy true a k row ray hop esd =
     record { esmuf = esd; ksx = k; tdelx = ray .tdel; secpx = ray .secp; hop = hop; fs0 = row .fs0; fs1 = row .fs1; fs2 = row .fs2; hs = row .hs }
@@ -92,7 +92,7 @@ esFoundOf a fe =
       lower = a .fs1 -f f1·28 *f sigl4;
     }
 
--- esmuf - 1000 >= 0: no row reflects
+-- esmuf - 1000 >= 0, the start's MUF: no row controls
 abbrev pub esLineBy : Bool → EsSearch → Float → EsLine
 esLineBy true a fe = record { line = zeroLine; rewrites = false; lower = f0 }
 esLineBy false a fe = esFoundOf a fe

@@ -19,7 +19,7 @@ use refusal::Refusal;
 // the Earth's radius, km
 const RZ: f32 = 6370.0;
 
-// One row of sporadic E: lower decile, median and upper decile of the critical frequency, height.
+// One Es row: the three frequencies of an `EsParams`, in its order, and the height.
 pub struct EsRow {
     pub fs0: f32,
     pub fs1: f32,
@@ -33,8 +33,8 @@ pub struct EsRay {
     pub secp: f32,
 }
 
-// The weakest reflecting row so far, its MUF, number, ray and numbers; and the hops of the last row
-// worked out.
+// The row with the lowest MUF so far: its MUF, place, ray and numbers; and the hops of the last row
+// worked out, whether it is this one or not.
 pub struct EsSearch {
     pub esmuf: f32,
     pub ksx: usize,
@@ -71,7 +71,7 @@ pub enum ThreeAnswer {
     Refused(Refusal),
 }
 
-// Which layer sets the circuit MUF, 1 E, 2 F1, 3 F2, and its takeoff angle in degrees.
+// The layer whose MUF is the circuit's, 1 to 3 for E, F1 and F2, and the takeoff angle of its line.
 pub struct Mode {
     pub angmuf: f32,
     pub modmuf: i32,
@@ -82,16 +82,16 @@ pub struct MufHour {
     pub f1muf: f32,
     pub f2muf: f32,
     pub esmuf: f32,
-    // circuit MUF, Es not included
+    // the highest MUF of the three regular layers: Es does not count
     pub allmuf: f32,
     pub fot: f32,
     pub hpf: f32,
-    // takeoff angle at the circuit MUF, degrees
+    // the takeoff angle, in degrees, of the layer whose MUF that is
     pub angmuf: f32,
     pub modmuf: i32,
-    // E, F1, F2, Es
+    // the regular layers' lines from E up, then that of Es
     pub layers: [LayerMuf; 4],
-    // the controlling sample area
+    // the controlling slot
     pub ks: usize,
 }
 
@@ -217,8 +217,9 @@ fn es_rows(es: &[f32], n: usize, c: Circuit) -> EsStep
     EsStep::Next(a)
 }
 
-// The lower standard deviation: the map's where the lower decile is above the regular E, the upper
-// one's where it is below, and between them in a band of 0.1 MHz about it.
+// The spread below the median, by where the lower decile stands to the regular E: over 0.1 MHz
+// above it the decile's own, 0.1 MHz or more below it that of the upper side, and between a blend
+// of the two.
 fn lower_spread(xes: f32, sigb: f32, sigu4: f32) -> f32
     ensures { λ r. ⌜ r ≡ sigl4Of xes sigb sigu4 ⌝ }
 {

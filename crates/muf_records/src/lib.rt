@@ -1,6 +1,6 @@
 // The circuit MUF over a lent list of Es records. The three functions that hold a reference to
-// records (`search`, `rewrite`, `curmuf_records`) are proved by walks of their code, by hand, and
-// are kept short for it; what they do with values is in the others.
+// records (`search`, `rewrite`, `curmuf_records`) are proved by walks of their MIR, and are kept
+// short for it; what they do with values is in the others.
 ghost use mathlib.Core.Path.{_≡_};
 ghost use Prim.Native.Nat.{_<_};
 ghost use mathlib.Core.Bool.{true};

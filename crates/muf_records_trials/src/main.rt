@@ -1,4 +1,4 @@
-// Circuit MUFs over lent Es records; the stored output has the Rust's answers.
+// Circuit MUFs over lent Es records; the stored output is what the paper and the Rust say.
 use layer_mufs::Circuit;
 use layers::EsParams;
 use layers::IonoState;

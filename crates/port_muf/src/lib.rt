@@ -1,4 +1,4 @@
-// The F2 deciles and the circuit MUF for callers in any language: words in, words out. Each
+// `f2dis` and the circuit MUF for callers in any language: words in, words out. Each
 // function answers 0, or the number of its refusal, and then leaves every lent word as it was.
 ghost use mathlib.Core.Path.{_≡_};
 ghost use Prim.Native.Nat.{_≤_};

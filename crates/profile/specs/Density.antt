@@ -8,7 +8,7 @@ use Rattle.exponential.specs.Exp.{expOf}
 use Rattle.profile.specs.declared.Curves.{Curves}
 use Rattle.profile.specs.declared.Candidates.{Candidates}
 
--- linear valley: `h - hlow > 0.0 && h - hup < 0.0`
+-- the valley's line: `h - hlow > 0.0 && h - hup < 0.0`
 abbrev pub valleyTopBy : Bool → Curves → Float → Float
 valleyTopBy true c h = c .fup +f c .asp *f (h -f c .hup)
 valleyTopBy false c h = f0
@@ -26,7 +26,7 @@ parabolaOf fc hi yi h =
     let z = (h -f hi) /f yi in
     fc *f (f1 -f z *f z)
 
--- parabolic E: `h - hex >= 0.0`, then `h - hte <= 0.0`
+-- E's parabola: `h - hex >= 0.0`, then `h - hte <= 0.0`
 abbrev pub eTopBy : Bool → Curves → Float → Float
 eTopBy true c h = parabolaOf (c .fce) (c .hi0) (c .yi0) h
 eTopBy false c h = f0
@@ -38,7 +38,7 @@ eFootBy false c h = f0
 unfoldable pub fneOf : Curves → Float → Float
 fneOf c h = eFootBy (h -f c .hex ≥f f0) c h
 
--- exponential D-E tail: where `h - hex >= 0.0` is not. The Rust has it once more, where `h - hex < 0.0` within `h - hex >= 0.0`: `never-both` shows that nothing comes there.
+-- the tail under E: where `h - hex >= 0.0` is not. The Rust has it once more, where `h - hex < 0.0` within `h - hex >= 0.0`: `never-both` shows that nothing comes there.
 abbrev pub tailBy : Bool → Curves → Float → Float
 tailBy true c h = f0
 tailBy false c h = c .fce *f c .fsq *f expOf (c .alp *f (h -f f70))
@@ -66,7 +66,7 @@ f1OnBy false c h = f0
 unfoldable pub fn1Of : Curves → Float → Float
 fn1Of c h = f1OnBy (c .fi1 >f f0) c h
 
--- parabolic F2: `hb2v - h <= 0.0`
+-- F2's parabola: `hb2v - h <= 0.0`
 abbrev pub f2FootBy : Bool → Curves → Float → Float
 f2FootBy true c h = parabolaOf (c .fc2) (c .hi2) (c .yi2) h
 f2FootBy false c h = f0

@@ -1,4 +1,4 @@
--- The E-F valley of a slot, and the slot's F1 layer reshaped: the first part of `lecden`, with the Rust's names for its locals. `fi0` is its `s.fi[k][0]`, and so on.
+-- The valley between a slot's E and F2, and its F1 reshaped: the first part of `lecden`, with the Rust's names for its locals. `fi0` is its `s.fi[k][0]`, and so on.
 use mathlib.Core.Bool.{Bool, true, false}
 use lib.Ieee.{Float}
 use Rattle.scalar.specs.F32.{_+f_, _-f_, _*f_, _/f_, _<f_, _>f_, _≥f_, negf}
@@ -17,7 +17,7 @@ aspBy false fup flow hup hlow = f0
 unfoldable pub aspOf : Float → Float → Float → Float → Float
 aspOf fup flow hup hlow = aspBy (hup -f hlow >f f0) fup flow hup hlow
 
--- the valley is filled linearly from (flow, hlow) to (fup, hup)
+-- a straight line from hlow, where E is down to 0.8516 of its critical frequency, to hup, where F2 reaches 0.98 of that
 unfoldable pub valleyOf : Slot → Valley
 valleyOf s =
     let xlow = f0·8516 in
@@ -34,12 +34,12 @@ valleyOf s =
     let asp = aspOf fup flow hup hlow in
     record { hlow = hlow; hte = hte; hb2 = hb2; fce = fce; fc2 = fc2; hup = hup; fup = fup; flow = flow; asp = asp }
 
--- `if ys - yb >= 0.0`: F1 passes through the E nose, or keeps its line
+-- `if ys - yb >= 0.0`: the line would start so low as to cover E, and is made to go through E's peak; else it stays
 abbrev pub noseBy : Bool → Slot → Valley → Float → Float → Float → Float → Float → F1Shape
 noseBy true s v fc1 htw ys s1 yb = record { lin = true; fc1 = fc1; ht1 = htw; s1 = fc1 /f yb; hi1 = htw; yi1 = yb; fsec = sqrtOf (v .flow) }
 noseBy false s v fc1 htw ys s1 yb = record { lin = true; fc1 = fc1; ht1 = htw; s1 = s1; hi1 = htw; yi1 = ys; fsec = sqrtOf (v .flow) }
 
--- `if hb2 - hb1 < 0.0`: no spurious layer; else a line that does not hide the E layer
+-- `if hb2 - hb1 < 0.0`: F1 would start above F2, so it is brought down to start where F2 does; else it becomes a line
 abbrev pub lineBy : Bool → Slot → Valley → Float → Float → Float → Float → Float → F1Shape
 lineBy true s v fc1 ht1 htw ys s1 =
     record { lin = false; fc1 = fc1; ht1 = ht1; s1 = s1; hi1 = htw; yi1 = minOf (htw -f v .hb2) (htw -f s .hi0 +f f1); fsec = negf f1 }
@@ -49,7 +49,7 @@ lineBy false s v fc1 ht1 htw ys s1 =
     let yb = (htw -f s .hi0) /f denom in
     noseBy (ys -f yb ≥f f0) s v fc1 htw ys s1 yb
 
--- `if htw > s.hi[k][1] + 0.001`: F1 forced above the E layer; else to the F2 height at its critical frequency
+-- `if htw > s.hi[k][1] + 0.001`: F2 reaches F1's critical frequency above F1's peak; F1 stays, but starts at most 1 km under E's peak. Else F1's peak is moved to where F2 reaches it
 abbrev pub crossBy : Bool → Slot → Valley → Float → Float → Float → Float → F1Shape
 crossBy true s v fc1 hb1 ht1 htw =
     record { lin = false; fc1 = fc1; ht1 = ht1; s1 = f0; hi1 = s .hi1; yi1 = minOf (s .yi1) (s .hi1 -f s .hi0 +f f1); fsec = negf f1 }

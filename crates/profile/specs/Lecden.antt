@@ -1,4 +1,4 @@
--- `lecden`: the density profile of slot k. It writes the slot's F1 height and semi-thickness, `fsecv[k]`, the profile and the rising mark. Document 01: 6 for a slot above 2.
+-- `lecden`: the density profile of slot k. It writes the slot's F1 height and semi-thickness, `fsecv[k]`, the profile and the rising mark. The paper's refusal: 6 for a slot above 2.
 use mathlib.Core.Bool.{Bool, true, false}
 use mathlib.Core.List.{map}
 use Prim.Native.Nat.{ℕ, _+_, _*_}
@@ -31,7 +31,7 @@ slotAt s k =
 unfoldable pub slotWritten : IonoState → ℕ → Slot → IonoState
 slotWritten s k p = withFsecv (withTables s (s .fi) (set (s .yi) (3 * k + 1) (p .yi1)) (set (s .hi) (3 * k + 1) (p .hi1))) (set (s .fsecv) k (p .fsec))
 
--- the D-region tail below the E layer
+-- the tail under E, down into the D region
 unfoldable pub tailOf : Slot → Tail
 tailOf s =
     let hd = f70 in
@@ -49,7 +49,7 @@ curvesOf s v f t =
     let hb2v = s .hi2 -f s .yi2 in
     record { hlow = v .hlow; hup = v .hup; fup = v .fup; asp = v .asp; hex = t .hex; hte = v .hte; fce = v .fce; hi0 = s .hi0; yi0 = s .yi0; fsq = t .fsq; alp = t .alp; fi1 = s .fi1; hb1 = hb1; ht1 = f .ht1; lin = f .lin; s1 = f .s1; hi1 = s .hi1; yi1 = s .yi1; fc1 = f .fc1; hb2v = hb2v; fc2 = v .fc2; hi2 = s .hi2; yi2 = s .yi2 }
 
--- a card supplied the profile
+-- whether the profile came from outside
 unfoldable pub suppliedOf : IonoState → Bool
 suppliedOf s = s .ielect
 

@@ -1,4 +1,4 @@
-// The E-F valley, and the F1 layer reshaped so that it meets the F2 layer and does not hide the E layer.
+// The valley between E and F2, and F1 reshaped so that it joins F2 and leaves E to be seen.
 ghost use mathlib.Core.Path.{_≡_};
 ghost use Rattle.profile.specs.F1.{aspOf, valleyOf, f1Of, reshapedOf};
 use crate::F1Shape;
@@ -41,7 +41,8 @@ pub fn valley(s: Slot) -> Valley
     }
 }
 
-// Above the E layer, forced to the F2 height at its critical frequency, or a line through the E nose.
+// Where F2 reaches F1's critical frequency above F1's peak, F1 stays a parabola; else its peak is
+// moved there, and it is a parabola that starts with F2, or a line.
 pub fn reshape(s: Slot, v: Valley) -> F1Shape
     ensures { λ r. ⌜ r ≡ f1Of s v ⌝ }
 {

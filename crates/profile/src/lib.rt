@@ -1,4 +1,4 @@
-// The electron density profile of a slot, from its layers.
+// A slot's density profile, made of its layers: a squared plasma frequency at each of fifty heights.
 ghost use mathlib.Core.Path.{_≡_};
 ghost use mathlib.Core.List.{map};
 ghost use Prim.Native.Nat.{_<_};
@@ -28,7 +28,8 @@ pub struct Slot {
     pub fsec: f32,
 }
 
-// The valley between E and F2, filled linearly from (flow, hlow) to (fup, hup).
+// The valley between E and F2: the density goes in a straight line from flow, at the height hlow,
+// to fup, at hup.
 pub struct Valley {
     pub hlow: f32,
     pub hte: f32,
@@ -52,7 +53,7 @@ pub struct F1Shape {
     pub fsec: f32,
 }
 
-// The exponential tail below the E layer, from height hex down.
+// The exponential tail under E, from the height hex down.
 pub struct Tail {
     pub hex: f32,
     pub alp: f32,
@@ -95,7 +96,7 @@ pub struct Candidates {
     pub fn2: f32,
 }
 
-// Whether the heights rise at every step.
+// The rising test: is each height below the next. A NaN fails it.
 pub fn rises_throughout(htr: &[f32; 50]) -> bool
     ensures { λ r. ⌜ r ≡ risesOf (now (htr .entry)) ⌝ }
 {

@@ -1,4 +1,4 @@
--- A read that goes on from where the one before it stopped (the Rust's `rising_interpolate` and the test before it), and the count that document 01 gives for the cursor.
+-- A read that goes on from where the one before it stopped (the Rust's `rising_interpolate` and the test before it), and the count that the paper gives for the cursor.
 use mathlib.Core.Bool.{Bool, true, false}
 use mathlib.Core.List.{List}
 use Prim.Native.Nat.{ℕ, zero, suc, _+_, _-_}
@@ -11,7 +11,7 @@ use Rattle.readings.specs.declared.Reading.{Reading}
 use Rattle.readings.specs.declared.Reading.the-variants.{Floor, Segment, Top}
 use Rattle.readings.specs.declared.Read.{Read}
 
--- ---- document 01: how many of the upper 49 heights are at or below zi, a NaN counting none
+-- ---- the paper's count: how many of the upper 49 heights are at or below zi, a NaN counting none
 abbrev pub oneIf : Bool → ℕ
 oneIf true = 1
 oneIf false = 0

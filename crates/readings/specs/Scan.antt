@@ -1,5 +1,5 @@
--- A number read off a profile by a scan: the Rust's `profile_interpolate`, with the kind of the reading kept. `from` and `to` are the parallel arrays, `probe` is looked up on the first and the answer is
--- on the second. A test written as a difference against zero stays one: at two equal infinities it is not a comparison.
+-- A number read off a profile by a scan: the Rust's `profile_interpolate`, with the kind of the reading kept. `probe` is sought in `from`, and what stands there in `to` is
+-- the answer. A test written as a difference against zero stays one: at two equal infinities it is not a comparison.
 use mathlib.Core.Bool.{Bool, true, false}
 use mathlib.Core.List.{List}
 use Prim.Native.Nat.{ℕ, zero, suc, _+_}

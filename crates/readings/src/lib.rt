@@ -1,4 +1,5 @@
-// Reading a number off a profile: by a scan from the lowest segment on, as the arithmetic IFs of the Fortran have it, or on from the segment where the last read stopped.
+// Reading a number off a profile: by a scan of the segments from the lowest on, or, where the
+// heights rise, on from the segment at which the last read stopped.
 ghost use mathlib.Core.Path.{_≡_};
 ghost use denote.Ref.{now};
 ghost use Rattle.readings.specs.Scan.{segmentOf, scanOf, valueOf, kindOf, profileInterpolateOf, readingOf};

@@ -1,4 +1,4 @@
--- The number that document 01's table "Where a call is turned away" gives each refusal.
+-- The number that the paper's table "Where a call is turned away" gives each refusal.
 use Prim.Native.Nat.{ℕ}
 use Rattle.refusal.specs.declared.Refusal.{Refusal}
 use Rattle.refusal.specs.declared.Outcome.{Outcome}

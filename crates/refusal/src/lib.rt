@@ -1,4 +1,4 @@
-// Where a call is turned away: a case for each row of document 01's table, in its order.
+// Where a call is turned away: a case for each row of the paper's table, in its order.
 ghost use mathlib.Core.Path.{_≡_};
 ghost use Rattle.refusal.specs.Number.{numberOf, outcomeNumber};
 

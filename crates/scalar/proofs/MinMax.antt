@@ -1,4 +1,4 @@
--- Document 01's sentences on minimum and maximum, and that each answer is one of the operands and not above, or below, either. Both are the second operand where the first is
+-- The paper's sentences on minimum and maximum, and that each answer is one of the operands and not above, or below, either. Both are the second operand where the first is
 -- NaN or the second is better, so each sentence is proved once, over what is better. Assumes nothing.
 use mathlib.Core.Path.{_≡_, refl, sym, ap, _∙_}
 use mathlib.Core.Logic.{_⊎_, inl, inr}

@@ -14,7 +14,7 @@ use lib.Ieee.Exact.{HasValue}
 use Rattle.scalar.specs.Scalar.{truncOf}
 use Rattle.scalar.proofs.Patterns.{ofBits-is, fields-low, fields-mid}
 
--- Document 01's rule is lib.Ieee's cut to 31 digits and a sign.
+-- The paper's rule is lib.Ieee's cut to 31 digits and a sign.
 pub trunc-is-cast : (x : Float) → truncOf x ≡ toSigned 31 x
 unfolding truncOf toSigned
 trunc-is-cast nan = refl

@@ -1,4 +1,4 @@
--- Minimum, maximum, abs and the cut to an i32, as document 01 has them under "Scalars". They are defined on every value: NaN, both infinities and both zeros.
+-- Minimum, maximum, abs and the cut to an i32, as the paper has them under "Scalars". They are defined on every value: NaN, both infinities and both zeros.
 use mathlib.Core.Bool.{Bool, true, false, _||_}
 use Prim.Native.Nat.{ℕ, _*_, _/_, min}
 use lib.IntN.{ℤ, pos, negsuc, negℤ}

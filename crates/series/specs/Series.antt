@@ -1,4 +1,4 @@
--- The power series of sine, cosine and e to a power, as fractions of whole numbers. Definitions only.
+-- The power series of sine and cosine, and below them that of e ^ x, as fractions of whole numbers. Definitions only.
 -- x is n / d. The terms are a / b, a * n² / (b * d² * K 0), and so on: term k + 1 is term k times n² / (d² * K k).
 -- For the sine a / b = n / d and K k = (2 k + 2) * (2 k + 3); for the cosine a / b = 1 / 1 and K k = (2 k + 1) * (2 k + 2).
 use Prim.Native.Nat.{ℕ, zero, suc, _+_, _*_, _^_, _≤_}

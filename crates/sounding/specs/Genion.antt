@@ -1,4 +1,4 @@
--- `genion`: the ionogram of slot k, off the density profile that `lecden` made for the same slot. Document 01: 6 for a slot above 2.
+-- `genion`: the ionogram of slot k, off the density profile that `lecden` made for the same slot. The paper's refusal: 6 for a slot above 2.
 use mathlib.Core.Bool.{Bool, true, false}
 use mathlib.Core.List.{List, [], _∷_, _++_}
 use Prim.Native.Nat.{ℕ, zero, suc, _+_, _*_}
@@ -21,7 +21,7 @@ use Rattle.ionogram.specs.declared.Ionogram.{Ionogram}
 use Rattle.ionogram.specs.declared.IonogramAnswer.{IonogramAnswer}
 use Rattle.sounding.specs.Grid.{fvertOf}
 
--- true and virtual heights at the first ten frequencies for an E layer of 110 km and 20 km semithickness, then zeros
+-- the first ten rows where the profile does not give them: true heights, then virtual ones, of an E parabola that peaks at 110 km and is 20 km in semi-thickness. The other rows are zero
 unfoldable pub HTE : List Float
 HTE = (f70 ∷ f84·51 ∷ f88·52 ∷ f93 ∷ f94·26 ∷ f95·71 ∷ f97·68 ∷ f100·27 ∷ f104·22 ∷ f107·19 ∷ []) ++ replicate 20 f0
 
@@ -43,7 +43,7 @@ trueByProfile s f = let fn = f *f f in xlinOf fn (s .fnsq) (s .htr)
 unfoldable pub virtualByParabola : IonoState → ℕ → Float → Float
 virtualByParabola s k f = at (s .hi) (3 * k + 2) -f at (s .yi) (3 * k + 2) +f bendyOf s 2 k f +f (penOf s 0 k f -f f2 *f at (s .yi) (3 * k))
 
--- an F1 layer has too many shapes for the closed form: `fi[k][1] > 0.0`
+-- `fi[k][1] > 0.0`: off the profile, since the closed form is of E and F2 alone
 abbrev pub virtualBy : Bool → Finder → IonoState → ℕ → Float → Float
 virtualBy true find s k f = find s f .hp
 virtualBy false find s k f = virtualByParabola s k f
@@ -51,7 +51,7 @@ virtualBy false find s k f = virtualByParabola s k f
 abbrev pub made : List Float → List Float → List Float → Ionogram
 made fv hprim htrue = record { fvert = fv; hprim = hprim; htrue = htrue; afac = replicate 30 f0 }
 
--- every height off the profile; or the E rows from the table, the others by the profile's true heights
+-- all rows by `find`; or ten by the table and twenty by `trueByProfile` and `virtualBy`
 abbrev pub rowsBy : Bool → Finder → IonoState → ℕ → List Float → Ionogram
 rowsBy true find s k fv = made fv (rowsOf (λ f. find s f .hp) fv 0 (replicate 30 f0) 30) (rowsOf (λ f. find s f .ht) fv 0 (replicate 30 f0) 30)
 rowsBy false find s k fv =

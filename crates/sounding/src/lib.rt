@@ -1,5 +1,4 @@
-// `genion`: the sounding-frequency grid of a slot, and the true and virtual heights at its thirty
-// frequencies.
+// `genion`: a slot's thirty sounding frequencies, and the virtual and the true height of each.
 mod grid;
 mod rows;
 

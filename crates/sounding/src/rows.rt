@@ -1,6 +1,6 @@
-// The heights of the thirty rows. Below zero `iedp` has them all off the density profile; at zero
-// or above the E rows come from a table, and the others from a lookup in the profile and from
-// parabolic bending and retardation.
+// The heights of the thirty rows. With a negative `iedp` all are `gethp`'s. Otherwise the ten E
+// rows are a table's; the others have true heights by `xlin`, and virtual ones by parabolas, or by
+// `gethp` if there is an F1.
 ghost use mathlib.Core.Path.{_≡_};
 ghost use Prim.Native.Nat.{_<_};
 ghost use mathlib.Core.Bool.{true, false};
@@ -119,7 +119,7 @@ fn true_rows(s: IonoState, fv: [f32; 30]) -> [f32; 30]
     htrue
 }
 
-// An F1 layer has too many shapes for the closed form, so its rows are taken off the profile.
+// With an F1, which the closed form of E and F2 leaves out.
 fn virtual_rows_by_profile(s: IonoState, rises: bool, fv: [f32; 30]) -> [f32; 30]
     requires { ⌜ rises ≡ risesOf (s .htr) ⌝ }
     ensures { λ r. ⌜ r ≡ rowsOf (λ f. gethpOf s f .hp) fv 10 Genion·HPE 20 ⌝ }
@@ -166,7 +166,7 @@ fn make(fv: [f32; 30], hprim: [f32; 30], htrue: [f32; 30]) -> Ionogram
     }
 }
 
-// `iedp` at zero or above.
+// Where `iedp` is not negative.
 fn by_table(s: IonoState, k: usize, rises: bool, fv: [f32; 30]) -> Ionogram
     requires { ⌜ (k < 3) × (rises ≡ risesOf (s .htr)) ⌝ }
     ensures { λ r. ⌜ r ≡ rowsBy false gethpOf s k fv ⌝ }
@@ -179,7 +179,7 @@ fn by_table(s: IonoState, k: usize, rises: bool, fv: [f32; 30]) -> Ionogram
     make(fv, virtual_rows_by_parabola(s, k, fv), htrue)
 }
 
-// Whether every height comes from the density profile.
+// Whether the profile alone gives heights.
 fn all_by_profile(s: IonoState) -> bool
     ensures { λ r. ⌜ r ≡ allByProfile s ⌝ }
 {

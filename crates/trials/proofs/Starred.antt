@@ -1,4 +1,4 @@
--- Document 01's marked trials: both sides of every row compute. Assumes nothing.
+-- The paper's marked trials: both sides of every row compute. Assumes nothing.
 use mathlib.Core.Path.{refl}
 use lib.Ieee.{add, sub, mul, div, le, lt, ofBits, neg, round}
 use Rattle.scalar.specs.Literals.{decimal}

@@ -1,4 +1,4 @@
--- Document 01's marked trials as one table: what is tried, and the paper's answer. Numbers stand as the paper writes them: `decimal 3125 3` is the f32 nearest to 3.125.
+-- The paper's marked trials as one table: what is tried, and the answer. Numbers stand as the paper writes them: `decimal 3125 3` is the f32 nearest to 3.125.
 use mathlib.Core.List.{List, [], _∷_}
 use mathlib.Core.Path.{_≡_}
 use Prim.Native.Nat.{ℕ}

@@ -1,5 +1,6 @@
-// Document 01's unmarked trials, run; the stored output has the paper's answers. The marked ones are rows of
-// the table in specs/Starred.antt.
+// The paper's unmarked trials, run, and with them the edges of some refusals and a slot prepared
+// twice; the stored output has the paper's answers. The marked trials are rows of the table in
+// specs/Starred.antt.
 ghost use Prim.Native.Nat.{_<_, _≤_};
 use circular::Answer;
 use hour::SlotSheet;
@@ -204,7 +205,8 @@ fn slot_numbers() {
     say(b"sheet of slot 3, 41 angles: ", refused(x));
 }
 
-// The MUF of the point's hour, 1,500 km, with so long a list of deciles, all zero, and so long a path in radians.
+// The MUF of the point's hour, 1,500 km, with so many deciles, all zero, so long a path in radians
+// and so many clocks.
 fn muf_of(what: &[u8], deciles: usize, gcd: f32, clocks: usize)
     requires { ⌜ (deciles ≤ 577) × (clocks ≤ 1) ⌝ }
 {

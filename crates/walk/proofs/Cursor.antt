@@ -101,7 +101,7 @@ counted htr z H F r (suc n) i e =
         nil : (c : ℕ) → c ≡ 0 → 0 + c ≡ 0
         nil c e = omega arith
 
--- document 01's count is where the cursor stops
+-- the paper's count is where the cursor stops
 pub count-stops : (htr : List Float) (z : Float) → Held htr → T (fits binary32 z) → Rising htr → Stops htr z 49 0 (countOf htr z)
 count-stops htr z H F r = subst (λ (c : ℕ). Stops htr z 49 0 c) (plain (countOf htr z)) (counted htr z H F r 49 0 refl)
   where

@@ -30,7 +30,7 @@ cursorBefore htr fnsq z (suc k) = readOnOf htr fnsq (z k) (cursorBefore htr fnsq
 abbrev pub walkRead : List Float → List Float → (ℕ → Float) → ℕ → Read
 walkRead htr fnsq z k = readOnOf htr fnsq (z k) (cursorBefore htr fnsq z k)
 
--- the reading of a full scan, with document 01's count for the cursor
+-- the reading of a full scan, with the paper's count for the cursor
 abbrev pub scannedRead : List Float → List Float → Float → Read
 scannedRead htr fnsq zi = record { reading = readingOf htr fnsq zi; cursor = countOf htr zi }
 

@@ -88,8 +88,8 @@ fn write_case(r: &mut Random) -> (u32, Option<String>) {
     (number, differs.map(shown))
 }
 
-/// A circuit's words; sometimes with a wrong km or shape, with rubbish in
-/// points that aren't used, or with words past the layout.
+/// A circuit's words; sometimes with a wrong km or shape, with any
+/// numbers in points that aren't used, or with words past the layout.
 fn circuit_words(r: &mut Random) -> Vec<u32> {
     let mut w = files::circuit(r).to_words();
     match r.below(8) {

@@ -1,4 +1,4 @@
--- The tests in document 01's order; the records are written where all pass.
+-- The tests in the paper's order; the records are written where all pass.
 use Prim.Native.Nat.{ℕ, _*_}
 use mathlib.Core.Path.{_≡_, ap, _∙_}
 use mathlib.Core.List.{_++_}

@@ -1,4 +1,4 @@
--- `curmuf_records` meets its contract: a walk of its MIR, by hand. The list of records is lent as `&` to `search`, for a lifetime that is made for the call, and comes back; `searched` has what was found; and `rewrite` is given the list for good.
+-- `curmuf_records` meets its contract: a walk of its MIR. The list of records is lent as `&` to `search`, for a lifetime that is made for the call, and comes back; `searched` has what was found; and `rewrite` is given the list for good.
 -- All that the proof knows of the three is that they meet their contracts.
 -- Assumes nothing.
 use mathlib.Core.Path.{_≡_, refl, sym, subst}

@@ -1,4 +1,4 @@
--- `rewrite` meets its contract: a walk of its MIR, by hand. Where a row is rewritten the borrow is opened, the record is taken out of the list, read, stored to, and put back, and the borrow is closed at the list with the new record in it. Else nothing is opened.
+-- `rewrite` meets its contract: a walk of its MIR. Where a row is rewritten the borrow is opened, the record is taken out of the list, read, stored to, and put back, and the borrow is closed at the list with the new record in it. Else nothing is opened.
 -- All that the proof knows of `with_lower` is that it meets its contract.
 -- Assumes nothing.
 use mathlib.Core.Path.{_≡_, refl, sym, ap, subst}

@@ -1,4 +1,4 @@
--- `search` meets its contract: a walk of its MIR, by hand. Each turn looks into the borrow for one record, and hands it to `turn` with the search so far; the variant is the number of rows left, and what they do to the search so far is what all rows do to its start.
+-- `search` meets its contract: a walk of its MIR. Each turn looks into the borrow for one record, and hands it to `turn` with the search so far; the variant is the number of rows left, and what they do to the search so far is what all rows do to its start.
 -- All that the proof knows of `rows_taken`, `first` and `turn` is that they meet their contracts.
 -- Assumes nothing.
 use mathlib.Core.Path.{_≡_, refl, sym, _∙_, ap, subst}

@@ -1,4 +1,4 @@
--- `lend` ends, and reads and writes nothing that it may not: a walk of its MIR, by hand. The array is lent as a `&mut` slice for a lifetime that is made for the call, comes back with some records in it, and is handed to `print`.
+-- `lend` ends, and reads and writes nothing that it may not: a walk of its MIR. The array is lent as a `&mut` slice for a lifetime that is made for the call, comes back with some records in it, and is handed to `print`.
 -- All that the proof knows of the two callees is that they meet their contracts.
 -- Assumes nothing.
 use mathlib.Core.Path.{_≡_, refl, sym, _∙_, subst}

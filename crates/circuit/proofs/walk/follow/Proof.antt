@@ -1,4 +1,4 @@
--- The tests in document 01's order, then the walk.
+-- The tests in the paper's order, then the walk.
 use mathlib.Core.Path.{sym, _∙_}
 use native.Mathlib.Omega.{arith}
 use Rattle.circuit.specs.Record.{old}
