@@ -5,7 +5,7 @@ use native.Mathlib.Omega.{arith}
 use lib.ListN.{length, getD, length-append}
 use Rattle.lines.specs.Text.{lineFeed, decimalOf, fieldOf}
 use Rattle.lines.proofs.Decimals.{length-decimal}
-use Rattle.circuit.specs.Record.{old, recordAt, kindOf, nextOf}
+use Rattle.circuit.specs.Record.{form64, recordAt, kindOf, nextOf}
 use Rattle.chain_text.specs.ChainText.{stepLine, stepLines, endWord, endLine}
 
 pub length-line : (r : List ℕ) (n : ℕ) → length (stepLine r n) ≤ 63
@@ -22,7 +22,7 @@ unfolding stepLines
 length-lines f order zero = omega arith
 length-lines f order (suc i) =
     let n = getD order i 0 in
-    omega (arith, length-append (stepLines f order i) (stepLine (recordAt old f n) n), length-line (recordAt old f n) n, length-lines f order i)
+    omega (arith, length-append (stepLines f order i) (stepLine (recordAt form64 f n) n), length-line (recordAt form64 f n) n, length-lines f order i)
 
 pub length-end : (n : ℕ) → length (endLine n) ≤ 25
 unfolding endLine

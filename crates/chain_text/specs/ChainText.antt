@@ -5,7 +5,7 @@ use lib.ListN.{getD}
 use Rattle.refusal.specs.declared.Outcome.{Outcome}
 use Rattle.lines.specs.Text.{space, lineFeed, decimalOf, fieldOf, refusedText}
 use Rattle.circuit.specs.declared.Chain.{Chain}
-use Rattle.circuit.specs.Record.{old, recordAt, kindOf, nextOf}
+use Rattle.circuit.specs.Record.{form64, recordAt, kindOf, nextOf}
 use Rattle.circuit.specs.Chain.{chainOf}
 
 -- record n, whose bytes are r
@@ -15,7 +15,7 @@ stepLine r n = decimalOf n ++ (fieldOf (kindOf r) ++ (fieldOf (nextOf r) ++ (lin
 -- the first steps of the chain
 unfoldable pub stepLines : List ℕ → List ℕ → ℕ → List ℕ
 stepLines f order zero = []
-stepLines f order (suc i) = stepLines f order i ++ stepLine (recordAt old f (getD order i 0)) (getD order i 0)
+stepLines f order (suc i) = stepLines f order i ++ stepLine (recordAt form64 f (getD order i 0)) (getD order i 0)
 
 -- `end ` in ASCII
 abbrev pub endWord : List ℕ
@@ -32,4 +32,4 @@ textBy Outcome.Answered f c = followedText f c
 textBy (Outcome.Refused r) f c = refusedText r
 
 unfoldable pub chainText : List ℕ → List ℕ
-chainText f = let c = chainOf old f in textBy (c .outcome) f c
+chainText f = let c = chainOf form64 f in textBy (c .outcome) f c

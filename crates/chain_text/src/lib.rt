@@ -5,7 +5,7 @@ ghost use lib.ListN.{length, getD};
 ghost use Rattle.refusal.specs.declared.Outcome.{Outcome};
 ghost use Rattle.io.specs.Counts.{Counts};
 ghost use Rattle.lines.specs.Text.{Put};
-ghost use Rattle.circuit.specs.Record.{old};
+ghost use Rattle.circuit.specs.Record.{form64};
 ghost use Rattle.circuit.specs.Chain.{chainOf};
 ghost use Rattle.chain_text.specs.ChainText.{stepLine, stepLines, endLine, followedText, chainText};
 use circuit::Chain;
@@ -46,7 +46,7 @@ fn put_end(out: &mut [u8], at: usize, count: usize) -> usize
 }
 
 fn put_chain(out: &mut [u8], file: &[u8], c: Chain) -> usize
-    requires { ⌜ (c ≡ chainOf old (now file)) × (c .outcome ≡ Outcome.Answered) × (4096 ≤ length (now out)) ⌝ }
+    requires { ⌜ (c ≡ chainOf form64 (now file)) × (c .outcome ≡ Outcome.Answered) × (4096 ≤ length (now out)) ⌝ }
     ensures { λ e. ⌜ Put (followedText (now (file .entry)) c) (now (out .entry)) 0 (now (out .exit)) e ⌝ }
 {
     let order = c.order;

@@ -14,7 +14,7 @@ use Rattle.refusal.specs.declared.Outcome.{Outcome}
 use Rattle.circuit.specs.declared.Chain.{Chain}
 use Rattle.circuit.specs.declared.Circuit.{Circuit}
 use Rattle.circuit.specs.declared.Step.{Step}
-use Rattle.circuit.specs.Record.{Form, old, recordAt}
+use Rattle.circuit.specs.Record.{Form, form64, recordAt}
 use Rattle.circuit.specs.Chain.{lengthGood, countOf, kmOf, headGood, byStep, stepOf, pick, soundBy, answered, refused, walk, chainOf}
 use Rattle.circuit.specs.Read.{readOf, circuitOf, noCircuit}
 use Rattle.circuit.proofs.Lists.{both, length-padded}
@@ -121,20 +121,20 @@ pub record Followed (f : List ℕ) (c : Chain) : Type 0 where
   pub whole : length f % 64 ≡ 0
   pub least : 128 ≤ length f
   pub most : length f ≤ 4096
-  pub head : Head old (recordAt old f 0)
-  pub is : c ≡ walk old f (kmOf (recordAt old f 0) + 48) (0 ∷ []) 0
+  pub head : Head form64 (recordAt form64 f 0)
+  pub is : c ≡ walk form64 f (kmOf (recordAt form64 f 0) + 48) (0 ∷ []) 0
   pub within : (i : ℕ) → getD (c .order) i 0 < length f / 64
-  pub long : Long (kmOf (recordAt old f 0) + 49) c
+  pub long : Long (kmOf (recordAt form64 f 0) + 49) c
 
 module _ (f : List ℕ) where
   walked : Chain
-  walked = walk old f (kmOf (recordAt old f 0) + 48) (0 ∷ []) 0
+  walked = walk form64 f (kmOf (recordAt form64 f 0) + 48) (0 ∷ []) 0
 
-  from-walk : length f % 64 ≡ 0 → 128 ≤ length f → length f ≤ 4096 → Head old (recordAt old f 0) → Followed f walked
+  from-walk : length f % 64 ≡ 0 → 128 ≤ length f → length f ≤ 4096 → Head form64 (recordAt form64 f 0) → Followed f walked
   unfolding walked
   from-walk a b c h =
       let some : 0 < length f / 64 = omega arith in
-      let fits : kmOf (recordAt old f 0) + 49 ≤ 64 = omega (arith, h .most) in
+      let fits : kmOf (recordAt form64 f 0) + 49 ≤ 64 = omega (arith, h .most) in
       record {
         whole = a;
         least = b;
@@ -143,36 +143,36 @@ module _ (f : List ℕ) where
         is = refl;
         within =
             below-at (length f / 64) (walked .order) some
-            (walk-within old f (kmOf (recordAt old f 0) + 48) 0 (0 ∷ []) some (some, tt));
-        long = walk-long old f (kmOf (recordAt old f 0) + 49) (kmOf (recordAt old f 0) + 48) 0 (0 ∷ []) fits (omega arith);
+            (walk-within form64 f (kmOf (recordAt form64 f 0) + 48) 0 (0 ∷ []) some (some, tt));
+        long = walk-long form64 f (kmOf (recordAt form64 f 0) + 49) (kmOf (recordAt form64 f 0) + 48) 0 (0 ∷ []) fits (omega arith);
       }
 
-  pub followed : chainOf old f .outcome ≡ Outcome.Answered → Followed f (chainOf old f)
+  pub followed : chainOf form64 f .outcome ≡ Outcome.Answered → Followed f (chainOf form64 f)
   unfolding chainOf walked
   followed e =
-      let inner = pick (headGood old (recordAt old f 0)) walked (refused Refusal.RecordZero) in
-      let a = picked (lengthGood old f) inner Refusal.Length e in
-      let b = picked (headGood old (recordAt old f 0)) walked Refusal.RecordZero (ap (λ (c : Chain). c .outcome) (sym (a .1)) ∙ e) in
+      let inner = pick (headGood form64 (recordAt form64 f 0)) walked (refused Refusal.RecordZero) in
+      let a = picked (lengthGood form64 f) inner Refusal.Length e in
+      let b = picked (headGood form64 (recordAt form64 f 0)) walked Refusal.RecordZero (ap (λ (c : Chain). c .outcome) (sym (a .1)) ∙ e) in
       let g = both (eqb (length f % 64) 0) (leb 128 (length f) && leb (length f) 4096) (a .0) in
       let l = both (leb 128 (length f)) (leb (length f) 4096) (g .1) in
       rw (a .1 ∙ b .1)
-      (from-walk (eqb-true _ _ (g .0)) (leb-true _ _ (l .0)) (leb-true _ _ (l .1)) (head-facts old (recordAt old f 0) (b .0)))
+      (from-walk (eqb-true _ _ (g .0)) (leb-true _ _ (l .0)) (leb-true _ _ (l .1)) (head-facts form64 (recordAt form64 f 0) (b .0)))
 
 -- room for the points, and for at most 48 of kind 3 after them
 pub count-range : (f : List ℕ) (c : Chain) → Followed f c → c .outcome ≡ Outcome.Answered
-    → (1 + kmOf (recordAt old f 0) ≤ c .count) × (c .count ≤ kmOf (recordAt old f 0) + 49)
+    → (1 + kmOf (recordAt form64 f 0) ≤ c .count) × (c .count ≤ kmOf (recordAt form64 f 0) + 49)
 count-range f c t e =
     ⊎-elim (λ w. (omega arith, omega arith)) (λ w. (omega arith, omega arith)) (t .long .count e)
 
 -- the reader's answer, by the chain's outcome
-module _ (f : List ℕ) (k : Chain) (e : k ≡ chainOf old f) where
+module _ (f : List ℕ) (k : Chain) (e : k ≡ chainOf form64 f) where
   pub read-answered : k .outcome ≡ Outcome.Answered
-      → readOf old f ≡ record { outcome = Outcome.Answered; circuit = circuitOf old f k }
+      → readOf form64 f ≡ record { outcome = Outcome.Answered; circuit = circuitOf form64 f k }
   unfolding readOf
   read-answered a = rw (← e, a)
 
   pub read-refused : (r : Refusal) → k .outcome ≡ Outcome.Refused r
-      → readOf old f ≡ record { outcome = Outcome.Refused r; circuit = noCircuit }
+      → readOf form64 f ≡ record { outcome = Outcome.Refused r; circuit = noCircuit }
   unfolding readOf
   read-refused r a = rw (← e, a)
 
@@ -180,12 +180,12 @@ module _ (f : List ℕ) (k : Chain) (e : k ≡ chainOf old f) where
 abbrev pub Small : Circuit → Type 0
 Small c = (c .km ≤ 5) × (c .shape ≤ 1)
 
-small-by : (f : List ℕ) (k : Chain) → k ≡ chainOf old f → (o : Outcome) → k .outcome ≡ o → Small (readOf old f .circuit)
+small-by : (f : List ℕ) (k : Chain) → k ≡ chainOf form64 f → (o : Outcome) → k .outcome ≡ o → Small (readOf form64 f .circuit)
 unfolding circuitOf noCircuit
 small-by f k e Outcome.Answered a =
     let h = followed f (ap (λ (c : Chain). c .outcome) (sym e) ∙ a) .head in
     rw (read-answered f k e a) (h .most, h .form)
 small-by f k e (Outcome.Refused r) a = rw (read-refused f k e r a) (omega arith, omega arith)
 
-pub small : (f : List ℕ) → Small (readOf old f .circuit)
-small f = small-by f (chainOf old f) refl (chainOf old f .outcome) refl
+pub small : (f : List ℕ) → Small (readOf form64 f .circuit)
+small f = small-by f (chainOf form64 f) refl (chainOf form64 f .outcome) refl

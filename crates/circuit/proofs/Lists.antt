@@ -11,7 +11,7 @@ use lib.Dec.{eqb}
 use borrow.Author.Tests.{eq-eqb, ne-eqb, eqb-true}
 use Rattle.circuit.specs.Chain.{member, padded}
 use Rattle.circuit.specs.Read.{numbersOf}
-use Rattle.circuit.specs.Record.{allZero, wordsOf, wordAt, recordAt, Form, old}
+use Rattle.circuit.specs.Record.{allZero, wordsOf, wordAt, recordAt, Form, form64}
 use native.Mathlib.Nat.{add-sub-cancel-left, sub-zero, zero-sub, suc-sub-suc}
 
 -- the rest of a list from a start, as a part of a slice has it
@@ -60,7 +60,7 @@ unfolding member
 member-off n l i h e = rw (drop-cons l i 0, eq-eqb n (getD l i 0) e)
 
 -- record n as the part of the file that is lent
-pub part : (f : List ℕ) (n : ℕ) → take (64 * n + 64 - 64 * n) (drop (64 * n) f) ≡ recordAt old f n
+pub part : (f : List ℕ) (n : ℕ) → take (64 * n + 64 - 64 * n) (drop (64 * n) f) ≡ recordAt form64 f n
 part f n = ap (λ (k : ℕ). take k (drop (64 * n) f)) (add-sub-cancel-left (64 * n) 64)
 
 pub drop-replicate : (n k : ℕ) → drop {A = ℕ} k (replicate n 0) ≡ replicate (n - k) 0
@@ -102,15 +102,15 @@ length-read N o f order from words n h =
     length-padded N (numbersOf o f order from words n) (rw length-numbers h)
 
 -- one more record's words, read into their part of the array
-pub read-on : (N w from i : ℕ) (f order xs ys : List ℕ) → xs ≡ padded N (numbersOf old f order from w i)
+pub read-on : (N w from i : ℕ) (f order xs ys : List ℕ) → xs ≡ padded N (numbersOf form64 f order from w i)
     → ys ≡ wordsOf
     (take (64 * getD order (from + i) 0 + 64 - 64 * getD order (from + i) 0) (drop (64 * getD order (from + i) 0) f)) w
     → w * i + w ≤ N
-    → take (w * i) xs ++ (ys ++ drop (w * i + w - w * i) (drop (w * i) xs)) ≡ padded N (numbersOf old f order from w (i + 1))
+    → take (w * i) xs ++ (ys ++ drop (w * i + w - w * i) (drop (w * i) xs)) ≡ padded N (numbersOf form64 f order from w (i + 1))
 unfolding numbersOf
 read-on N w from i f order xs ys e y h =
     let z = y ∙ ap (λ (r : List ℕ). wordsOf r w) (part f (getD order (from + i) 0)) in
-    placed N w (w * i) xs (numbersOf old f order from w i) ys e (length-numbers old f order from w i) (ap length z ∙ length-words _ w) h
+    placed N w (w * i) xs (numbersOf form64 f order from w i) ys e (length-numbers form64 f order from w i) (ap length z ∙ length-words _ w) h
     ∙ rw (add-one, z) refl
 
 -- a list of zeros

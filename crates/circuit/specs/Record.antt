@@ -11,8 +11,8 @@ pub record Form : Type 0 where
   pub first : ℕ
   pub point : ℕ
 
-abbrev pub old : Form
-old = record { size = 64; first = 1; point = 15 }
+abbrev pub form64 : Form
+form64 = record { size = 64; first = 1; point = 15 }
 
 -- the bytes of record n
 abbrev pub recordAt : Form → List ℕ → ℕ → List ℕ

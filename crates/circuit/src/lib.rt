@@ -8,7 +8,7 @@ ghost use mathlib.Core.Path.{_≡_};
 ghost use mathlib.Core.List.{map};
 ghost use mathlib.Core.Bool.{not};
 ghost use lib.Ieee.{ofBits, binary32};
-ghost use Rattle.circuit.specs.Record.{old, allZero};
+ghost use Rattle.circuit.specs.Record.{form64, allZero};
 ghost use Rattle.circuit.specs.Chain.{chainOf};
 ghost use Rattle.circuit.specs.Read.{readOf};
 pub use record::half;
@@ -49,14 +49,14 @@ pub enum Step {
 
 // The chain of a file, or where it is turned away.
 pub fn follow(file: &[u8]) -> Chain
-    ensures { λ c. ⌜ c ≡ chainOf old (now (file .entry)) ⌝ }
+    ensures { λ c. ⌜ c ≡ chainOf form64 (now (file .entry)) ⌝ }
 {
     walk::follow(file)
 }
 
 // The circuit of a file, or where it is turned away. Records off the chain are not looked at.
 pub fn read(file: &[u8]) -> ReadAnswer
-    ensures { λ r. ⌜ r ≡ readOf old (now (file .entry)) ⌝ }
+    ensures { λ r. ⌜ r ≡ readOf form64 (now (file .entry)) ⌝ }
 {
     let c = walk::follow(file);
     let outcome = c.outcome;

@@ -3,7 +3,7 @@ ghost use mathlib.Core.Path.{_≡_};
 ghost use Prim.Native.Nat.{ℕ, _+_, _*_, _≤_, _<_};
 ghost use lib.ListN.{length, getD};
 ghost use Rattle.refusal.specs.declared.Outcome.{Outcome};
-ghost use Rattle.circuit.specs.Record.{old, wordsOf, allZero};
+ghost use Rattle.circuit.specs.Record.{form64, wordsOf, allZero};
 ghost use Rattle.circuit.specs.Chain.{chainOf, padded};
 ghost use Rattle.circuit.specs.Read.{numbersOf, circuitOf, noCircuit};
 use crate::Chain;
@@ -42,7 +42,7 @@ pub fn all_zero(s: &[u32]) -> bool
 
 fn points(file: &[u8], order: &[usize], km: usize) -> [u32; 75]
     requires { ⌜ (km ≤ 5) × (length (now order) ≡ 64) × ((i : ℕ) → 64 * getD (now order) i 0 + 64 ≤ length (now file)) ⌝ }
-    ensures { λ p. ⌜ p ≡ padded 75 (numbersOf old (now (file .entry)) (now (order .entry)) 1 15 km) ⌝ }
+    ensures { λ p. ⌜ p ≡ padded 75 (numbersOf form64 (now (file .entry)) (now (order .entry)) 1 15 km) ⌝ }
 {
     let mut out = [0u32; 75];
     let mut i = 0;
@@ -56,7 +56,7 @@ fn points(file: &[u8], order: &[usize], km: usize) -> [u32; 75]
 
 fn deciles(file: &[u8], order: &[usize], from: usize, count: usize) -> [u32; 576]
     requires { ⌜ (from ≤ 6) × (count ≤ 48) × (length (now order) ≡ 64) × ((i : ℕ) → 64 * getD (now order) i 0 + 64 ≤ length (now file)) ⌝ }
-    ensures { λ d. ⌜ d ≡ padded 576 (numbersOf old (now (file .entry)) (now (order .entry)) from 12 count) ⌝ }
+    ensures { λ d. ⌜ d ≡ padded 576 (numbersOf form64 (now (file .entry)) (now (order .entry)) from 12 count) ⌝ }
 {
     let mut out = [0u32; 576];
     let mut i = 0;
@@ -69,8 +69,8 @@ fn deciles(file: &[u8], order: &[usize], from: usize, count: usize) -> [u32; 576
 }
 
 pub fn circuit(file: &[u8], c: Chain) -> Circuit
-    requires { ⌜ (c ≡ chainOf old (now file)) × (c .outcome ≡ Outcome.Answered) ⌝ }
-    ensures { λ r. ⌜ r ≡ circuitOf old (now (file .entry)) c ⌝ }
+    requires { ⌜ (c ≡ chainOf form64 (now file)) × (c .outcome ≡ Outcome.Answered) ⌝ }
+    ensures { λ r. ⌜ r ≡ circuitOf form64 (now (file .entry)) c ⌝ }
 {
     let head = &file[0..64];
     let km = record::byte(head, 4);

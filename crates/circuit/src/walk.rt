@@ -4,7 +4,7 @@ ghost use mathlib.Core.List.{[], _∷_, _++_};
 ghost use Prim.Native.Nat.{_+_, _*_, _/_, _-_, _≤_, _<_};
 ghost use lib.ListN.{length, replicate};
 ghost use lib.Dec.{leb};
-ghost use Rattle.circuit.specs.Record.{old};
+ghost use Rattle.circuit.specs.Record.{form64};
 ghost use Rattle.circuit.specs.Chain.{chainOf, headGood, member, stepOf, soundBy};
 use crate::Chain;
 use crate::Step;
@@ -37,7 +37,7 @@ fn is_among(list: &[usize], n: usize) -> bool
 
 fn head_good(r: &[u8]) -> bool
     requires { ⌜ length (now r) ≡ 64 ⌝ }
-    ensures { λ b. ⌜ b ≡ headGood old (now (r .entry)) ⌝ }
+    ensures { λ b. ⌜ b ≡ headGood form64 (now (r .entry)) ⌝ }
 {
     if record::half(r, 0) != 1 {
         return false;
@@ -61,7 +61,7 @@ fn head_good(r: &[u8]) -> bool
 // The step out of record `at`, after the records of `order`.
 fn step(file: &[u8], order: &[usize], at: usize) -> Step
     requires { ⌜ 64 * at + 64 ≤ length (now file) ⌝ }
-    ensures { λ s. ⌜ s ≡ stepOf old (now (file .entry)) (now (order .entry)) at ⌝ }
+    ensures { λ s. ⌜ s ≡ stepOf form64 (now (file .entry)) (now (order .entry)) at ⌝ }
 {
     let next = record::half(&file[64 * at..64 * at + 64], 2);
     if next == 0 {
@@ -79,7 +79,7 @@ fn step(file: &[u8], order: &[usize], at: usize) -> Step
 // Whether the record that a step came to is the one that may stand where `left` more may follow.
 fn landed(r: &[u8], left: usize) -> bool
     requires { ⌜ length (now r) ≡ 64 ⌝ }
-    ensures { λ b. ⌜ b ≡ soundBy old (leb 48 left) (now (r .entry)) ⌝ }
+    ensures { λ b. ⌜ b ≡ soundBy form64 (leb 48 left) (now (r .entry)) ⌝ }
 {
     if 48 <= left {
         return record::sound(r, 2, 15);
@@ -102,7 +102,7 @@ fn ended(left: usize, c: Chain) -> Chain
 
 fn walk(file: &[u8], km: usize) -> Chain
     requires { ⌜ (64 ≤ length (now file)) × (km ≤ 5) ⌝ }
-    ensures { λ c. ⌜ c ≡ Rattle.circuit.specs.Chain.walk old (now (file .entry)) (km + 48) (0 ∷ []) 0 ⌝ }
+    ensures { λ c. ⌜ c ≡ Rattle.circuit.specs.Chain.walk form64 (now (file .entry)) (km + 48) (0 ∷ []) 0 ⌝ }
 {
     let mut order = [0usize; 64];
     let mut count: usize = 1;
@@ -140,7 +140,7 @@ fn walk(file: &[u8], km: usize) -> Chain
 
 // The chain of a file, or where it is turned away.
 pub fn follow(file: &[u8]) -> Chain
-    ensures { λ c. ⌜ c ≡ chainOf old (now (file .entry)) ⌝ }
+    ensures { λ c. ⌜ c ≡ chainOf form64 (now (file .entry)) ⌝ }
 {
     let n = file.len();
     if n % 64 != 0 {

@@ -10,7 +10,7 @@ use lib.Seq.{take-add, drop-drop, getD-take, getD-drop}
 use lib.Dec.{eqb}
 use borrow.Author.Tests.{eqb-true}
 use Rattle.circuit.specs.declared.Circuit.{Circuit}
-use Rattle.circuit.specs.Record.{old, halfAt, wordAt, kindOf, nextOf, wordsOf, allZero}
+use Rattle.circuit.specs.Record.{form64, halfAt, wordAt, kindOf, nextOf, wordsOf, allZero}
 use Rattle.circuit.specs.Chain.{kmOf, shapeOf}
 use Rattle.circuit.proofs.Lists.{both, zeros, length-words}
 use Rattle.circuit.proofs.Steps.{Head}
@@ -85,7 +85,7 @@ zero-at (x ∷ l) e (suc i) = zero-at l (both (eqb x 0) (allZero l) e .1) i
 
 module _ (r : List ℕ) (h : length r ≡ 64) (p : Each 256 r) where
   pub record-again : (n : ℕ) → n ≤ 15 → allZero (drop (4 + 4 * n) r) ≡ true
-      → recordOf old (kindOf r) (nextOf r) (wordsOf r n) ≡ r
+      → recordOf form64 (kindOf r) (nextOf r) (wordsOf r n) ≡ r
   unfolding recordOf
   record-again n k z =
       let t : replicate (64 - (4 + 4 * length (wordsOf r n))) 0 ≡ drop (4 + 4 * n) r
@@ -103,7 +103,7 @@ module _ (r : List ℕ) (h : length r ≡ 64) (p : Each 256 r) where
       ∙ take-append-drop 4 r
 
   -- record 0, whose first word is km, shape and two zero bytes
-  module _ (t : Head old r) where
+  module _ (t : Head form64 r) where
     gap-at : (i : ℕ) → i < 2 → getD r (6 + i) 0 ≡ 0
     gap-at i k =
         sym (getD-drop 6 r i 0) ∙ sym (getD-take 2 (drop 6 r) i 0 k) ∙ zero-at (take 2 (drop 6 r)) (t .gap) i
@@ -114,12 +114,12 @@ module _ (r : List ℕ) (h : length r ≡ 64) (p : Each 256 r) where
 
     pub head-again : (c : Circuit) → c .km ≡ kmOf r → c .shape ≡ shapeOf r
         → c .gcd ∷ c .gcdkm ∷ c .amind ∷ c .ssn ∷ [] ≡ wordAt r 8 ∷ wordAt r 12 ∷ wordAt r 16 ∷ wordAt r 20 ∷ []
-        → headOf old c (nextOf r) ≡ r
+        → headOf form64 c (nextOf r) ≡ r
     unfolding wordsOf
     head-again c a b e =
         let first : c .km + 256 * c .shape ≡ wordAt r 4 = rw (a, b) first-word in
         sym (head-put c (nextOf r) (omega (arith, t .most)) (omega (arith, t .form)))
-        ∙ ap (λ (l : List ℕ). recordOf old 1 (nextOf r) ((c .km + 256 * c .shape) ∷ l)) e
-        ∙ ap (λ (m : ℕ). recordOf old 1 (nextOf r) (m ∷ wordAt r 8 ∷ wordAt r 12 ∷ wordAt r 16 ∷ wordAt r 20 ∷ [])) first
-        ∙ ap (λ (m : ℕ). recordOf old m (nextOf r) (wordsOf r 5)) (sym (t .kind))
+        ∙ ap (λ (l : List ℕ). recordOf form64 1 (nextOf r) ((c .km + 256 * c .shape) ∷ l)) e
+        ∙ ap (λ (m : ℕ). recordOf form64 1 (nextOf r) (m ∷ wordAt r 8 ∷ wordAt r 12 ∷ wordAt r 16 ∷ wordAt r 20 ∷ [])) first
+        ∙ ap (λ (m : ℕ). recordOf form64 m (nextOf r) (wordsOf r 5)) (sym (t .kind))
         ∙ record-again 5 (omega arith) (t .tail)

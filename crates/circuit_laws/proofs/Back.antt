@@ -8,7 +8,7 @@ use lib.ListN.{length, getD, take, drop, replicate}
 use lib.Seq.{drop-cons, take-suc, take-length, getD-drop, drop-append-add, drop-length}
 use native.Mathlib.Nat.{add-zero, div-div-eq-div-mul}
 use borrow.Author.Tests.{eq-eqb}
-use Rattle.circuit.specs.Record.{old, halfAt, wordAt, kindOf, nextOf, wordsOf, allZero, fits}
+use Rattle.circuit.specs.Record.{form64, halfAt, wordAt, kindOf, nextOf, wordsOf, allZero, fits}
 use Rattle.circuit_write.specs.Written.{bytesOf, recordOf}
 use Rattle.circuit_laws.specs.Forms.{Each}
 
@@ -83,23 +83,23 @@ all-zeros zero = refl
 all-zeros (suc n) = all-zeros n
 
 module _ (kind next : ℕ) (ws : List ℕ) where
-  pub kind-back : kind < 65536 → kindOf (recordOf old kind next ws) ≡ kind
+  pub kind-back : kind < 65536 → kindOf (recordOf form64 kind next ws) ≡ kind
   unfolding recordOf halfAt
   kind-back h = half-back kind h
 
-  pub next-back : next < 65536 → nextOf (recordOf old kind next ws) ≡ next
+  pub next-back : next < 65536 → nextOf (recordOf form64 kind next ws) ≡ next
   unfolding recordOf halfAt
   next-back h = half-back next h
 
-  pub record-words : Each (2 ^ 32) ws → wordsOf (recordOf old kind next ws) (length ws) ≡ ws
+  pub record-words : Each (2 ^ 32) ws → wordsOf (recordOf form64 kind next ws) (length ws) ≡ ws
   unfolding recordOf
   record-words p = words-back _ _ _ _ ws _ (length ws) (omega arith) p ∙ take-length ws
 
-  record-tail : drop (4 + 4 * length ws) (recordOf old kind next ws) ≡ replicate (64 - (4 + 4 * length ws)) 0
+  record-tail : drop (4 + 4 * length ws) (recordOf form64 kind next ws) ≡ replicate (64 - (4 + 4 * length ws)) 0
   unfolding recordOf
   record-tail = tail-back _ _ _ _ ws _
 
-  pub record-fits : kind < 65536 → fits kind (length ws) (recordOf old kind next ws) ≡ true
+  pub record-fits : kind < 65536 → fits kind (length ws) (recordOf form64 kind next ws) ≡ true
   unfolding fits
   record-fits h =
-      rw (eq-eqb (kindOf (recordOf old kind next ws)) kind (kind-back h)) (ap allZero record-tail ∙ all-zeros (64 - (4 + 4 * length ws)))
+      rw (eq-eqb (kindOf (recordOf form64 kind next ws)) kind (kind-back h)) (ap allZero record-tail ∙ all-zeros (64 - (4 + 4 * length ws)))

@@ -16,7 +16,7 @@ use Rattle.refusal.specs.declared.Outcome.{Outcome}
 use Rattle.circuit.specs.declared.Circuit.{Circuit}
 use Rattle.circuit.specs.declared.ReadAnswer.{ReadAnswer}
 use Rattle.circuit.specs.declared.Step.{Step}
-use Rattle.circuit.specs.Record.{old, recordAt, halfAt, wordAt, nextOf, wordsOf, allZero}
+use Rattle.circuit.specs.Record.{form64, recordAt, halfAt, wordAt, nextOf, wordsOf, allZero}
 use Rattle.circuit.specs.Chain.{headGood, kmOf, shapeOf, member, stepOf, soundBy, answered, padded, walk, chainOf}
 use Rattle.circuit.specs.Read.{numbersOf, circuitOf, readOf}
 use Rattle.circuit.proofs.Lists.{both, zeros}
@@ -70,19 +70,19 @@ unfolding upTo
 one-more i = rw (add-one (i + 1)) refl
 
 -- record i of the entries
-entry-in : (c : Circuit) (n k i : ℕ) → i < k → recordAt old (entriesOf old c n k) i ≡ entryOf old c n i
+entry-in : (c : Circuit) (n k i : ℕ) → i < k → recordAt form64 (entriesOf form64 c n k) i ≡ entryOf form64 c n i
 unfolding entriesOf
 entry-in c n zero i h = absurd (omega arith)
 entry-in c n (suc k) i h =
-    let A = entriesOf old c n k in
-    let B = entryOf old c n k in
+    let A = entriesOf form64 c n k in
+    let B = entryOf form64 c n k in
     let len = length-entries c n k in
     ⊎-elim
     (λ (e : i ≡ k).
-    ap (recordAt old (A ++ B)) e
+    ap (recordAt form64 (A ++ B)) e
     ∙ ap (take 64) (drop-at A B (64 * k) len)
     ∙ take-all 64 B (omega (arith, length-entry c n k))
-    ∙ ap (entryOf old c n) (sym e))
+    ∙ ap (entryOf form64 c n) (sym e))
     (λ (j : i < k).
     let q : 64 ≤ length (drop (64 * i) A) = simp length-drop (omega (arith, len, j)) in
     ap (take 64) (drop-append-le (64 * i) A B (omega (arith, len, j)))
@@ -95,13 +95,13 @@ next-small true i h = omega arith
 next-small false i h = omega arith
 
 -- the next index of an entry
-entry-next : (first point : Bool) (c : Circuit) (n i : ℕ) → i < 60 → nextOf (entryBy first point old c n i) ≡ nextIn n i
+entry-next : (first point : Bool) (c : Circuit) (n i : ℕ) → i < 60 → nextOf (entryBy first point form64 c n i) ≡ nextIn n i
 unfolding headOf halfAt
 entry-next true point c n i h = half-back (nextIn n i) (next-small (eqb (i + 1) n) i h)
 entry-next false true c n i h = next-back 2 (nextIn n i) (pointAt c (i - 1)) (next-small (eqb (i + 1) n) i h)
 entry-next false false c n i h = next-back 3 (nextIn n i) (twelveAt c (i - (c .km + 1))) (next-small (eqb (i + 1) n) i h)
 
-next-is : (c : Circuit) (n i : ℕ) → i < 60 → nextOf (entryOf old c n i) ≡ nextIn n i
+next-is : (c : Circuit) (n i : ℕ) → i < 60 → nextOf (entryOf form64 c n i) ≡ nextIn n i
 unfolding entryOf
 next-is c n i h = entry-next (eqb i 0) (leb i (c .km)) c n i h
 
@@ -114,7 +114,7 @@ module _ (c : Circuit) (w : Whole c) (some : 1 ≤ c .km) (most : c .km ≤ 5) (
   N = recordsOf c
 
   abbrev file : List ℕ
-  file = fileOf old c
+  file = fileOf form64 c
 
   N-least : 1 + c .km ≤ N
   N-least = least-by (allZero (c .deciles)) (c .km)
@@ -122,15 +122,15 @@ module _ (c : Circuit) (w : Whole c) (some : 1 ≤ c .km) (most : c .km ≤ 5) (
   N-most : N ≤ c .km + 49
   N-most = records-most c
 
-  at-file : (i : ℕ) → i < N → recordAt old file i ≡ entryOf old c N i
+  at-file : (i : ℕ) → i < N → recordAt form64 file i ≡ entryOf form64 c N i
   unfolding fileOf
   at-file i h = entry-in c N N i h
 
-  head-at : recordAt old file 0 ≡ headOf old c (nextIn N 0)
+  head-at : recordAt form64 file 0 ≡ headOf form64 c (nextIn N 0)
   unfolding entryOf
   head-at = at-file 0 (omega (arith, N-least))
 
-  point-at : (i : ℕ) → i < c .km → recordAt old file (i + 1) ≡ recordOf old 2 (nextIn N (i + 1)) (pointAt c i)
+  point-at : (i : ℕ) → i < c .km → recordAt form64 file (i + 1) ≡ recordOf form64 2 (nextIn N (i + 1)) (pointAt c i)
   unfolding entryOf
   point-at i h =
       let q : i + 1 - 1 ≡ i = omega arith in
@@ -138,7 +138,7 @@ module _ (c : Circuit) (w : Whole c) (some : 1 ≤ c .km) (most : c .km ≤ 5) (
       ∙ rw (ne-eqb (i + 1) 0 (λ e. omega arith), le-leb (i + 1) (c .km) (omega arith), q) refl
 
   twelve-at : (i : ℕ) → 1 + c .km + i < N
-      → recordAt old file (1 + c .km + i) ≡ recordOf old 3 (nextIn N (1 + c .km + i)) (twelveAt c i)
+      → recordAt form64 file (1 + c .km + i) ≡ recordOf form64 3 (nextIn N (1 + c .km + i)) (twelveAt c i)
   unfolding entryOf
   twelve-at i h =
       let q : 1 + c .km + i - (c .km + 1) ≡ i = omega arith in
@@ -151,10 +151,10 @@ module _ (c : Circuit) (w : Whole c) (some : 1 ≤ c .km) (most : c .km ≤ 5) (
   twelve-long : (i : ℕ) → i < 48 → length (twelveAt c i) ≡ 12
   twelve-long i h = length-take-le 12 (drop (12 * i) (c .deciles)) (simp length-drop (omega (arith, w .all)))
 
-  step-file : (i : ℕ) → i + 1 < N → stepOf old file (upTo (i + 1)) i ≡ Step.To (i + 1)
+  step-file : (i : ℕ) → i + 1 < N → stepOf form64 file (upTo (i + 1)) i ≡ Step.To (i + 1)
   unfolding stepOf
   step-file i h =
-      let e : nextOf (recordAt old file i) ≡ i + 1
+      let e : nextOf (recordAt form64 file i) ≡ i + 1
       = ap nextOf (at-file i (omega arith)) ∙ next-is c N i (omega (arith, N-most)) ∙ rw (ne-eqb (i + 1) N (λ z. omega arith)) refl in
       rw (
         e,
@@ -163,34 +163,34 @@ module _ (c : Circuit) (w : Whole c) (some : 1 ≤ c .km) (most : c .km ≤ 5) (
         fresh (i + 1) (i + 1) (omega arith),
       )
 
-  end-file : (i : ℕ) → i + 1 ≡ N → stepOf old file (upTo (i + 1)) i ≡ Step.End
+  end-file : (i : ℕ) → i + 1 ≡ N → stepOf form64 file (upTo (i + 1)) i ≡ Step.End
   unfolding stepOf
   end-file i h =
-      let e : nextOf (recordAt old file i) ≡ 0
+      let e : nextOf (recordAt form64 file i) ≡ 0
       = ap nextOf (at-file i (omega arith)) ∙ next-is c N i (omega (arith, N-most)) ∙ rw (eq-eqb (i + 1) N h) refl in
       rw e
 
-  sound-point : (i : ℕ) → i < c .km → soundBy old (leb 48 (c .km + 48 - (i + 1))) (recordAt old file (i + 1)) ≡ true
+  sound-point : (i : ℕ) → i < c .km → soundBy form64 (leb 48 (c .km + 48 - (i + 1))) (recordAt form64 file (i + 1)) ≡ true
   sound-point i h =
       rw (le-leb 48 (c .km + 48 - (i + 1)) (omega arith), point-at i h)
       (rw (point-long i h) at (record-fits 2 (nextIn N (i + 1)) (pointAt c i) (omega arith)))
 
   sound-twelve : (i : ℕ) → 1 + c .km + i < N
-      → soundBy old (leb 48 (c .km + 48 - (1 + c .km + i))) (recordAt old file (1 + c .km + i)) ≡ true
+      → soundBy form64 (leb 48 (c .km + 48 - (1 + c .km + i))) (recordAt form64 file (1 + c .km + i)) ≡ true
   sound-twelve i h =
       rw (lt-leb 48 (c .km + 48 - (1 + c .km + i)) (omega arith), twelve-at i h)
       (rw (twelve-long i (omega (arith, N-most))) at (record-fits 3 (nextIn N (1 + c .km + i)) (twelveAt c i) (omega arith)))
 
   sound-by : (j : ℕ) → 1 ≤ j → j < N → (b : Bool) → leb j (c .km) ≡ b
-      → soundBy old (leb 48 (c .km + 48 - j)) (recordAt old file j) ≡ true
+      → soundBy form64 (leb 48 (c .km + 48 - j)) (recordAt form64 file j) ≡ true
   sound-by j a h true e =
       let k = leb-true j (c .km) e in
       let q : j ≡ j - 1 + 1 = omega arith in
-      ap (λ (x : ℕ). soundBy old (leb 48 (c .km + 48 - x)) (recordAt old file x)) q ∙ sound-point (j - 1) (omega arith)
+      ap (λ (x : ℕ). soundBy form64 (leb 48 (c .km + 48 - x)) (recordAt form64 file x)) q ∙ sound-point (j - 1) (omega arith)
   sound-by j a h false e =
       let k = leb-false j (c .km) e in
       let q : j ≡ 1 + c .km + (j - (1 + c .km)) = omega arith in
-      ap (λ (x : ℕ). soundBy old (leb 48 (c .km + 48 - x)) (recordAt old file x)) q
+      ap (λ (x : ℕ). soundBy form64 (leb 48 (c .km + 48 - x)) (recordAt form64 file x)) q
       ∙ sound-twelve (j - (1 + c .km)) (omega arith)
 
   ended-by : (b : Bool) (l : ℕ) → l + decileRecords b ≡ 48 → (eqb l 48 || eqb l 0) ≡ true
@@ -199,26 +199,26 @@ module _ (c : Circuit) (w : Whole c) (some : 1 ≤ c .km) (most : c .km ≤ 5) (
 
   -- k more records follow record i
   walk-file : (k i : ℕ) → i + 1 + k ≡ N
-      → walk old file (c .km + 48 - i) (upTo (i + 1)) i ≡ answered (upTo N)
+      → walk form64 file (c .km + 48 - i) (upTo (i + 1)) i ≡ answered (upTo N)
   walk-file zero i h =
       let e : i + 1 ≡ N = omega arith in
-      walk-end old file (upTo (i + 1)) i (c .km + 48 - i) (end-file i e)
+      walk-end form64 file (upTo (i + 1)) i (c .km + 48 - i) (end-file i e)
       ∙ rw (ended-by (allZero (c .deciles)) (c .km + 48 - i) (omega (arith, N-most))) (ap (λ (n : ℕ). answered (upTo n)) e)
   walk-file (suc k) i h =
       let q : c .km + 48 - i - 1 ≡ c .km + 48 - (i + 1) = omega arith in
-      walk-on old file (upTo (i + 1)) i (i + 1) (c .km + 48 - i) (step-file i (omega arith)) (λ z. omega (arith, N-most))
+      walk-on form64 file (upTo (i + 1)) i (i + 1) (c .km + 48 - i) (step-file i (omega arith)) (λ z. omega (arith, N-most))
       (rw q (sound-by (i + 1) (omega arith) (omega arith) (leb (i + 1) (c .km)) refl))
       ∙ rw (q, one-more i) (walk-file k (i + 1) (omega arith))
 
-  head-good : headGood old (headOf old c (nextIn N 0)) ≡ true
+  head-good : headGood form64 (headOf form64 c (nextIn N 0)) ≡ true
   unfolding headGood headOf halfAt bytesOf allZero
   head-good = rw (le-leb 1 (c .km) some, le-leb (c .km) 5 most, le-leb (c .shape) 1 form)
 
-  head-km : kmOf (recordAt old file 0) ≡ c .km
+  head-km : kmOf (recordAt form64 file 0) ≡ c .km
   unfolding headOf
   head-km = ap kmOf head-at
 
-  pub chain-file : chainOf old file ≡ answered (upTo N)
+  pub chain-file : chainOf form64 file ≡ answered (upTo N)
   unfolding chainOf upTo
   chain-file =
       let q : c .km + 48 ≡ c .km + 48 - 0 = omega arith in
@@ -226,7 +226,7 @@ module _ (c : Circuit) (w : Whole c) (some : 1 ≤ c .km) (most : c .km ≤ 5) (
         eq-eqb (length file % 64) 0 (omega (arith, length-file c)),
         le-leb 128 (length file) (omega (arith, length-file c, N-least)),
         le-leb (length file) 4096 (omega (arith, length-file c, N-most)),
-        ap (headGood old) head-at ∙ head-good,
+        ap (headGood form64) head-at ∙ head-good,
         head-km,
         q,
       )
@@ -238,17 +238,17 @@ module _ (c : Circuit) (w : Whole c) (some : 1 ≤ c .km) (most : c .km ≤ 5) (
   order-at : (j : ℕ) → j < N → getD order j 0 ≡ j
   order-at j h = up-at N j (replicate (64 - length (upTo N)) 0) h
 
-  point-words : (i : ℕ) → i < c .km → wordsOf (recordAt old file (i + 1)) 15 ≡ pointAt c i
+  point-words : (i : ℕ) → i < c .km → wordsOf (recordAt form64 file (i + 1)) 15 ≡ pointAt c i
   point-words i h =
       rw (point-at i h)
       (rw (point-long i h) at (record-words 2 (nextIn N (i + 1)) (pointAt c i) (each-take (2 ^ 32) 15 (drop (15 * i) (c .points)) (each-drop (2 ^ 32) (15 * i) (c .points) (w .points)))))
 
-  twelve-words : (i : ℕ) → 1 + c .km + i < N → wordsOf (recordAt old file (1 + c .km + i)) 12 ≡ twelveAt c i
+  twelve-words : (i : ℕ) → 1 + c .km + i < N → wordsOf (recordAt form64 file (1 + c .km + i)) 12 ≡ twelveAt c i
   twelve-words i h =
       rw (twelve-at i h)
       (rw (twelve-long i (omega (arith, N-most))) at (record-words 3 (nextIn N (1 + c .km + i)) (twelveAt c i) (each-take (2 ^ 32) 12 (drop (12 * i) (c .deciles)) (each-drop (2 ^ 32) (12 * i) (c .deciles) (w .deciles)))))
 
-  points-back : (n : ℕ) → n ≤ c .km → numbersOf old file order 1 15 n ≡ take (15 * n) (c .points)
+  points-back : (n : ℕ) → n ≤ c .km → numbersOf form64 file order 1 15 n ≡ take (15 * n) (c .points)
   unfolding numbersOf
   points-back zero h = refl
   points-back (suc n) h =
@@ -256,7 +256,7 @@ module _ (c : Circuit) (w : Whole c) (some : 1 ≤ c .km) (most : c .km ≤ 5) (
       let q : 15 * suc n ≡ 15 * n + 15 = omega arith in
       rw (points-back n (omega arith), g, point-words n (omega arith), q) (sym (take-add (15 * n) 15 (c .points)))
 
-  deciles-back : (n : ℕ) → 1 + c .km + n ≤ N → numbersOf old file order (1 + c .km) 12 n ≡ take (12 * n) (c .deciles)
+  deciles-back : (n : ℕ) → 1 + c .km + n ≤ N → numbersOf form64 file order (1 + c .km) 12 n ≡ take (12 * n) (c .deciles)
   unfolding numbersOf
   deciles-back zero h = refl
   deciles-back (suc n) h =
@@ -264,11 +264,11 @@ module _ (c : Circuit) (w : Whole c) (some : 1 ≤ c .km) (most : c .km ≤ 5) (
       rw (deciles-back n (omega arith), order-at (1 + c .km + n) (omega arith), twelve-words n (omega arith), q)
       (sym (take-add (12 * n) 12 (c .deciles)))
 
-  points-file : padded 75 (numbersOf old file order 1 15 (c .km)) ≡ padded 75 (take (15 * c .km) (c .points))
+  points-file : padded 75 (numbersOf form64 file order 1 15 (c .km)) ≡ padded 75 (take (15 * c .km) (c .points))
   points-file = ap (padded 75) (points-back (c .km) (omega arith))
 
   deciles-file : (b : Bool) → allZero (c .deciles) ≡ b
-      → padded 576 (numbersOf old file order (1 + c .km) 12 (N - (1 + c .km))) ≡ c .deciles
+      → padded 576 (numbersOf form64 file order (1 + c .km) 12 (N - (1 + c .km))) ≡ c .deciles
   deciles-file true e =
       let q : N - (1 + c .km) ≡ 0 = rw e (omega arith) in
       rw (q, deciles-back 0 (omega (arith, N-least))) (sym (zeros (c .deciles) e ∙ ap (λ (n : ℕ). replicate n 0) (w .all)))
@@ -278,23 +278,23 @@ module _ (c : Circuit) (w : Whole c) (some : 1 ≤ c .km) (most : c .km ≤ 5) (
       let t : take 576 (c .deciles) ≡ c .deciles = take-all 576 (c .deciles) (omega (arith, w .all)) in
       rw (q, deciles-back 48 m, t, w .all) (append-nil (c .deciles))
 
-  head-words : (wordAt (recordAt old file 0) 8 ≡ c .gcd) × (wordAt (recordAt old file 0) 12 ≡ c .gcdkm)
-      × (wordAt (recordAt old file 0) 16 ≡ c .amind) × (wordAt (recordAt old file 0) 20 ≡ c .ssn)
+  head-words : (wordAt (recordAt form64 file 0) 8 ≡ c .gcd) × (wordAt (recordAt form64 file 0) 12 ≡ c .gcdkm)
+      × (wordAt (recordAt form64 file 0) 16 ≡ c .amind) × (wordAt (recordAt form64 file 0) 20 ≡ c .ssn)
   unfolding headOf wordAt bytesOf
   head-words =
       rw head-at
       (word-back (c .gcd) (w .gcd), word-back (c .gcdkm) (w .gcdkm), word-back (c .amind) (w .amind), word-back (c .ssn) (w .ssn))
 
-  head-shape : shapeOf (recordAt old file 0) ≡ c .shape
+  head-shape : shapeOf (recordAt form64 file 0) ≡ c .shape
   unfolding headOf
   head-shape = ap shapeOf head-at
 
-  deciles-counted : padded 576 (numbersOf old file order (1 + c .km) 12 (length (upTo N) - (1 + c .km))) ≡ c .deciles
+  deciles-counted : padded 576 (numbersOf form64 file order (1 + c .km) 12 (length (upTo N) - (1 + c .km))) ≡ c .deciles
   deciles-counted =
-      ap (λ (n : ℕ). padded 576 (numbersOf old file order (1 + c .km) 12 (n - (1 + c .km)))) (length-up N)
+      ap (λ (n : ℕ). padded 576 (numbersOf form64 file order (1 + c .km) 12 (n - (1 + c .km)))) (length-up N)
       ∙ deciles-file (allZero (c .deciles)) refl
 
-  circuit-file : circuitOf old file (answered (upTo N)) ≡ heldOf c
+  circuit-file : circuitOf form64 file (answered (upTo N)) ≡ heldOf c
   unfolding circuitOf heldOf
   circuit-file =
       rw (
@@ -308,7 +308,7 @@ module _ (c : Circuit) (w : Whole c) (some : 1 ≤ c .km) (most : c .km ≤ 5) (
         deciles-counted,
       )
 
-  pub read-file : readOf old file ≡ record { outcome = Outcome.Answered; circuit = heldOf c }
+  pub read-file : readOf form64 file ≡ record { outcome = Outcome.Answered; circuit = heldOf c }
   read-file =
       read-answered file (answered (upTo N)) (sym chain-file) refl
       ∙ ap {B = ReadAnswer} (λ (x : Circuit). record { outcome = Outcome.Answered; circuit = x }) circuit-file
@@ -318,7 +318,7 @@ written-by true true m n e = (refl, refl, cc)
 written-by true false m n e = absurd (let z : _≡_ {A = ℕ} 0 1 = cc in omega arith)
 written-by false r m n e = absurd (let z : _≡_ {A = ℕ} 0 1 = cc in omega arith)
 
-module _ (c : Circuit) (out : List ℕ) (n : ℕ) (e : answerOf old c out ≡ WriteAnswer.Written n) where
+module _ (c : Circuit) (out : List ℕ) (n : ℕ) (e : answerOf form64 c out ≡ WriteAnswer.Written n) where
   taken : (goodOf c ≡ true) × (leb (64 * recordsOf c) (length out) ≡ true) × (64 * recordsOf c ≡ n)
   unfolding answerOf
   taken = written-by (goodOf c) (leb (64 * recordsOf c) (length out)) (64 * recordsOf c) n e
@@ -330,10 +330,10 @@ module _ (c : Circuit) (out : List ℕ) (n : ℕ) (e : answerOf old c out ≡ Wr
       let h = both (leb (c .km) 5) (leb (c .shape) 1) (g .1) in
       (leb-true _ _ (g .0), leb-true _ _ (h .0), leb-true _ _ (h .1))
 
-  pub written-file : take n (leftOf old c out) ≡ fileOf old c
+  pub written-file : take n (leftOf form64 c out) ≡ fileOf form64 c
   written-file =
       ap (take n) (sym (write-good c out (taken .0) (leb-true _ _ (taken .1)) .1))
-      ∙ take-at (fileOf old c) (drop (64 * recordsOf c) out) n (length-file c ∙ taken .2)
+      ∙ take-at (fileOf form64 c) (drop (64 * recordsOf c) out) n (length-file c ∙ taken .2)
 
   held-same : Whole c → drop (15 * c .km) (c .points) ≡ replicate (75 - 15 * c .km) 0 → heldOf c ≡ c
   unfolding heldOf
@@ -348,7 +348,7 @@ written-length c out n e = sym (taken c out n e .2)
 
 pub read-written : ReadWritten
 read-written c out n w e =
-    let t = in-range c out n e in ap (readOf old) (written-file c out n e) ∙ read-file c w (t .0) (t .1) (t .2)
+    let t = in-range c out n e in ap (readOf form64) (written-file c out n e) ∙ read-file c w (t .0) (t .1) (t .2)
 
 pub read-same : ReadSame
 read-same c out n w e z =

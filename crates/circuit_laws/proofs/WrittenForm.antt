@@ -11,7 +11,7 @@ use lib.Dec.{eqb, leb}
 use Rattle.refusal.specs.declared.Outcome.{Outcome}
 use Rattle.circuit.specs.declared.Circuit.{Circuit}
 use Rattle.circuit.specs.declared.ReadAnswer.{ReadAnswer}
-use Rattle.circuit.specs.Record.{old, allZero}
+use Rattle.circuit.specs.Record.{form64, allZero}
 use Rattle.circuit.specs.Chain.{chainOf}
 use Rattle.circuit.specs.Read.{readOf}
 use Rattle.circuit_write.specs.Written.{halfOf, wordOf, bytesOf, headOf, recordOf, pointAt, twelveAt, decileRecords, recordsOf, nextIn, entryBy, entryOf, entriesOf, fileOf}
@@ -39,7 +39,7 @@ unfolding bytesOf
 words-bytes [] = tt
 words-bytes (w ∷ ws) = each-append 256 (wordOf w) (bytesOf ws) (word-bytes w) (words-bytes ws)
 
-record-bytes : (kind next : ℕ) (words : List ℕ) → Each 256 (recordOf old kind next words)
+record-bytes : (kind next : ℕ) (words : List ℕ) → Each 256 (recordOf form64 kind next words)
 unfolding recordOf
 record-bytes kind next words =
     let rest : List ℕ = replicate (64 - (4 + 4 * length words)) 0 in
@@ -48,7 +48,7 @@ record-bytes kind next words =
     (each-append 256 (bytesOf words) rest (words-bytes words) (each-zero 256 (64 - (4 + 4 * length words)) (omega arith))))
 
 module _ (c : Circuit) (w : Whole c) (some : 1 ≤ c .km) (most : c .km ≤ 5) (form : c .shape ≤ 1) where
-  head-bytes : (next : ℕ) → Each 256 (headOf old c next)
+  head-bytes : (next : ℕ) → Each 256 (headOf form64 c next)
   unfolding headOf
   head-bytes next =
       let numbers : List ℕ = c .gcd ∷ c .gcdkm ∷ c .amind ∷ c .ssn ∷ [] in
@@ -59,28 +59,28 @@ module _ (c : Circuit) (w : Whole c) (some : 1 ≤ c .km) (most : c .km ≤ 5) (
       (each-append 256 four (bytesOf numbers ++ rest) (omega arith, (omega arith, (omega arith, (omega arith, tt))))
       (each-append 256 (bytesOf numbers) rest (words-bytes numbers) (each-zero 256 40 (omega arith)))))
 
-  entry-bytes : (first point : Bool) (n i : ℕ) → Each 256 (entryBy first point old c n i)
+  entry-bytes : (first point : Bool) (n i : ℕ) → Each 256 (entryBy first point form64 c n i)
   entry-bytes true point n i = head-bytes (nextIn n i)
   entry-bytes false true n i = record-bytes 2 (nextIn n i) (pointAt c (i - 1))
   entry-bytes false false n i = record-bytes 3 (nextIn n i) (twelveAt c (i - (c .km + 1)))
 
-  entries-bytes : (n k : ℕ) → Each 256 (entriesOf old c n k)
+  entries-bytes : (n k : ℕ) → Each 256 (entriesOf form64 c n k)
   unfolding entriesOf entryOf
   entries-bytes n zero = tt
   entries-bytes n (suc k) =
-      each-append 256 (entriesOf old c n k) (entryOf old c n k) (entries-bytes n k) (entry-bytes (eqb k 0) (leb k (c .km)) n k)
+      each-append 256 (entriesOf form64 c n k) (entryOf form64 c n k) (entries-bytes n k) (entry-bytes (eqb k 0) (leb k (c .km)) n k)
 
-  file-bytes : Each 256 (fileOf old c)
+  file-bytes : Each 256 (fileOf form64 c)
   unfolding fileOf
   file-bytes = entries-bytes (recordsOf c) (recordsOf c)
 
-  read-is : readOf old (fileOf old c) ≡ record { outcome = Outcome.Answered; circuit = heldOf c }
+  read-is : readOf form64 (fileOf form64 c) ≡ record { outcome = Outcome.Answered; circuit = heldOf c }
   read-is = read-file c w some most form
 
-  records-are : length (fileOf old c) / 64 ≡ recordsOf c
+  records-are : length (fileOf form64 c) / 64 ≡ recordsOf c
   records-are = omega (arith, length-file c)
 
-  order-is : take (chainOf old (fileOf old c) .count) (chainOf old (fileOf old c) .order) ≡ upTo (length (fileOf old c) / 64)
+  order-is : take (chainOf form64 (fileOf form64 c) .count) (chainOf form64 (fileOf form64 c) .order) ≡ upTo (length (fileOf form64 c) / 64)
   order-is =
       let n = recordsOf c in
       rw (chain-file c w some most form, records-are)
@@ -90,7 +90,7 @@ module _ (c : Circuit) (w : Whole c) (some : 1 ≤ c .km) (most : c .km ≤ 5) (
   written-deciles true e h = absurd (omega arith)
   written-deciles false e h = refl
 
-  pub file-in-form : InForm (fileOf old c)
+  pub file-in-form : InForm (fileOf form64 c)
   unfolding heldOf
   file-in-form =
       record {

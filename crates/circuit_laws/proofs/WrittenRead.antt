@@ -15,7 +15,7 @@ use Rattle.refusal.specs.declared.Outcome.{Outcome}
 use Rattle.circuit.specs.declared.Chain.{Chain}
 use Rattle.circuit.specs.declared.Circuit.{Circuit}
 use Rattle.circuit.specs.declared.ReadAnswer.{ReadAnswer}
-use Rattle.circuit.specs.Record.{old, recordAt, kindOf, nextOf, wordsOf, allZero, fits}
+use Rattle.circuit.specs.Record.{form64, recordAt, kindOf, nextOf, wordsOf, allZero, fits}
 use Rattle.circuit.specs.Chain.{kmOf, soundBy, padded, chainOf}
 use Rattle.circuit.specs.Read.{numbersOf, circuitOf, readBy, readOf}
 use Rattle.circuit.proofs.Lists.{both, length-words, length-numbers}
@@ -36,20 +36,20 @@ outcome-by (Outcome.Refused r) c = refl
 
 -- the words of record i of those read
 numbers-at : (f order tail : List ℕ) (from words n i : ℕ) → i < n
-    → take words (drop (words * i) (numbersOf old f order from words n ++ tail))
-    ≡ wordsOf (recordAt old f (getD order (from + i) 0)) words
+    → take words (drop (words * i) (numbersOf form64 f order from words n ++ tail))
+    ≡ wordsOf (recordAt form64 f (getD order (from + i) 0)) words
 unfolding numbersOf
 numbers-at f order tail from words zero i h = absurd (omega arith)
 numbers-at f order tail from words (suc n) i h =
-    let A = numbersOf old f order from words n in
-    let B = wordsOf (recordAt old f (getD order (from + n) 0)) words in
+    let A = numbersOf form64 f order from words n in
+    let B = wordsOf (recordAt form64 f (getD order (from + n) 0)) words in
     ap (λ (l : List ℕ). take words (drop (words * i) l)) (append-assoc A B tail)
     ∙ ⊎-elim
     (λ (e : i ≡ n).
     ap (λ (j : ℕ). take words (drop (words * j) (A ++ (B ++ tail)))) e
-    ∙ ap (take words) (drop-at A (B ++ tail) (words * n) (length-numbers old f order from words n))
+    ∙ ap (take words) (drop-at A (B ++ tail) (words * n) (length-numbers form64 f order from words n))
     ∙ take-at B tail words (length-words _ words)
-    ∙ ap (λ (j : ℕ). wordsOf (recordAt old f (getD order (from + j) 0)) words) (sym e))
+    ∙ ap (λ (j : ℕ). wordsOf (recordAt form64 f (getD order (from + j) 0)) words) (sym e))
     (λ (k : i < n). numbers-at f order (B ++ tail) from words n i k) (eq-or-lt-of-le {n = i} {m = n} (omega arith))
 
 fits-both : (kind words : ℕ) (r : List ℕ) → fits kind words r ≡ true
@@ -60,22 +60,22 @@ fits-both kind words r e =
 
 module _ (f : List ℕ) (w : InForm f) where
   abbrev k : Chain
-  k = chainOf old f
+  k = chainOf form64 f
 
   abbrev c : Circuit
-  c = circuitOf old f k
+  c = circuitOf form64 f k
 
   abbrev N : ℕ
   N = length f / 64
 
   abbrev km : ℕ
-  km = kmOf (recordAt old f 0)
+  km = kmOf (recordAt form64 f 0)
 
   answered : k .outcome ≡ Outcome.Answered
   unfolding readOf
   answered = sym (outcome-by (k .outcome) c) ∙ w .read
 
-  read-is : readOf old f .circuit ≡ c
+  read-is : readOf form64 f .circuit ≡ c
   read-is = ap (λ (a : ReadAnswer). a .circuit) (read-answered f k refl answered)
 
   t : Followed f k
@@ -99,8 +99,8 @@ module _ (f : List ℕ) (w : InForm f) where
       ∙ ap (λ (l : List ℕ). getD l j 0) (w .order ∙ sym (append-nil (upTo N)))
       ∙ up-at N j [] h
 
-  ends : Ends old f (km + 49) k
-  ends = subst (Ends old f (km + 49)) (sym (t .is)) (linked old f (km + 49) (km + 48) 0 (omega arith))
+  ends : Ends form64 f (km + 49) k
+  ends = subst (Ends form64 f (km + 49)) (sym (t .is)) (linked form64 f (km + 49) (km + 48) 0 (omega arith))
 
   N-least : 1 + km ≤ N
   N-least = omega (arith, count-range f k t answered .0, count-is)
@@ -112,11 +112,11 @@ module _ (f : List ℕ) (w : InForm f) where
   unfolding circuitOf
   km-is = refl
 
-  points-are : c .points ≡ padded 75 (numbersOf old f (k .order) 1 15 km)
+  points-are : c .points ≡ padded 75 (numbersOf form64 f (k .order) 1 15 km)
   unfolding circuitOf
   points-are = refl
 
-  deciles-are : c .deciles ≡ padded 576 (numbersOf old f (k .order) (1 + km) 12 (k .count - (1 + km)))
+  deciles-are : c .deciles ≡ padded 576 (numbersOf form64 f (k .order) (1 + km) 12 (k .count - (1 + km)))
   unfolding circuitOf
   deciles-are = refl
 
@@ -128,7 +128,7 @@ module _ (f : List ℕ) (w : InForm f) where
   unfolding numbersOf
   no-deciles e =
       ap allZero
-      (deciles-are ∙ ap (λ (n : ℕ). padded 576 (numbersOf old f (k .order) (1 + km) 12 n)) e)
+      (deciles-are ∙ ap (λ (n : ℕ). padded 576 (numbersOf form64 f (k .order) (1 + km) 12 n)) e)
       ∙ all-zeros 576
 
   -- as many records are written as the file has
@@ -140,89 +140,89 @@ module _ (f : List ℕ) (w : InForm f) where
       (λ (e : k .count + 48 ≡ km + 49).
       rw (no-deciles (omega (arith, e)), km-is) (omega (arith, e, count-is))) (t .long .count answered)
 
-  point-is : (i : ℕ) → i < km → pointAt c i ≡ wordsOf (recordAt old f (1 + i)) 15
+  point-is : (i : ℕ) → i < km → pointAt c i ≡ wordsOf (recordAt form64 f (1 + i)) 15
   point-is i h =
       ap (λ (l : List ℕ). take 15 (drop (15 * i) l)) points-are
       ∙ numbers-at f (k .order) _ 1 15 km i h
-      ∙ ap (λ (j : ℕ). wordsOf (recordAt old f j) 15) (order-at (1 + i) (omega (arith, N-least)))
+      ∙ ap (λ (j : ℕ). wordsOf (recordAt form64 f j) 15) (order-at (1 + i) (omega (arith, N-least)))
 
-  twelve-is : (i : ℕ) → 1 + km + i < N → twelveAt c i ≡ wordsOf (recordAt old f (1 + km + i)) 12
+  twelve-is : (i : ℕ) → 1 + km + i < N → twelveAt c i ≡ wordsOf (recordAt form64 f (1 + km + i)) 12
   twelve-is i h =
       ap (λ (l : List ℕ). take 12 (drop (12 * i) l)) deciles-are
       ∙ numbers-at f (k .order) _ (1 + km) 12 (k .count - (1 + km)) i (omega (arith, count-is))
-      ∙ ap (λ (j : ℕ). wordsOf (recordAt old f j) 12) (order-at (1 + km + i) h)
+      ∙ ap (λ (j : ℕ). wordsOf (recordAt form64 f j) 12) (order-at (1 + km + i) h)
 
-  next-is : (i : ℕ) → i < N → nextOf (recordAt old f i) ≡ nextIn N i
+  next-is : (i : ℕ) → i < N → nextOf (recordAt form64 f i) ≡ nextIn N i
   next-is i h =
       ⊎-elim
       (λ (e : i + 1 ≡ N).
       let q : k .count - 1 ≡ i = omega (arith, count-is) in
       rw (eq-eqb (i + 1) N e)
-      (ap (λ (j : ℕ). nextOf (recordAt old f j)) (sym (ap (λ (j : ℕ). getD (k .order) j 0) q ∙ order-at i h))
+      (ap (λ (j : ℕ). nextOf (recordAt form64 f j)) (sym (ap (λ (j : ℕ). getD (k .order) j 0) q ∙ order-at i h))
       ∙ ends .last answered))
       (λ (j : i + 1 < N).
       rw (ne-eqb (i + 1) N (λ z. omega arith))
-      (ap (λ (m : ℕ). nextOf (recordAt old f m)) (sym (order-at i h))
+      (ap (λ (m : ℕ). nextOf (recordAt form64 f m)) (sym (order-at i h))
       ∙ ends .links answered i (omega (arith, count-is)) .next
       ∙ order-at (i + 1) j))
       (eq-or-lt-of-le {n = i + 1} {m = N} (omega arith))
 
-  sound-is : (j : ℕ) → 1 ≤ j → j < N → soundBy old (leb 48 (km + 48 - j)) (recordAt old f j) ≡ true
+  sound-is : (j : ℕ) → 1 ≤ j → j < N → soundBy form64 (leb 48 (km + 48 - j)) (recordAt form64 f j) ≡ true
   sound-is j a h =
       let q : j - 1 + 1 ≡ j = omega arith in
       let d : km + 49 - 1 - (j - 1 + 1) ≡ km + 48 - j = omega arith in
       let g : getD (k .order) (j - 1 + 1) 0 ≡ j = ap (λ (m : ℕ). getD (k .order) m 0) q ∙ order-at j h in
-      ap (λ (m : ℕ). soundBy old (leb 48 m) (recordAt old f j)) (sym d)
-      ∙ ap (λ (m : ℕ). soundBy old (leb 48 (km + 49 - 1 - (j - 1 + 1))) (recordAt old f m)) (sym g)
+      ap (λ (m : ℕ). soundBy form64 (leb 48 m) (recordAt form64 f j)) (sym d)
+      ∙ ap (λ (m : ℕ). soundBy form64 (leb 48 (km + 49 - 1 - (j - 1 + 1))) (recordAt form64 f m)) (sym g)
       ∙ ends .links answered (j - 1) (omega (arith, count-is)) .sound
 
-  record-long : (i : ℕ) → i < N → length (recordAt old f i) ≡ 64
+  record-long : (i : ℕ) → i < N → length (recordAt form64 f i) ≡ 64
   record-long i h = length-take-le 64 (drop (64 * i) f) (simp length-drop (omega (arith, length-is)))
 
-  record-bytes : (i : ℕ) → Each 256 (recordAt old f i)
+  record-bytes : (i : ℕ) → Each 256 (recordAt form64 f i)
   record-bytes i = each-take 256 64 (drop (64 * i) f) (each-drop 256 (64 * i) f (w .bytes))
 
   -- a record of so many words, put together again
-  again : (i kind words : ℕ) → i < N → words ≤ 15 → fits kind words (recordAt old f i) ≡ true
-      → recordOf old kind (nextIn N i) (wordsOf (recordAt old f i) words) ≡ recordAt old f i
+  again : (i kind words : ℕ) → i < N → words ≤ 15 → fits kind words (recordAt form64 f i) ≡ true
+      → recordOf form64 kind (nextIn N i) (wordsOf (recordAt form64 f i) words) ≡ recordAt form64 f i
   again i kind words h m e =
-      let p = fits-both kind words (recordAt old f i) e in
-      ap (λ (x : ℕ). recordOf old x (nextIn N i) (wordsOf (recordAt old f i) words)) (sym (p .0))
-      ∙ ap (λ (x : ℕ). recordOf old (kindOf (recordAt old f i)) x (wordsOf (recordAt old f i) words)) (sym (next-is i h))
-      ∙ record-again (recordAt old f i) (record-long i h) (record-bytes i) words m (p .1)
+      let p = fits-both kind words (recordAt form64 f i) e in
+      ap (λ (x : ℕ). recordOf form64 x (nextIn N i) (wordsOf (recordAt form64 f i) words)) (sym (p .0))
+      ∙ ap (λ (x : ℕ). recordOf form64 (kindOf (recordAt form64 f i)) x (wordsOf (recordAt form64 f i) words)) (sym (next-is i h))
+      ∙ record-again (recordAt form64 f i) (record-long i h) (record-bytes i) words m (p .1)
 
-  head-is : headOf old c (nextIn N 0) ≡ recordAt old f 0
+  head-is : headOf form64 c (nextIn N 0) ≡ recordAt form64 f 0
   unfolding circuitOf
   head-is =
       let h : 0 < N = omega (arith, N-least) in
-      ap (headOf old c) (sym (next-is 0 h))
-      ∙ head-again (recordAt old f 0) (record-long 0 h) (record-bytes 0) (t .head) c refl refl refl
+      ap (headOf form64 c) (sym (next-is 0 h))
+      ∙ head-again (recordAt form64 f 0) (record-long 0 h) (record-bytes 0) (t .head) c refl refl refl
 
-  point-again : (i : ℕ) → 1 ≤ i → i ≤ km → recordOf old 2 (nextIn N i) (pointAt c (i - 1)) ≡ recordAt old f i
+  point-again : (i : ℕ) → 1 ≤ i → i ≤ km → recordOf form64 2 (nextIn N i) (pointAt c (i - 1)) ≡ recordAt form64 f i
   point-again i a h =
       let q : 1 + (i - 1) ≡ i = omega arith in
       let m : i < N = omega (arith, N-least) in
-      ap (recordOf old 2 (nextIn N i)) (point-is (i - 1) (omega arith) ∙ ap (λ (j : ℕ). wordsOf (recordAt old f j) 15) q)
+      ap (recordOf form64 2 (nextIn N i)) (point-is (i - 1) (omega arith) ∙ ap (λ (j : ℕ). wordsOf (recordAt form64 f j) 15) q)
       ∙ again i 2 15 m (omega arith) (rw (le-leb 48 (km + 48 - i) (omega arith)) at (sound-is i a m))
 
-  twelve-again : (i : ℕ) → km < i → i < N → recordOf old 3 (nextIn N i) (twelveAt c (i - (km + 1))) ≡ recordAt old f i
+  twelve-again : (i : ℕ) → km < i → i < N → recordOf form64 3 (nextIn N i) (twelveAt c (i - (km + 1))) ≡ recordAt form64 f i
   twelve-again i a h =
       let q : 1 + km + (i - (km + 1)) ≡ i = omega arith in
-      ap (recordOf old 3 (nextIn N i))
-      (twelve-is (i - (km + 1)) (omega arith) ∙ ap (λ (j : ℕ). wordsOf (recordAt old f j) 12) q)
+      ap (recordOf form64 3 (nextIn N i))
+      (twelve-is (i - (km + 1)) (omega arith) ∙ ap (λ (j : ℕ). wordsOf (recordAt form64 f j) 12) q)
       ∙ again i 3 12 h (omega arith) (rw (lt-leb 48 (km + 48 - i) (omega arith)) at (sound-is i (omega arith) h))
 
-  entry-by : (i : ℕ) → i < N → (a b : Bool) → eqb i 0 ≡ a → leb i (c .km) ≡ b → entryOf old c N i ≡ recordAt old f i
+  entry-by : (i : ℕ) → i < N → (a b : Bool) → eqb i 0 ≡ a → leb i (c .km) ≡ b → entryOf form64 c N i ≡ recordAt form64 f i
   unfolding entryOf
   entry-by i h true b p q =
       let e = eqb-true i 0 p in
-      rw p (ap (λ (j : ℕ). headOf old c (nextIn N j)) e ∙ head-is ∙ ap (recordAt old f) (sym e))
+      rw p (ap (λ (j : ℕ). headOf form64 c (nextIn N j)) e ∙ head-is ∙ ap (recordAt form64 f) (sym e))
   entry-by i h false true p q =
       let some = eqb-false i 0 p in
       rw (p, q) (point-again i (omega arith) (rw km-is at (leb-true i (c .km) q)))
   entry-by i h false false p q = rw (p, q, km-is) (twelve-again i (rw km-is at (leb-false i (c .km) q)) h)
 
-  entries-are : (n : ℕ) → n ≤ N → entriesOf old c N n ≡ take (64 * n) f
+  entries-are : (n : ℕ) → n ≤ N → entriesOf form64 c N n ≡ take (64 * n) f
   unfolding entriesOf
   entries-are zero h = refl
   entries-are (suc n) h =
@@ -230,12 +230,12 @@ module _ (f : List ℕ) (w : InForm f) where
       rw (entries-are n (omega arith), entry-by n (omega arith) (eqb n 0) (leb n (c .km)) refl refl, q)
       (sym (take-add (64 * n) 64 f))
 
-  file-is : fileOf old c ≡ f
+  file-is : fileOf form64 c ≡ f
   unfolding fileOf
   file-is = rw records-are (entries-are N (omega arith) ∙ take-all (64 * N) f (omega (arith, length-is)))
 
-  file-again : fileOf old (readOf old f .circuit) ≡ f
-  file-again = ap (fileOf old) read-is ∙ file-is
+  file-again : fileOf form64 (readOf form64 f .circuit) ≡ f
+  file-again = ap (fileOf form64) read-is ∙ file-is
 
   good : goodOf c ≡ true
   unfolding circuitOf
@@ -246,19 +246,19 @@ module _ (f : List ℕ) (w : InForm f) where
     size-is : 64 * recordsOf c ≡ length f
     size-is = ap (λ (n : ℕ). 64 * n) records-are ∙ sym length-is
 
-    wrote : (WriteAnswer.Written (64 * recordsOf c) ≡ answerOf old c out)
-        × (fileOf old c ++ drop (64 * recordsOf c) out ≡ leftOf old c out)
+    wrote : (WriteAnswer.Written (64 * recordsOf c) ≡ answerOf form64 c out)
+        × (fileOf form64 c ++ drop (64 * recordsOf c) out ≡ leftOf form64 c out)
     wrote = write-good c out good (rw size-is room)
 
-    answer-again : answerOf old (readOf old f .circuit) out ≡ WriteAnswer.Written (length f)
+    answer-again : answerOf form64 (readOf form64 f .circuit) out ≡ WriteAnswer.Written (length f)
     answer-again =
-        ap (λ (x : Circuit). answerOf old x out) read-is ∙ sym (wrote .0) ∙ ap WriteAnswer.Written size-is
+        ap (λ (x : Circuit). answerOf form64 x out) read-is ∙ sym (wrote .0) ∙ ap WriteAnswer.Written size-is
 
-    bytes-again : take (length f) (leftOf old (readOf old f .circuit) out) ≡ f
+    bytes-again : take (length f) (leftOf form64 (readOf form64 f .circuit) out) ≡ f
     bytes-again =
-        ap (λ (x : Circuit). take (length f) (leftOf old x out)) read-is
+        ap (λ (x : Circuit). take (length f) (leftOf form64 x out)) read-is
         ∙ ap (take (length f)) (sym (wrote .1))
-        ∙ take-at (fileOf old c) (drop (64 * recordsOf c) out) (length f) (ap length file-is)
+        ∙ take-at (fileOf form64 c) (drop (64 * recordsOf c) out) (length f) (ap length file-is)
         ∙ file-is
 
 pub written-read : WrittenRead

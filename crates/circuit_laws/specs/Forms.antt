@@ -7,7 +7,7 @@ use mathlib.Core.Bool.{false}
 use lib.ListN.{length, take}
 use Rattle.circuit.specs.declared.Circuit.{Circuit}
 use Rattle.refusal.specs.declared.Outcome.{Outcome}
-use Rattle.circuit.specs.Record.{old, allZero}
+use Rattle.circuit.specs.Record.{form64, allZero}
 use Rattle.circuit.specs.Chain.{padded, chainOf}
 use Rattle.circuit.specs.Read.{readOf}
 
@@ -51,6 +51,6 @@ upTo (suc n) = upTo n ++ (n ∷ [])
 -- record, and deciles are there only if not all are +0.
 pub record InForm (f : List ℕ) : Type 0 where
   pub bytes : Each 256 f
-  pub read : readOf old f .outcome ≡ Outcome.Answered
-  pub order : take (chainOf old f .count) (chainOf old f .order) ≡ upTo (length f / 64)
-  pub deciles : readOf old f .circuit .km + 1 < length f / 64 → allZero (readOf old f .circuit .deciles) ≡ false
+  pub read : readOf form64 f .outcome ≡ Outcome.Answered
+  pub order : take (chainOf form64 f .count) (chainOf form64 f .order) ≡ upTo (length f / 64)
+  pub deciles : readOf form64 f .circuit .km + 1 < length f / 64 → allZero (readOf form64 f .circuit .deciles) ≡ false

@@ -13,7 +13,7 @@ use Rattle.scalar.specs.F32.{_-f_, _<f_, _≤f_, _>f_, _≥f_}
 use Rattle.scalar.specs.Literals.{f0, f8·5, f10}
 use Rattle.refusal.specs.declared.Outcome.{Outcome}
 use Rattle.circuit.specs.declared.Chain.{Chain}
-use Rattle.circuit.specs.Record.{old}
+use Rattle.circuit.specs.Record.{form64}
 use Rattle.circuit.specs.Chain.{chainOf}
 use Rattle.circuit.specs.Read.{readOf, circuitOf, noCircuit}
 use Rattle.circuit.proofs.Followed.{Followed, followed, count-range, read-answered, read-refused, small}
@@ -39,7 +39,7 @@ use Rattle.circuit_sheet.proofs.Sizes.{column-lent}
 
 -- ---- points
 
-some-km : (f : List ℕ) (k : Chain) → k ≡ chainOf old f → (o : Outcome) → k .outcome ≡ o → readOf old f .outcome ≡ Outcome.Answered → 1 ≤ readOf old f .circuit .km
+some-km : (f : List ℕ) (k : Chain) → k ≡ chainOf form64 f → (o : Outcome) → k .outcome ≡ o → readOf form64 f .outcome ≡ Outcome.Answered → 1 ≤ readOf form64 f .circuit .km
 unfolding circuitOf
 some-km f k e Outcome.Answered a q =
     let h = followed f (ap (λ (c : Chain). c .outcome) (sym e) ∙ a) .head in
@@ -49,8 +49,8 @@ some-km f k e (Outcome.Refused r) a q =
     let z : _≡_ {A = ℕ} 0 1 = cc in
     absurd (omega arith)
 
-pub points-some : (f : List ℕ) → readOf old f .outcome ≡ Outcome.Answered → 1 ≤ readOf old f .circuit .km
-points-some f a = some-km f (chainOf old f) refl (chainOf old f .outcome) refl a
+pub points-some : (f : List ℕ) → readOf form64 f .outcome ≡ Outcome.Answered → 1 ≤ readOf form64 f .circuit .km
+points-some f a = some-km f (chainOf form64 f) refl (chainOf form64 f .outcome) refl a
 
 -- ---- slots
 
@@ -162,12 +162,12 @@ set-kfx : (t : IonoState) (n : ℕ) → t .km ≡ n → countTaken n ≡ true �
 unfolding ionsetOf
 set-kfx t n e k = set-by-km (countTaken (t .km)) t (ap countTaken e ∙ k) ∙ ap (λ (n : ℕ). slots-for (leb n 1) (leb n 3)) e
 
-deciles-by : (f : List ℕ) (k : Chain) → k ≡ chainOf old f → (o : Outcome) → k .outcome ≡ o → length (readOf old f .circuit .deciles) ≡ 576
+deciles-by : (f : List ℕ) (k : Chain) → k ≡ chainOf form64 f → (o : Outcome) → k .outcome ≡ o → length (readOf form64 f .circuit .deciles) ≡ 576
 unfolding circuitOf noCircuit
 deciles-by f k e Outcome.Answered a =
     let t : Followed f k = rw e (followed f (rw (← e) a)) in
     let n = count-range f k t a in
-    rw (read-answered f k e a) (length-read 576 old f (k .order) _ 12 _ (omega arith))
+    rw (read-answered f k e a) (length-read 576 form64 f (k .order) _ 12 _ (omega arith))
 deciles-by f k e (Outcome.Refused r) a = rw (read-refused f k e r a)
 
 -- ---- so nothing is refused but by the file, `sang`, and the MUF's input, hops and deciles
@@ -177,9 +177,9 @@ unfolding pointsSet pointSet
 points-km s params zero = refl
 points-km s params (suc n) = points-km s params n
 
-module _ (f : List ℕ) (answered : readOf old f .outcome ≡ Outcome.Answered) where
+module _ (f : List ℕ) (answered : readOf form64 f .outcome ≡ Outcome.Answered) where
   abbrev circuit : Circuit
-  circuit = readOf old f .circuit
+  circuit = readOf form64 f .circuit
 
   abbrev made : StateAnswer
   made = fromLayersOf (paramsOf (circuit .points)) (circuit .km)
@@ -213,7 +213,7 @@ module _ (f : List ℕ) (answered : readOf old f .outcome ≡ Outcome.Answered) 
   pub lists-reach : listsReach (controllingOf (slotsOf circuit)) (length (map (ofBits binary32) (circuit .deciles))) (length (take (circuit .km) (columnOf (circuit .points) 13))) (length (take (circuit .km) (columnOf (circuit .points) 14))) ≡ true
   unfolding listsReach
   lists-reach =
-      let d = length-map (circuit .deciles) (ofBits binary32) ∙ deciles-by f (chainOf old f) refl (chainOf old f .outcome) refl in
+      let d = length-map (circuit .deciles) (ofBits binary32) ∙ deciles-by f (chainOf form64 f) refl (chainOf form64 f .outcome) refl in
       let m = small f .0 in
       let u = controlling-under in
       rw (eq-eqb _ _ d, ← column-lent (circuit .points) 13 _ (circuit .km) refl m, ← column-lent (circuit .points) 14 _ (circuit .km) refl m, lt-ltb _ _ u)

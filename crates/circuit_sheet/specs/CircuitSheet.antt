@@ -8,7 +8,7 @@ use lib.ListN.{getD, take, replicate}
 use lib.Ieee.{Float, binary32, ofBits}
 use Rattle.refusal.specs.declared.Refusal.{Refusal}
 use Rattle.refusal.specs.declared.Outcome.{Outcome}
-use Rattle.circuit.specs.Record.{old}
+use Rattle.circuit.specs.Record.{form64}
 use Rattle.circuit.specs.Read.{readOf}
 use Rattle.circuit.specs.declared.Circuit as file
 use Rattle.layers.specs.State.{withIedp}
@@ -128,4 +128,4 @@ readThen Outcome.Answered c = circuitSheetOf c
 readThen (Outcome.Refused r) c = refusedOf r
 
 unfoldable pub sheetOf : List ℕ → Sheet
-sheetOf f = let a = readOf old f in readThen (a .outcome) (a .circuit)
+sheetOf f = let a = readOf form64 f in readThen (a .outcome) (a .circuit)

@@ -13,7 +13,7 @@ use borrow.Author.Tests.{eq-eqb, ne-eqb, le-leb, lt-leb}
 use Rattle.refusal.specs.declared.Refusal.{Refusal}
 use Rattle.circuit.specs.declared.Circuit.{Circuit}
 use Rattle.circuit_write.specs.declared.WriteAnswer.{WriteAnswer}
-use Rattle.circuit.specs.Record.{old, allZero}
+use Rattle.circuit.specs.Record.{form64, allZero}
 use Rattle.circuit.proofs.Lists.{rest}
 use Rattle.circuit_write.specs.Written.{halfOf, wordOf, bytesOf, recordOf, headOf, pointAt, twelveAt, nextIn, entryBy, entryOf, entriesOf, decileRecords, recordsOf, fileOf, goodOf, answerOf, leftOf}
 
@@ -112,7 +112,7 @@ module _ (l ws : List ℕ) (kind next : ℕ) (h : length l ≡ 64) (k : length w
       take (4 + 4 * length ws) three
       ++ (replicate (length (take (length three - (4 + 4 * length ws)) (drop (4 + 4 * length ws) three))) 0
       ++ drop (length three - (4 + 4 * length ws)) (drop (4 + 4 * length ws) three))
-      ≡ recordOf old kind next ws
+      ≡ recordOf form64 kind next ws
   unfolding recordOf front
   put-all =
       let q : length (take (length three - (4 + 4 * length ws)) (drop (4 + 4 * length ws) three)) ≡ 64 - (4 + 4 * length ws)
@@ -123,7 +123,7 @@ module _ (l ws : List ℕ) (kind next : ℕ) (h : length l ≡ 64) (k : length w
 
 -- the first word of record 0 is km, shape and two zero bytes
 pub head-put : (c : Circuit) (next : ℕ) → c .km ≤ 5 → c .shape ≤ 1
-    → recordOf old 1 next ((c .km + 256 * c .shape) ∷ c .gcd ∷ c .gcdkm ∷ c .amind ∷ c .ssn ∷ []) ≡ headOf old c next
+    → recordOf form64 1 next ((c .km + 256 * c .shape) ∷ c .gcd ∷ c .gcdkm ∷ c .amind ∷ c .ssn ∷ []) ≡ headOf form64 c next
 unfolding recordOf headOf bytesOf
 head-put c next h k =
     let a : (c .km + 256 * c .shape) % 256 ≡ c .km = omega arith in
@@ -133,56 +133,56 @@ head-put c next h k =
     let e : (c .km + 256 * c .shape) / 16777216 ≡ 0 = omega arith in
     rw (a, b, b′, d, e)
 
-pub length-record : (kind next : ℕ) (ws : List ℕ) → length ws ≤ 15 → length (recordOf old kind next ws) ≡ 64
+pub length-record : (kind next : ℕ) (ws : List ℕ) → length ws ≤ 15 → length (recordOf form64 kind next ws) ≡ 64
 unfolding recordOf
 length-record kind next ws h = simp (length-append, length-bytes, length-replicate) (omega arith)
 
 took : (n : ℕ) (l : List ℕ) → length (take n l) ≤ n
 took n l = simp length-take (omega arith)
 
-entry-by : (first point : Bool) (c : Circuit) (n i : ℕ) → length (entryBy first point old c n i) ≡ 64
+entry-by : (first point : Bool) (c : Circuit) (n i : ℕ) → length (entryBy first point form64 c n i) ≡ 64
 unfolding headOf bytesOf
 entry-by true point c n i = refl
 entry-by false true c n i = length-record 2 (nextIn n i) (pointAt c (i - 1)) (took 15 (drop (15 * (i - 1)) (c .points)))
 entry-by false false c n i = length-record 3 (nextIn n i) (twelveAt c (i - (c .km + 1))) (omega (arith, took 12 (drop (12 * (i - (c .km + 1))) (c .deciles))))
 
-pub length-entry : (c : Circuit) (n i : ℕ) → length (entryOf old c n i) ≡ 64
+pub length-entry : (c : Circuit) (n i : ℕ) → length (entryOf form64 c n i) ≡ 64
 unfolding entryOf
 length-entry c n i = entry-by (eqb i 0) (leb i (c .km)) c n i
 
-pub length-entries : (c : Circuit) (n k : ℕ) → length (entriesOf old c n k) ≡ 64 * k
+pub length-entries : (c : Circuit) (n k : ℕ) → length (entriesOf form64 c n k) ≡ 64 * k
 unfolding entriesOf
 length-entries c n zero = omega arith
 length-entries c n (suc k) = simp (length-append, length-entries c n k, length-entry) (omega arith)
 
-pub length-file : (c : Circuit) → length (fileOf old c) ≡ 64 * recordsOf c
+pub length-file : (c : Circuit) → length (fileOf form64 c) ≡ 64 * recordsOf c
 unfolding fileOf
 length-file c = length-entries c (recordsOf c) (recordsOf c)
 
 -- one more record put
-pub entry-more : (c : Circuit) (n i : ℕ) (l l₀ ys : List ℕ) → l ≡ entriesOf old c n i ++ drop (64 * i) l₀
-    → ys ≡ entryOf old c n i
-    → take (64 * i) l ++ (ys ++ drop (64 * i + 64 - 64 * i) (drop (64 * i) l)) ≡ entriesOf old c n (i + 1) ++ drop (64 * (i + 1)) l₀
+pub entry-more : (c : Circuit) (n i : ℕ) (l l₀ ys : List ℕ) → l ≡ entriesOf form64 c n i ++ drop (64 * i) l₀
+    → ys ≡ entryOf form64 c n i
+    → take (64 * i) l ++ (ys ++ drop (64 * i + 64 - 64 * i) (drop (64 * i) l)) ≡ entriesOf form64 c n (i + 1) ++ drop (64 * (i + 1)) l₀
 unfolding entriesOf
 entry-more c n i l l₀ ys e y =
     let q : 64 * i + 64 ≡ 64 * (i + 1) = omega arith in
-    fill-on l l₀ (entriesOf old c n i) (64 * i) e (length-entries c n i) ys 64 ∙ rw (y, q, add-one i) refl
+    fill-on l l₀ (entriesOf form64 c n i) (64 * i) e (length-entries c n i) ys 64 ∙ rw (y, q, add-one i) refl
 
 -- which record it is that is put
 module _ (c : Circuit) (n i next : ℕ) (k : next ≡ nextIn n i) where
-  pub entry-head : i ≡ 0 → headOf old c next ≡ entryOf old c n i
+  pub entry-head : i ≡ 0 → headOf form64 c next ≡ entryOf form64 c n i
   unfolding entryOf
   entry-head e = rw (k, eq-eqb i 0 e)
 
   pub entry-point : (i ≡ 0 → ⊥) → i ≤ c .km
-      → recordOf old 2 next (take (15 * (i - 1) + 15 - 15 * (i - 1)) (drop (15 * (i - 1)) (c .points))) ≡ entryOf old c n i
+      → recordOf form64 2 next (take (15 * (i - 1) + 15 - 15 * (i - 1)) (drop (15 * (i - 1)) (c .points))) ≡ entryOf form64 c n i
   unfolding entryOf
   entry-point e h = rw (k, ne-eqb i 0 e, le-leb i (c .km) h, add-sub-cancel-left (15 * (i - 1)) 15)
 
   pub entry-twelve : (i ≡ 0 → ⊥) → c .km < i
-      → recordOf old 3 next
+      → recordOf form64 3 next
       (take (12 * (i - (c .km + 1)) + 12 - 12 * (i - (c .km + 1))) (drop (12 * (i - (c .km + 1))) (c .deciles)))
-      ≡ entryOf old c n i
+      ≡ entryOf form64 c n i
   unfolding entryOf
   entry-twelve e h =
       rw (k, ne-eqb i 0 e, lt-leb i (c .km) h, add-sub-cancel-left (12 * (i - (c .km + 1))) 12)
@@ -197,22 +197,22 @@ records-most c = most-by (allZero (c .deciles)) (c .km)
 -- the answer and the cells left, by the tests
 module _ (c : Circuit) (out : List ℕ) where
   pub write-bad : goodOf c ≡ false
-      → (WriteAnswer.Refused Refusal.RecordZero ≡ answerOf old c out) × (out ≡ leftOf old c out)
+      → (WriteAnswer.Refused Refusal.RecordZero ≡ answerOf form64 c out) × (out ≡ leftOf form64 c out)
   unfolding answerOf leftOf
   write-bad e = (rw e, rw e)
 
   pub write-small : goodOf c ≡ true → length out < 64 * recordsOf c
-      → (WriteAnswer.Refused Refusal.Length ≡ answerOf old c out) × (out ≡ leftOf old c out)
+      → (WriteAnswer.Refused Refusal.Length ≡ answerOf form64 c out) × (out ≡ leftOf form64 c out)
   unfolding answerOf leftOf
   write-small e h = let t = lt-leb (64 * recordsOf c) (length out) h in (rw (e, t), rw (e, t))
 
   pub write-good : goodOf c ≡ true → 64 * recordsOf c ≤ length out
-      → (WriteAnswer.Written (64 * recordsOf c) ≡ answerOf old c out)
-      × (fileOf old c ++ drop (64 * recordsOf c) out ≡ leftOf old c out)
+      → (WriteAnswer.Written (64 * recordsOf c) ≡ answerOf form64 c out)
+      × (fileOf form64 c ++ drop (64 * recordsOf c) out ≡ leftOf form64 c out)
   unfolding answerOf leftOf
   write-good e h =
       let t = le-leb (64 * recordsOf c) (length out) h in
-      let all = take-all (64 * recordsOf c) (fileOf old c) (omega (arith, length-file c)) in
+      let all = take-all (64 * recordsOf c) (fileOf form64 c) (omega (arith, length-file c)) in
       (rw (e, t), rw (e, t, all))
 
 pub good-is : (c : Circuit) → 1 ≤ c .km → c .km ≤ 5 → c .shape ≤ 1 → goodOf c ≡ true

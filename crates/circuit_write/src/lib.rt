@@ -5,7 +5,7 @@ ghost use mathlib.Core.Path.{_≡_};
 ghost use Prim.Native.Nat.{_+_, _*_, _≤_, _<_};
 ghost use lib.ListN.{length, drop};
 ghost use mathlib.Core.List.{_++_};
-ghost use Rattle.circuit.specs.Record.{old};
+ghost use Rattle.circuit.specs.Record.{form64};
 ghost use Rattle.circuit_write.specs.Written.{recordsOf, nextIn, entryOf, fileOf, answerOf, leftOf, numberIn};
 use circuit::Circuit;
 use refusal::Refusal;
@@ -50,7 +50,7 @@ fn next_in(n: usize, i: usize) -> usize
 // Record i of n.
 fn entry(c: Circuit, n: usize, i: usize, out: &mut [u8])
     requires { ⌜ (c .km ≤ 5) × (c .shape ≤ 1) × (i < n) × (n ≤ c .km + 49) × (length (now out) ≡ 64) ⌝ }
-    ensures { λ _. ⌜ now (out .exit) ≡ entryOf old c n i ⌝ }
+    ensures { λ _. ⌜ now (out .exit) ≡ entryOf form64 c n i ⌝ }
 {
     let next = next_in(n, i);
     let km = c.km;
@@ -71,7 +71,7 @@ fn entry(c: Circuit, n: usize, i: usize, out: &mut [u8])
 
 fn entries(c: Circuit, n: usize, out: &mut [u8])
     requires { ⌜ (c .km ≤ 5) × (c .shape ≤ 1) × (n ≡ recordsOf c) × (64 * n ≤ length (now out)) ⌝ }
-    ensures { λ _. ⌜ now (out .exit) ≡ fileOf old c ++ drop (64 * n) (now (out .entry)) ⌝ }
+    ensures { λ _. ⌜ now (out .exit) ≡ fileOf form64 c ++ drop (64 * n) (now (out .entry)) ⌝ }
 {
     let mut i = 0;
     while i < n {
@@ -82,8 +82,8 @@ fn entries(c: Circuit, n: usize, out: &mut [u8])
 
 // Writes a circuit's file into the cells lent. Cells past its end, and all cells at a refusal, stay.
 pub fn write(c: Circuit, out: &mut [u8]) -> WriteAnswer
-    ensures { λ a. ⌜ a ≡ answerOf old c (now (out .entry)) ⌝ }
-    ensures { λ _. ⌜ now (out .exit) ≡ leftOf old c (now (out .entry)) ⌝ }
+    ensures { λ a. ⌜ a ≡ answerOf form64 c (now (out .entry)) ⌝ }
+    ensures { λ _. ⌜ now (out .exit) ≡ leftOf form64 c (now (out .entry)) ⌝ }
 {
     if c.km < 1 {
         return WriteAnswer::Refused(Refusal::RecordZero);

@@ -2,7 +2,7 @@
 ghost use mathlib.Core.Path.{_≡_};
 ghost use Prim.Native.Nat.{_+_, _*_, _≤_, _<_};
 ghost use lib.ListN.{length, replicate};
-ghost use Rattle.circuit.specs.Record.{old};
+ghost use Rattle.circuit.specs.Record.{form64};
 ghost use Rattle.circuit_write.specs.Written.{halfOf, wordOf, bytesOf, recordOf, headOf};
 use circuit::Circuit;
 
@@ -47,7 +47,7 @@ fn zeros(out: &mut [u8])
 
 pub fn record(kind: usize, next: usize, ws: &[u32], out: &mut [u8])
     requires { ⌜ (length (now out) ≡ 64) × (length (now ws) ≤ 15) ⌝ }
-    ensures { λ _. ⌜ now (out .exit) ≡ recordOf old kind next (now (ws .entry)) ⌝ }
+    ensures { λ _. ⌜ now (out .exit) ≡ recordOf form64 kind next (now (ws .entry)) ⌝ }
 {
     let end = 4 + 4 * ws.len();
     half(kind, &mut out[0..2]);
@@ -59,7 +59,7 @@ pub fn record(kind: usize, next: usize, ws: &[u32], out: &mut [u8])
 // km and shape are the low bytes of the first word.
 pub fn head(c: Circuit, next: usize, out: &mut [u8])
     requires { ⌜ (length (now out) ≡ 64) × (c .km ≤ 5) × (c .shape ≤ 1) ⌝ }
-    ensures { λ _. ⌜ now (out .exit) ≡ headOf old c next ⌝ }
+    ensures { λ _. ⌜ now (out .exit) ≡ headOf form64 c next ⌝ }
 {
     let first = (c.km + 256 * c.shape) as u32;
     let ws = [first, c.gcd, c.gcdkm, c.amind, c.ssn];

@@ -7,7 +7,7 @@ use lib.ListN.{length}
 use Rattle.refusal.specs.Number.{numberOf}
 use Rattle.refusal.specs.declared.Refusal.{Refusal}
 use Rattle.refusal.specs.declared.Outcome.{Outcome}
-use Rattle.circuit.specs.Record.{old}
+use Rattle.circuit.specs.Record.{form64}
 use Rattle.circuit.specs.Read.{readOf}
 use Rattle.circuit.specs.declared.Circuit.{Circuit}
 use Rattle.circuit.specs.declared.ReadAnswer.{ReadAnswer}
@@ -29,7 +29,7 @@ unfoldable pub answerOf : ReadAnswer → List ℕ → Ported
 answerOf a w = answerBy (a .outcome) (a .circuit) w
 
 abbrev pub readBy : Bool → List ℕ → List ℕ → Ported
-readBy true file w = answerOf (readOf old file) w
+readBy true file w = answerOf (readOf form64 file) w
 readBy false file w = refusedWith Refusal.Length w
 
 unfoldable pub portRead : List ℕ → List ℕ → Ported
@@ -37,7 +37,7 @@ portRead file w = readBy (leb 657 (length w)) file w
 
 abbrev pub writeBy : Bool → Circuit → List ℕ → Ported
 writeBy true c file =
-    record { number = written.numberIn (written.answerOf old c file); cells = written.leftOf old c file }
+    record { number = written.numberIn (written.answerOf form64 c file); cells = written.leftOf form64 c file }
 writeBy false c file = refusedWith Refusal.Length file
 
 unfoldable pub portWrite : List ℕ → List ℕ → Ported

@@ -4,7 +4,7 @@ use Prim.Native.Nat.{ℕ, _≤_}
 use native.Mathlib.Omega.{arith}
 use lib.Ieee.{binary32, ofBits}
 use Rattle.refusal.specs.declared.Outcome.{Outcome}
-use Rattle.circuit.specs.Record.{old}
+use Rattle.circuit.specs.Record.{form64}
 use Rattle.circuit.specs.Read.{readOf}
 use Rattle.layers.specs.declared.IonoState.{IonoState}
 use Rattle.muf.specs.declared.MufHour.{MufHour}
@@ -30,4 +30,4 @@ read-then (Outcome.Refused r) c = omega arith
 
 pub three-slots : (f : List ℕ) → sheetOf f .slots ≤ 3
 unfolding sheetOf
-three-slots f = let a = readOf old f in read-then (a .outcome) (a .circuit)
+three-slots f = let a = readOf form64 f in read-then (a .outcome) (a .circuit)

@@ -5,7 +5,7 @@ use mathlib.Core.List.{_++_}
 use native.Mathlib.Omega.{arith}
 use lib.ListN.{length, drop}
 use denote.Ref.{now}
-use Rattle.circuit.specs.Record.{old}
+use Rattle.circuit.specs.Record.{form64}
 use Rattle.circuit.proofs.Lists.{length-part}
 use Rattle.circuit_write.specs.Written.{entriesOf, fileOf}
 use Rattle.circuit_write.proofs.Cells.{entry-more, length-entries, length-filled, records-most}
@@ -14,7 +14,7 @@ use Rattle.circuit_write.proofs.entries.Tie as tie
 
 abbrev Inv-loop : tie.InvT-loop
 Inv-loop c n out₀ i₀ out i =
-    (i ≤ n) × (length out ≡ length out₀) × (out ≡ entriesOf old c n i ++ drop (64 * i) out₀)
+    (i ≤ n) × (length out ≡ length out₀) × (out ≡ entriesOf form64 c n i ++ drop (64 * i) out₀)
 
 abbrev μ-loop : tie.MeasureT-loop
 μ-loop c n out₀ i₀ out i = n - i
@@ -65,7 +65,7 @@ loop-again c =
     let e = entry-more (a .c) (a .n) (l .i) (l .out) (now (a .out)) _ (l .inv .2) (c .before .before .entry .ensures) in (
       omega arith,
       ap length e
-          ∙ length-filled (entriesOf old (a .c) (a .n) (l .i + 1)) (now (a .out)) (64 * (l .i + 1))
+          ∙ length-filled (entriesOf form64 (a .c) (a .n) (l .i + 1)) (now (a .out)) (64 * (l .i + 1))
           (length-entries (a .c) (a .n) (l .i + 1)) (omega arith),
       e,
     )
@@ -81,8 +81,8 @@ returns c =
     let o = now (a .args .out) in
     let e : l .i ≡ a .args .n = omega arith in
     l .inv .2
-    ∙ ap (λ (k : ℕ). entriesOf old (a .args .c) (a .args .n) k ++ drop (64 * k) o) e
-    ∙ ap (λ (k : ℕ). entriesOf old (a .args .c) k k ++ drop (64 * a .args .n) o) (a .pre .2)
+    ∙ ap (λ (k : ℕ). entriesOf form64 (a .args .c) (a .args .n) k ++ drop (64 * k) o) e
+    ∙ ap (λ (k : ℕ). entriesOf form64 (a .args .c) k k ++ drop (64 * a .args .n) o) (a .pre .2)
 
 pub entries-spec : {M : Type 1} → statement M
 entries-spec =

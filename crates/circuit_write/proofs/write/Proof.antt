@@ -7,7 +7,7 @@ use native.Mathlib.Omega.{arith}
 use borrow.Author.Tests.{le-leb, lt-leb}
 use lib.ListN.{drop}
 use denote.Ref.{now}
-use Rattle.circuit.specs.Record.{old}
+use Rattle.circuit.specs.Record.{form64}
 use Rattle.circuit_write.specs.declared.WriteAnswer.{WriteAnswer}
 use Rattle.circuit_write.specs.Written.{goodOf, fileOf}
 use Rattle.circuit_write.proofs.Cells.{records-most, write-bad, write-small, write-good, good-is}
@@ -69,7 +69,7 @@ returns-5 c =
     (omega (arith, n))
     in (
       ap WriteAnswer.Written (ap (λ (k : ℕ). 64 * k) n) ∙ g .0,
-      c .before .before .entries .ensures ∙ ap (λ (k : ℕ). fileOf old (a .c) ++ drop (64 * k) (now (a .out))) n ∙ g .1,
+      c .before .before .entries .ensures ∙ ap (λ (k : ℕ). fileOf form64 (a .c) ++ drop (64 * k) (now (a .out))) n ∙ g .1,
     )
 
 pub write-spec : {M : Type 1} → statement M

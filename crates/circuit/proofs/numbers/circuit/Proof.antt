@@ -4,7 +4,7 @@ use mathlib.Core.Path.{sym, ap, _∙_}
 use native.Mathlib.Omega.{arith}
 use denote.Ref.{now}
 use Rattle.circuit.specs.declared.Chain.{Chain}
-use Rattle.circuit.specs.Record.{old, recordAt}
+use Rattle.circuit.specs.Record.{form64, recordAt}
 use Rattle.circuit.specs.Read.{circuitOf}
 use Rattle.circuit.proofs.Followed.{Followed, followed, count-range}
 use Rattle.circuit.specs.Chain.{kmOf}
@@ -16,8 +16,8 @@ use Rattle.circuit.proofs.numbers.circuit.Tie as tie
 told : (c : tie.Start) → Followed (now (c .args .file)) (c .args .c)
 told c = rw (c .pre .0) (followed (now (c .args .file)) (ap (λ (k : Chain). k .outcome) (sym (c .pre .0)) ∙ c .pre .1))
 
-range : (c : tie.Start) → (1 + kmOf (recordAt old (now (c .args .file)) 0) ≤ c .args .c .count)
-    × (c .args .c .count ≤ kmOf (recordAt old (now (c .args .file)) 0) + 49)
+range : (c : tie.Start) → (1 + kmOf (recordAt form64 (now (c .args .file)) 0) ≤ c .args .c .count)
+    × (c .args .c .count ≤ kmOf (recordAt form64 (now (c .args .file)) 0) + 49)
 range c = count-range (now (c .args .file)) (c .args .c) (told c) (c .pre .1)
 
 sub-head : tie.Need-sub-head

@@ -4,7 +4,7 @@ use mathlib.Core.Path.{_≡_, refl, ap, _∙_}
 use native.Mathlib.Omega.{arith}
 use lib.ListN.{length, getD}
 use denote.Ref.{now}
-use Rattle.circuit.specs.Record.{old}
+use Rattle.circuit.specs.Record.{form64}
 use Rattle.circuit.specs.Chain.{padded}
 use Rattle.circuit.specs.Read.{numbersOf}
 use Rattle.circuit.proofs.Lists.{length-part, length-read, read-on}
@@ -13,7 +13,7 @@ use Rattle.circuit.proofs.numbers.deciles.Tie as tie
 
 abbrev Inv-loop : tie.InvT-loop
 Inv-loop file order from count out₀ i₀ out i =
-    (i ≤ count) × (length out ≡ 576) × (out ≡ padded 576 (numbersOf old file order from 12 i))
+    (i ≤ count) × (length out ≡ 576) × (out ≡ padded 576 (numbersOf form64 file order from 12 i))
 
 abbrev μ-loop : tie.MeasureT-loop
 μ-loop file order from count out₀ i₀ out i = count - i
@@ -95,14 +95,14 @@ loop-again c =
     read-on 576 12 (a .args .from) (l .i) (now (a .args .file)) (now (a .args .order)) (l .out) _ (l .inv .2)
     (c .before .read-deciles .ensures) (omega arith)
     in
-    (omega arith, ap length e ∙ length-read 576 old (now (a .args .file)) (now (a .args .order)) (a .args .from) 12 (l .i + 1) (omega arith), e)
+    (omega arith, ap length e ∙ length-read 576 form64 (now (a .args .file)) (now (a .args .order)) (a .args .from) 12 (l .i + 1) (omega arith), e)
 
 returns : tie.Need-returns Inv-loop μ-loop
 returns c =
     let a = c .before .before .before .before .args in
     let e : c .before .loop .i ≡ a .count = omega arith in
     c .before .loop .inv .2
-    ∙ ap (λ (n : ℕ). padded 576 (numbersOf old (now (a .file)) (now (a .order)) (a .from) 12 n)) e
+    ∙ ap (λ (n : ℕ). padded 576 (numbersOf form64 (now (a .file)) (now (a .order)) (a .from) 12 n)) e
 
 pub deciles-spec : {M : Type 1} → statement M
 deciles-spec =

@@ -4,7 +4,7 @@ use mathlib.Core.Path.{_≡_, refl, ap, _∙_}
 use native.Mathlib.Omega.{arith}
 use lib.ListN.{length, getD}
 use denote.Ref.{now}
-use Rattle.circuit.specs.Record.{old}
+use Rattle.circuit.specs.Record.{form64}
 use Rattle.circuit.specs.Chain.{padded}
 use Rattle.circuit.specs.Read.{numbersOf}
 use Rattle.circuit.proofs.Lists.{length-part, length-read, read-on}
@@ -13,7 +13,7 @@ use Rattle.circuit.proofs.numbers.points.Tie as tie
 
 abbrev Inv-loop : tie.InvT-loop
 Inv-loop file order km out₀ i₀ out i =
-    (i ≤ km) × (length out ≡ 75) × (out ≡ padded 75 (numbersOf old file order 1 15 i))
+    (i ≤ km) × (length out ≡ 75) × (out ≡ padded 75 (numbersOf form64 file order 1 15 i))
 
 abbrev μ-loop : tie.MeasureT-loop
 μ-loop file order km out₀ i₀ out i = km - i
@@ -95,14 +95,14 @@ loop-again c =
     read-on 75 15 (1) (l .i) (now (a .args .file)) (now (a .args .order)) (l .out) _ (l .inv .2)
     (c .before .read-point .ensures) (omega arith)
     in
-    (omega arith, ap length e ∙ length-read 75 old (now (a .args .file)) (now (a .args .order)) 1 15 (l .i + 1) (omega arith), e)
+    (omega arith, ap length e ∙ length-read 75 form64 (now (a .args .file)) (now (a .args .order)) 1 15 (l .i + 1) (omega arith), e)
 
 returns : tie.Need-returns Inv-loop μ-loop
 returns c =
     let a = c .before .before .before .before .args in
     let e : c .before .loop .i ≡ a .km = omega arith in
     c .before .loop .inv .2
-    ∙ ap (λ (n : ℕ). padded 75 (numbersOf old (now (a .file)) (now (a .order)) 1 15 n)) e
+    ∙ ap (λ (n : ℕ). padded 75 (numbersOf form64 (now (a .file)) (now (a .order)) 1 15 n)) e
 
 pub points-spec : {M : Type 1} → statement M
 points-spec =

@@ -1,7 +1,7 @@
 -- The tests in the paper's order, then the walk.
 use mathlib.Core.Path.{sym, _∙_}
 use native.Mathlib.Omega.{arith}
-use Rattle.circuit.specs.Record.{old}
+use Rattle.circuit.specs.Record.{form64}
 use Rattle.circuit.proofs.Steps.{head-facts}
 use borrow.Author.Tests.{eq-eqb, le-leb, lt-leb, ne-eqb, not-false, not-true}
 use Rattle.circuit.specs.Chain.{chainOf}
@@ -56,7 +56,7 @@ walk-requires : tie.Need-walk-requires
 walk-requires c κs = (
   omega arith,
   rw (c .byte .ensures)
-      (head-facts old _
+      (head-facts form64 _
       (sym (c .before .before .head-good .ensures) ∙ not-false (c .before .before .head-good .result) (c .before .if4 .left))
       .most),
 )

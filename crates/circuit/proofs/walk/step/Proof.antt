@@ -5,7 +5,7 @@ use mathlib.Core.List.{List}
 use borrow.Author.Needs.{needs}
 use borrow.Author.Tests.{eq-eqb, ne-eqb, lt-ltb, le-ltb}
 use denote.Ref.{now}
-use Rattle.circuit.specs.Record.{old, recordAt, halfAt}
+use Rattle.circuit.specs.Record.{form64, recordAt, halfAt}
 use Rattle.circuit.specs.Chain.{stepOf}
 use Rattle.circuit.proofs.Lists.{part}
 use Rattle.circuit.proofs.walk.step.Statement.{statement}
@@ -36,7 +36,7 @@ half-requires c κs = search needs
 read : (c : tie.After-half)
     → c .half .result
     ≡ halfAt
-    (recordAt old (now (c .before .before .before .before .args .file)) (c .before .before .before .before .args .at))
+    (recordAt form64 (now (c .before .before .before .before .args .file)) (c .before .before .before .before .args .at))
     2
 read c =
     let a = c .before .before .before .before .args in

@@ -10,7 +10,7 @@ use denote.Ref.{now}
 use Rattle.circuit.specs.declared.Step.{Step}
 use lib.Dec.{leb}
 use borrow.Author.Tests.{not-true, not-false}
-use Rattle.circuit.specs.Record.{old, recordAt}
+use Rattle.circuit.specs.Record.{form64, recordAt}
 use Rattle.circuit.specs.Chain as chain
 use Rattle.circuit.proofs.Steps.{step-to, walk-end, walk-astray, walk-long, walk-bad, walk-on, as-answered, one-more, stored}
 use Rattle.circuit.proofs.Lists.{part}
@@ -21,7 +21,7 @@ abbrev Inv-loop : tie.InvT-loop
 Inv-loop file km order₀ count₀ at₀ left₀ order count at left =
     (1 ≤ count) × (count + left ≡ km + 49) × (at < length file / 64) × (length order ≡ 64)
     × (order ≡ chain.padded 64 (take count order))
-    × (chain.walk old file left (take count order) at ≡ chain.walk old file (km + 48) (0 ∷ []) 0)
+    × (chain.walk form64 file left (take count order) at ≡ chain.walk form64 file (km + 48) (0 ∷ []) 0)
 
 abbrev μ-loop : tie.MeasureT-loop
 μ-loop file km order₀ count₀ at₀ left₀ order count at left = left
@@ -53,7 +53,7 @@ returns c =
     let t = length-take-le (l .count) (l .order) (omega arith) in
     c .ended .ensures
     ∙ ap (chain.ended (l .left)) (as-answered (l .order) (l .count) (l .inv .4) t)
-    ∙ sym (walk-end old _ _ _ (l .left) (sym (c .before .before .before .step .ensures) ∙ c .before .enum-told .given .1))
+    ∙ sym (walk-end form64 _ _ _ (l .left) (sym (c .before .before .before .step .ensures) ∙ c .before .enum-told .given .1))
     ∙ l .inv .5
 
 enum-told-2 : tie.Need-enum-told-2 Inv-loop μ-loop
@@ -66,7 +66,7 @@ returns-2 : tie.Need-returns-2 Inv-loop μ-loop
 returns-2 c =
     let l = c .before .before .before .before .before .loop in
     c .refused .ensures
-    ∙ sym (walk-astray old _ _ _ (l .left) (sym (c .before .before .before .step .ensures) ∙ c .before .enum-told2 .given .1))
+    ∙ sym (walk-astray form64 _ _ _ (l .left) (sym (c .before .before .before .step .ensures) ∙ c .before .enum-told2 .given .1))
     ∙ l .inv .5
 
 enum-known-s : tie.Need-enum-known-s Inv-loop μ-loop
@@ -74,7 +74,7 @@ enum-known-s c = search needs
 
 -- the record that the step goes to is there
 went : (c : tie.After-s Inv-loop μ-loop)
-    → chain.stepOf old (now (c .before .before .before .before .before .before .args .file))
+    → chain.stepOf form64 (now (c .before .before .before .before .before .before .args .file))
     (take (c .before .before .before .before .loop .count) (c .before .before .before .before .loop .order))
     (c .before .before .before .before .loop .at)
     ≡ Step.To (c .s .given .0 .0)
@@ -82,7 +82,7 @@ went c = sym (c .before .before .step .ensures) ∙ c .s .given .1
 
 there : (c : tie.After-s Inv-loop μ-loop)
     → c .s .given .0 .0 < length (now (c .before .before .before .before .before .before .args .file)) / 64
-there c = step-to old _ _ _ _ (went c)
+there c = step-to form64 _ _ _ _ (went c)
 
 refused-requires-2 : tie.Need-refused-requires-2 Inv-loop μ-loop
 refused-requires-2 c κs = search needs
@@ -91,7 +91,7 @@ returns-3 : tie.Need-returns-3 Inv-loop μ-loop
 returns-3 c =
     let l = c .before .before .before .before .before .before .before .loop in
     c .refused2 .ensures
-    ∙ sym (walk-long old _ _ _ _ (l .left) (went (c .before .before .before)) (c .before .if1 .taken))
+    ∙ sym (walk-long form64 _ _ _ _ (l .left) (went (c .before .before .before)) (c .before .if1 .taken))
     ∙ l .inv .5
 
 sub-left : tie.Need-sub-left Inv-loop μ-loop
@@ -120,14 +120,14 @@ landed-requires c κs = search needs
 
 -- what was asked of the record there
 landed-is : (c : tie.After-landed Inv-loop μ-loop)
-    → chain.soundBy old (leb 48 (c .before .before .before .before .before .before .before .before .loop .left - 1))
-    (recordAt old (now (c .before .before .before .before .before .before .before .before .before .before .args .file))
+    → chain.soundBy form64 (leb 48 (c .before .before .before .before .before .before .before .before .loop .left - 1))
+    (recordAt form64 (now (c .before .before .before .before .before .before .before .before .before .before .args .file))
     (c .before .before .before .before .s .given .0 .0))
     ≡ c .landed .result
 landed-is c =
     let l = c .before .before .before .before .before .before .before .before .loop in
     let f = now (c .before .before .before .before .before .before .before .before .before .before .args .file) in
-    sym (c .landed .ensures ∙ ap (chain.soundBy old (leb 48 (l .left - 1))) (part f (c .before .before .before .before .s .given .0 .0)))
+    sym (c .landed .ensures ∙ ap (chain.soundBy form64 (leb 48 (l .left - 1))) (part f (c .before .before .before .before .s .given .0 .0)))
 
 refused-requires-3 : tie.Need-refused-requires-3 Inv-loop μ-loop
 refused-requires-3 c κs = search needs
@@ -137,7 +137,7 @@ returns-4 c =
     let l = c .before .before .before .before .before .before .before .before .before .before .loop in
     c .refused3 .ensures
     ∙ sym
-    (walk-bad old _ _ _ _ (l .left) (went (c .before .before .before .before .before .before))
+    (walk-bad form64 _ _ _ _ (l .left) (went (c .before .before .before .before .before .before))
     (c .before .before .before .before .if1 .left)
     (landed-is (c .before .before) ∙ not-true (c .before .before .landed .result) (c .before .if2 .taken)))
     ∙ l .inv .5
@@ -164,9 +164,9 @@ loop-again c =
       there (c .before .before .before .before .before),
       simp length-set (l .inv .3),
       stored (l .order) (l .count) n (omega arith) (l .inv .3) (l .inv .4),
-      ap (λ (o : List ℕ). chain.walk old f (l .left - 1) o n) (one-more (l .order) (l .count) n (omega arith))
+      ap (λ (o : List ℕ). chain.walk form64 f (l .left - 1) o n) (one-more (l .order) (l .count) n (omega arith))
           ∙ sym
-          (walk-on old _ _ _ _ (l .left) (went (c .before .before .before .before .before))
+          (walk-on form64 _ _ _ _ (l .left) (went (c .before .before .before .before .before))
           (c .before .before .before .if1 .left)
           (landed-is (c .before) ∙ not-false (c .before .landed .result) (c .if2 .left)))
           ∙ l .inv .5,
