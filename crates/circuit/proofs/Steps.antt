@@ -1,6 +1,6 @@
 -- What one step of the walk is, by where it leads, and the array that holds the records met.
 use Prim.Native.Nat.{ℕ, zero, suc, _+_, _-_, _≤_, _<_}
-use mathlib.Core.Path.{_≡_, refl, ap, _∙_, sym}
+use mathlib.Core.Path.{_≡_, refl, ap, _∙_, sym, subst}
 use mathlib.Core.List.{List, [], _∷_, _++_, append-assoc}
 use mathlib.Core.Bool.{Bool, true, false, _&&_, not}
 use native.Mathlib.Omega.{arith}
@@ -15,7 +15,7 @@ use Rattle.refusal.specs.declared.Outcome.{Outcome}
 use Rattle.circuit.specs.declared.Chain.{Chain}
 use Rattle.circuit.specs.declared.Step.{Step}
 use Rattle.circuit.specs.Record.{Form, recordAt, kindOf, nextOf, allZero}
-use Rattle.circuit.specs.Chain.{headGood, kmOf, shapeOf, countOf, member, stepBy, stepOf, walk, ended, answered, refused, padded, pick, soundBy}
+use Rattle.circuit.specs.Chain.{headGood, kmOf, shapeOf, countOf, member, stepBy, stepOf, stepNumber, stepIndex, walk, ended, answered, refused, padded, pick, soundBy}
 
 -- an index that a step goes to
 to-by : (b fresh c : Bool) (m n : ℕ) → stepBy b (c && fresh) m ≡ Step.To n → (c ≡ true) × (m ≡ n)
@@ -37,6 +37,20 @@ unfolding stepOf
 step-next o f order at n e =
     let m = nextOf (recordAt o f at) in
     to-by (eqb m 0) (not (member m order)) (ltb m (countOf o f)) m n e .1
+
+index-by : (b fresh : Bool) (m : ℕ) → eqb m 0 ≡ b → stepNumber (stepBy b fresh m) ≡ 0 → stepIndex (stepBy b fresh m) ≡ m
+index-by true fresh m e z = sym (eqb-true m 0 e)
+index-by false true m e z = refl
+index-by false false m e z = absurd (omega arith)
+
+-- both promises of a step, by its case
+pub step-told : (o : Form) (f order : List ℕ) (at : ℕ) (s : Step) → s ≡ stepOf o f order at
+    → (s ≡ stepOf o f order at) × (stepNumber s ≡ 0 → stepIndex s ≡ nextOf (recordAt o f at))
+unfolding stepOf
+step-told o f order at s e =
+    let m = nextOf (recordAt o f at) in
+    let fresh = ltb m (countOf o f) && not (member m order) in
+    (e, subst (λ (t : Step). stepNumber t ≡ 0 → stepIndex t ≡ m) (sym e) (index-by (eqb m 0) fresh m refl))
 
 module _ (o : Form) (f order : List ℕ) (at : ℕ) where
   pub walk-end : (left : ℕ) → stepOf o f order at ≡ Step.End → walk o f left order at ≡ ended left (answered order)

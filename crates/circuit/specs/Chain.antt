@@ -6,6 +6,7 @@ use lib.ListN.{length, getD, take, drop, replicate}
 use lib.Dec.{eqb, leb, ltb}
 use Rattle.refusal.specs.declared.Refusal.{Refusal}
 use Rattle.refusal.specs.declared.Outcome.{Outcome}
+use Rattle.refusal.specs.Number.{numberOf}
 use Rattle.circuit.specs.declared.Chain.{Chain}
 use Rattle.circuit.specs.declared.Step.{Step}
 use Rattle.circuit.specs.Record.{Form, recordAt, kindOf, nextOf, allZero, fits}
@@ -47,6 +48,18 @@ unfoldable pub stepOf : Form → List ℕ → List ℕ → ℕ → Step
 stepOf o f order at =
     let next = nextOf (recordAt o f at) in
     stepBy (eqb next 0) (ltb next (countOf o f) && not (member next order)) next
+
+-- document 01's number, and the index of the next record, for every case of a step: index 0 ends the chain, and stands beside
+-- a refusal too
+abbrev pub stepNumber : Step → ℕ
+stepNumber Step.End = 0
+stepNumber (Step.To n) = 0
+stepNumber Step.Astray = numberOf Refusal.ChainStep
+
+abbrev pub stepIndex : Step → ℕ
+stepIndex Step.End = 0
+stepIndex (Step.To n) = n
+stepIndex Step.Astray = 0
 
 abbrev pub padded : ℕ → List ℕ → List ℕ
 padded n l = l ++ replicate (n - length l) 0

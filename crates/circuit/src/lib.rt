@@ -22,7 +22,8 @@ pub struct Chain {
     pub count: usize,
 }
 
-// A point is fifteen words: fi, yi, hi and Es fs, three each, hs, clat, clck. Points past km are zero.
+// A point is fifteen words: fi, yi, hi and Es fs, three each, hs, clat, clck. The words past the km points are no part of the
+// circuit: the reader leaves them zero, the writer does not look at them.
 pub struct Circuit {
     pub km: usize,
     pub shape: usize,

@@ -1,6 +1,6 @@
 // The numbers of a circuit, read along its chain.
 ghost use mathlib.Core.Path.{_≡_};
-ghost use Prim.Native.Nat.{ℕ, _+_, _*_, _≤_, _<_};
+ghost use Prim.Native.Nat.{ℕ, _+_, _*_, _≤_};
 ghost use lib.ListN.{length, getD};
 ghost use Rattle.refusal.specs.declared.Outcome.{Outcome};
 ghost use Rattle.circuit.specs.Record.{form64, wordsOf, allZero};

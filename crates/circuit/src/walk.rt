@@ -1,11 +1,11 @@
 // The chain, followed from record 0.
 ghost use mathlib.Core.Path.{_≡_};
-ghost use mathlib.Core.List.{[], _∷_, _++_};
-ghost use Prim.Native.Nat.{_+_, _*_, _/_, _-_, _≤_, _<_};
-ghost use lib.ListN.{length, replicate};
+ghost use mathlib.Core.List.{[], _∷_};
+ghost use Prim.Native.Nat.{_+_, _*_, _≤_};
+ghost use lib.ListN.{length};
 ghost use lib.Dec.{leb};
-ghost use Rattle.circuit.specs.Record.{form64};
-ghost use Rattle.circuit.specs.Chain.{chainOf, headGood, member, stepOf, soundBy};
+ghost use Rattle.circuit.specs.Record.{form64, recordAt, nextOf};
+ghost use Rattle.circuit.specs.Chain.{chainOf, headGood, member, stepOf, stepNumber, stepIndex, soundBy};
 use crate::Chain;
 use crate::Step;
 use crate::record;
@@ -58,10 +58,11 @@ fn head_good(r: &[u8]) -> bool
     record::all_zero(&r[24..])
 }
 
-// The step out of record `at`, after the records of `order`.
+// The step out of record `at`, after the records of `order`. Unless it is refused it goes where the record's next index says.
 fn step(file: &[u8], order: &[usize], at: usize) -> Step
     requires { ⌜ 64 * at + 64 ≤ length (now file) ⌝ }
     ensures { λ s. ⌜ s ≡ stepOf form64 (now (file .entry)) (now (order .entry)) at ⌝ }
+    ensures { λ s. ⌜ (stepNumber s ≡ 0 → stepIndex s ≡ nextOf (recordAt form64 (now (file .entry)) at)) ⌝ }
 {
     let next = record::half(&file[64 * at..64 * at + 64], 2);
     if next == 0 {

@@ -1,6 +1,6 @@
 // Records, put into their part of the file.
 ghost use mathlib.Core.Path.{_≡_};
-ghost use Prim.Native.Nat.{_+_, _*_, _≤_, _<_};
+ghost use Prim.Native.Nat.{_*_, _≤_};
 ghost use lib.ListN.{length, replicate};
 ghost use Rattle.circuit.specs.Record.{form64};
 ghost use Rattle.circuit_write.specs.Written.{halfOf, wordOf, bytesOf, recordOf, headOf};

@@ -5,9 +5,11 @@ use mathlib.Core.List.{List}
 use borrow.Author.Needs.{needs}
 use borrow.Author.Tests.{eq-eqb, ne-eqb, lt-ltb, le-ltb}
 use denote.Ref.{now}
+use Rattle.circuit.specs.declared.Step.{Step}
 use Rattle.circuit.specs.Record.{form64, recordAt, halfAt}
 use Rattle.circuit.specs.Chain.{stepOf}
 use Rattle.circuit.proofs.Lists.{part}
+use Rattle.circuit.proofs.Steps.{step-told}
 use Rattle.circuit.proofs.walk.step.Statement.{statement}
 use Rattle.circuit.proofs.walk.step.Tie as tie
 
@@ -44,11 +46,18 @@ read c =
 
 returns : tie.Need-returns
 unfolding stepOf
-returns c = rw (← read (c .before), eq-eqb _ _ (c .if1 .taken))
+returns c =
+    let h = c .before in
+    let a = h .before .before .before .before .args in
+    step-told form64 (now (a .file)) (now (a .order)) (a .at) Step.End (rw (← read h, eq-eqb _ _ (c .if1 .taken)))
 
 returns-2 : tie.Need-returns-2
 unfolding stepOf
-returns-2 c = rw (← read (c .before .before), ne-eqb _ _ (c .before .if1 .left), le-ltb _ _ (c .if2 .taken))
+returns-2 c =
+    let h = c .before .before in
+    let a = h .before .before .before .before .args in
+    step-told form64 (now (a .file)) (now (a .order)) (a .at) Step.Astray
+    (rw (← read h, ne-eqb _ _ (c .before .if1 .left), le-ltb _ _ (c .if2 .taken)))
 
 is-among-requires : tie.Need-is-among-requires
 is-among-requires c κs = search needs
@@ -56,24 +65,30 @@ is-among-requires c κs = search needs
 returns-3 : tie.Need-returns-3
 unfolding stepOf
 returns-3 c =
-    rw (
-      ← read (c .before .before .before .before),
+    let h = c .before .before .before .before in
+    let a = h .before .before .before .before .args in
+    step-told form64 (now (a .file)) (now (a .order)) (a .at) Step.Astray
+    (rw (
+      ← read h,
       ne-eqb _ _ (c .before .before .before .if1 .left),
       lt-ltb _ _ (c .before .before .if2 .left),
       ← c .before .is-among .ensures,
       c .if3 .taken,
-    )
+    ))
 
 returns-4 : tie.Need-returns-4
 unfolding stepOf
 returns-4 c =
-    rw (
-      ← read (c .before .before .before .before),
+    let h = c .before .before .before .before in
+    let a = h .before .before .before .before .args in
+    step-told form64 (now (a .file)) (now (a .order)) (a .at) (Step.To (h .half .result))
+    (rw (
+      ← read h,
       ne-eqb _ _ (c .before .before .before .if1 .left),
       lt-ltb _ _ (c .before .before .if2 .left),
       ← c .before .is-among .ensures,
       c .if3 .left,
-    )
+    ))
 
 pub step-spec : {M : Type 1} → statement M
 step-spec =

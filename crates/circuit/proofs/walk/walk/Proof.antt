@@ -53,7 +53,7 @@ returns c =
     let t = length-take-le (l .count) (l .order) (omega arith) in
     c .ended .ensures
     ∙ ap (chain.ended (l .left)) (as-answered (l .order) (l .count) (l .inv .4) t)
-    ∙ sym (walk-end form64 _ _ _ (l .left) (sym (c .before .before .before .step .ensures) ∙ c .before .enum-told .given .1))
+    ∙ sym (walk-end form64 _ _ _ (l .left) (sym (c .before .before .before .step .ensures .0) ∙ c .before .enum-told .given .1))
     ∙ l .inv .5
 
 enum-told-2 : tie.Need-enum-told-2 Inv-loop μ-loop
@@ -66,7 +66,7 @@ returns-2 : tie.Need-returns-2 Inv-loop μ-loop
 returns-2 c =
     let l = c .before .before .before .before .before .loop in
     c .refused .ensures
-    ∙ sym (walk-astray form64 _ _ _ (l .left) (sym (c .before .before .before .step .ensures) ∙ c .before .enum-told2 .given .1))
+    ∙ sym (walk-astray form64 _ _ _ (l .left) (sym (c .before .before .before .step .ensures .0) ∙ c .before .enum-told2 .given .1))
     ∙ l .inv .5
 
 enum-known-s : tie.Need-enum-known-s Inv-loop μ-loop
@@ -78,7 +78,7 @@ went : (c : tie.After-s Inv-loop μ-loop)
     (take (c .before .before .before .before .loop .count) (c .before .before .before .before .loop .order))
     (c .before .before .before .before .loop .at)
     ≡ Step.To (c .s .given .0 .0)
-went c = sym (c .before .before .step .ensures) ∙ c .s .given .1
+went c = sym (c .before .before .step .ensures .0) ∙ c .s .given .1
 
 there : (c : tie.After-s Inv-loop μ-loop)
     → c .s .given .0 .0 < length (now (c .before .before .before .before .before .before .args .file)) / 64
