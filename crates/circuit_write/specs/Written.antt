@@ -90,7 +90,7 @@ answerBy true true n = WriteAnswer.Written n
 unfoldable pub answerOf : Form → Circuit → List ℕ → WriteAnswer
 answerOf o c out = answerBy (goodOf c) (leb (sizeOf o c) (length out)) (sizeOf o c)
 
--- document 01's number, and the bytes written, for every case of the answer
+-- the paper's number, and the bytes written, for every case of the answer
 abbrev pub numberIn : WriteAnswer → ℕ
 numberIn (WriteAnswer.Written n) = 0
 numberIn (WriteAnswer.Refused r) = numberOf r

@@ -1,4 +1,4 @@
--- The circuit MUF over a way of finding heights. The contracts' way is `gethpOf`; here stand the two that document 01 compares: by walks, as the code reads, and by full scans everywhere.
+-- The circuit MUF over a way of finding heights. The contracts' way is `gethpOf`; here stand the two that the paper compares: by walks, as the code reads, and by full scans everywhere.
 -- A definition named With has the lines of the one that the contract of `curmuf` rests on (`eLineOf`, `f2LineOf`, `f1LineOf`, `threeOf`, `workedOf`, `doneOf`), with `find` for `gethpOf`; what reads no profile is the same definition. With `gethpOf` itself they are those definitions (`with-contracts`). The slot sheet has its own in `hour`.
 use mathlib.Core.Bool.{Bool, true, false}
 use mathlib.Core.List.{List}
