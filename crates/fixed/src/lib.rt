@@ -36,7 +36,7 @@ pub fn scaled(a: u32, k: u32) -> u64
 }
 
 // s to 24 bits
-pub fn significand(s: u64) -> u32
+fn significand(s: u64) -> u32
     requires { ⌜ (2 ^ 30 ≤ s) × (s < 2 ^ 64) ⌝ }
     ensures { λ r. ⌜ r ≡ mant s ⌝ }
 {
