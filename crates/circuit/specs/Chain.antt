@@ -49,7 +49,7 @@ stepOf o f order at =
     let next = nextOf (recordAt o f at) in
     stepBy (eqb next 0) (ltb next (countOf o f) && not (member next order)) next
 
--- document 01's number, and the index of the next record, for every case of a step: index 0 ends the chain, and stands beside
+-- the paper's number, and the index of the next record, for every case of a step: index 0 ends the chain, and stands beside
 -- a refusal too
 abbrev pub stepNumber : Step → ℕ
 stepNumber Step.End = 0

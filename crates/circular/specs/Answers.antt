@@ -3,7 +3,7 @@ use Prim.Native.Nat.{ℕ}
 use mathlib.Core.Bool.{Bool, true, false}
 use lib.Ieee.{Float}
 use Rattle.scalar.specs.F32.{_<f_, _>f_, negf}
-use Rattle.scalar.specs.Literals.{f4}
+use Rattle.scalar.specs.Literals.{f0, f4}
 use Rattle.refusal.specs.declared.Refusal.the-variants.{Angle}
 use Rattle.refusal.specs.Number.{numberOf}
 use Rattle.circular.specs.SinCos.{sinOf, cosOf}
@@ -22,7 +22,11 @@ sinAnswer x = unlessOutside (x <f negf f4) (x >f f4) (sinOf x)
 unfoldable pub cosAnswer : Float → Answer
 cosAnswer x = unlessOutside (x <f negf f4) (x >f f4) (cosOf x)
 
--- 0 for a value, else the refusal's number
+-- the paper's number of each case, 0 for a value, and the value, +0 beside a refusal
 abbrev pub answerNumber : Answer → ℕ
 answerNumber (Value r) = 0
 answerNumber (Refused r) = numberOf r
+
+abbrev pub answerValue : Answer → Float
+answerValue (Value r) = r
+answerValue (Refused r) = f0

@@ -4,7 +4,7 @@ ghost use mathlib.Core.Path.{_≡_};
 ghost use Rattle.circular.specs.SinCos.{sinOf, cosOf};
 ghost use Rattle.circular.specs.Asin.{asinOf};
 ghost use Rattle.circular.specs.Atan.{atanOf};
-ghost use Rattle.circular.specs.Answers.{sinAnswer, cosAnswer, answerNumber};
+ghost use Rattle.circular.specs.Answers.{sinAnswer, cosAnswer, answerNumber, answerValue};
 
 mod arcsin;
 mod arctan;
@@ -77,5 +77,15 @@ pub fn answer_number(a: Answer) -> u32
     match a {
         Answer::Value(r) => 0,
         Answer::Refused(r) => refusal::number(r),
+    }
+}
+
+// +0 beside a refusal
+pub fn answer_value(a: Answer) -> f32
+    ensures { λ r. ⌜ r ≡ answerValue a ⌝ }
+{
+    match a {
+        Answer::Value(v) => v,
+        Answer::Refused(_) => 0.0,
     }
 }

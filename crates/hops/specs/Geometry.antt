@@ -1,5 +1,6 @@
 -- `hop_geometry` of the Rust, with the paper's refusal of a hop count outside 0 to 999.
 use mathlib.Core.Bool.{Bool, true, false}
+use Prim.Native.Nat.{ℕ}
 use lib.IntN.{ℤ, pos, _+ℤ_}
 use lib.Signed.{ltZ}
 use lib.Ieee.{Float, binary32, ofInt}
@@ -11,6 +12,7 @@ use Rattle.circular.specs.SinCos.{sinOf, cosOf}
 use Rattle.circular.specs.Asin.{asinOf}
 use Rattle.circular.specs.Atan.{atanOf}
 use Rattle.refusal.specs.declared.Refusal.{Refusal}
+use Rattle.refusal.specs.Number.{numberOf}
 use Rattle.hops.specs.declared.Hops.{Hops}
 use Rattle.hops.specs.declared.HopGeometry.{HopGeometry}
 use Rattle.hops.specs.declared.Geometry.{Geometry}
@@ -40,6 +42,15 @@ hopsBy false false nhops = Hops.Count (ofInt binary32 (nhops +ℤ pos 1))
 
 unfoldable pub hopsOf : Float → Float → Float → Hops
 hopsOf gcdkm amind h = let nhops = truncOf (hopRatioOf gcdkm amind h) in hopsBy (ltZ nhops (pos 0)) (ltZ (pos 999) nhops) nhops
+
+-- the paper's number of each case, 0 for a count, and the count, +0 beside a refusal
+abbrev pub hopsNumber : Hops → ℕ
+hopsNumber (Hops.Count xhops) = 0
+hopsNumber (Hops.Refused r) = numberOf r
+
+abbrev pub hopsValue : Hops → Float
+hopsValue (Hops.Count xhops) = xhops
+hopsValue (Hops.Refused r) = f0
 
 -- split_first: E and F1, where two divisions are rounded
 abbrev pub psiOf : Float → Float → Bool → Float
@@ -74,3 +85,15 @@ geometryBy (Hops.Refused r) gcdkm hp ht split_first = Geometry.Refused r
 
 unfoldable pub geometryOf : Float → Float → Float → Float → Bool → Geometry
 geometryOf gcdkm amind hp ht split_first = geometryBy (hopsOf gcdkm amind hp) gcdkm hp ht split_first
+
+-- the paper's number of each case, 0 for a geometry, and the geometry, of +0 beside a refusal
+abbrev pub geometryNumber : Geometry → ℕ
+geometryNumber (Geometry.Found g) = 0
+geometryNumber (Geometry.Refused r) = numberOf r
+
+abbrev pub noGeometry : HopGeometry
+noGeometry = record { secp = f0; sphe = f0; del = f0; xhops = f0; psi = f0; cpsi = f0; spsi = f0 }
+
+abbrev pub geometryValue : Geometry → HopGeometry
+geometryValue (Geometry.Found g) = g
+geometryValue (Geometry.Refused r) = noGeometry

@@ -1,6 +1,6 @@
 // The hops of a path by one layer, their angles, and the rounds that correct the MUF for bending.
 ghost use mathlib.Core.Path.{_≡_};
-ghost use Rattle.hops.specs.Geometry.{hopRatioOf, hopsOf, psiOf, delOf, spheOf, secpOf, hopGeometryOf, geometryOf};
+ghost use Rattle.hops.specs.Geometry.{hopRatioOf, hopsOf, hopsNumber, hopsValue, psiOf, delOf, spheOf, secpOf, hopGeometryOf, geometryOf, geometryNumber, geometryValue};
 ghost use Rattle.hops.specs.Rounds.{sphOf, roundOf, settledOf, roundsOf};
 use refusal::Refusal;
 
@@ -79,6 +79,26 @@ pub fn hop_count(gcdkm: f32, amind: f32, h: f32) -> Hops
     Hops::Count(xhops)
 }
 
+// 0 for a count, else the refusal's number.
+pub fn hops_number(a: Hops) -> u32
+    ensures { λ n. ⌜ n ≡ hopsNumber a ⌝ }
+{
+    match a {
+        Hops::Count(_) => 0,
+        Hops::Refused(r) => refusal::number(r),
+    }
+}
+
+// The count, +0 beside a refusal.
+pub fn hops_value(a: Hops) -> f32
+    ensures { λ r. ⌜ r ≡ hopsValue a ⌝ }
+{
+    match a {
+        Hops::Count(xhops) => xhops,
+        Hops::Refused(_) => 0.0,
+    }
+}
+
 // Divided in two steps for E and F1 and in one for F2, as the Rust does: the last bits differ.
 fn half_angle(gcdkm: f32, xhops: f32, split_first: bool) -> f32
     ensures { λ r. ⌜ r ≡ psiOf gcdkm xhops «split_first» ⌝ }
@@ -144,6 +164,34 @@ pub fn hop_geometry(gcdkm: f32, amind: f32, hp: f32, ht: f32, split_first: bool)
             let g = hop_angles(gcdkm, xhops, hp, ht, split_first);
             Geometry::Found(g)
         }
+    }
+}
+
+// 0 for a geometry, else the refusal's number.
+pub fn geometry_number(a: Geometry) -> u32
+    ensures { λ n. ⌜ n ≡ geometryNumber a ⌝ }
+{
+    match a {
+        Geometry::Found(_) => 0,
+        Geometry::Refused(r) => refusal::number(r),
+    }
+}
+
+// The geometry, of +0 beside a refusal.
+pub fn geometry_value(a: Geometry) -> HopGeometry
+    ensures { λ g. ⌜ g ≡ geometryValue a ⌝ }
+{
+    match a {
+        Geometry::Found(g) => g,
+        Geometry::Refused(_) => HopGeometry {
+            secp: 0.0,
+            sphe: 0.0,
+            del: 0.0,
+            xhops: 0.0,
+            psi: 0.0,
+            cpsi: 0.0,
+            spsi: 0.0,
+        },
     }
 }
 

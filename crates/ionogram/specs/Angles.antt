@@ -12,6 +12,7 @@ use Rattle.scalar.specs.Literals.{f0, f0·5, f1, f2, f3, f4, f5, f6, f8, f8·5,
 use Rattle.scalar.specs.Scalar.{truncOf}
 use Rattle.layers.specs.State.{at}
 use Rattle.refusal.specs.declared.Refusal.{Refusal}
+use Rattle.refusal.specs.Number.{numberOf}
 use Rattle.ionogram.specs.declared.Scan.{Scan}
 
 -- the elevation angles, degrees
@@ -58,3 +59,12 @@ scanBy false amind id = Scan.Angles (countOf amind (getD NANGX (id - 1) 0))
 
 unfoldable pub sangOf : Float → Float → Scan
 sangOf gcdkm amind = let id = stepOf gcdkm in scanBy (eqb id 0) amind id
+
+-- the paper's number of each case, 0 for a count, and the count, 0 beside a refusal
+abbrev pub scanNumber : Scan → ℕ
+scanNumber (Scan.Angles n) = 0
+scanNumber (Scan.Refused r) = numberOf r
+
+abbrev pub scanValue : Scan → ℕ
+scanValue (Scan.Angles n) = n
+scanValue (Scan.Refused r) = 0

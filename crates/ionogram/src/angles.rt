@@ -3,7 +3,7 @@ ghost use mathlib.Core.Path.{_≡_};
 ghost use Prim.Native.Nat.{_+_, _-_, _<_, _≤_};
 ghost use lib.ListN.{getD};
 ghost use Rattle.layers.specs.State.{at};
-ghost use Rattle.ionogram.specs.Angles.{ANG as Angles·ANG, NANGX as Angles·NANGX, stepOf, raisedFrom, countOf, sangOf};
+ghost use Rattle.ionogram.specs.Angles.{ANG as Angles·ANG, NANGX as Angles·NANGX, stepOf, raisedFrom, countOf, sangOf, scanNumber, scanValue};
 use crate::Scan;
 use refusal::Refusal;
 
@@ -115,4 +115,24 @@ pub fn sang(gcdkm: f32, amind: f32) -> Scan
         return Scan::Refused(Refusal::Distance);
     }
     Scan::Angles(count(amind, nangx(id - 1)))
+}
+
+// 0 for a count, else the refusal's number.
+pub fn scan_number(a: Scan) -> u32
+    ensures { λ n. ⌜ n ≡ scanNumber a ⌝ }
+{
+    match a {
+        Scan::Angles(_) => 0,
+        Scan::Refused(r) => refusal::number(r),
+    }
+}
+
+// The count, 0 beside a refusal.
+pub fn scan_value(a: Scan) -> usize
+    ensures { λ n. ⌜ n ≡ scanValue a ⌝ }
+{
+    match a {
+        Scan::Angles(n) => n,
+        Scan::Refused(_) => 0,
+    }
 }

@@ -5,6 +5,8 @@ mod control;
 mod reflectrix;
 
 pub use angles::sang;
+pub use angles::scan_number;
+pub use angles::scan_value;
 pub use control::selmod;
 pub use reflectrix::fobby;
 use refusal::Outcome;

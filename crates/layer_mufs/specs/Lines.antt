@@ -9,6 +9,7 @@ use Rattle.scalar.specs.F32.{_+f_, _-f_, _*f_, _≤f_, _>f_}
 use Rattle.scalar.specs.Literals.{f0, f0·01, f0·1, f0·9, f1, f1·1, f1·28, f2, f57·295779513, f104·25, f125·3}
 use Rattle.scalar.specs.Scalar.{maxOf, truncOf}
 use Rattle.scalar.specs.Root.{sqrtOf}
+use Rattle.refusal.specs.Number.{numberOf}
 use Rattle.deciles.specs.F2dis.{f2disOf}
 use Rattle.deciles.specs.declared.Deviation.{Deviation}
 use Rattle.hops.specs.Geometry.{geometryOf}
@@ -37,6 +38,19 @@ tenthOf muf = maxOf (f0·1 *f muf) f0·01
 unfoldable pub lineOf : Float → Float → Float → Float → Float → Float → Float → Float → LayerMuf
 lineOf sigl sigu del hp ht fv xhops muf =
     record { sigl = sigl; sigu = sigu; delmuf = del *f R2D; hpmuf = hp; htmuf = ht; fvmuf = fv; afmuf = f0; nhopmf = truncOf xhops; yfot = muf -f f1·28 *f sigl; ymuf = muf; yhpf = muf +f f1·28 *f sigu }
+
+-- a line of +0
+unfoldable pub zeroLine : LayerMuf
+zeroLine = record { sigl = f0; sigu = f0; delmuf = f0; hpmuf = f0; htmuf = f0; fvmuf = f0; afmuf = f0; nhopmf = pos 0; yfot = f0; ymuf = f0; yhpf = f0 }
+
+-- the paper's number of each case, 0 for a line, and the line, of +0 beside a refusal
+abbrev pub lineNumber : LineAnswer → ℕ
+lineNumber (LineAnswer.Found m) = 0
+lineNumber (LineAnswer.Refused r) = numberOf r
+
+abbrev pub lineValue : LineAnswer → LayerMuf
+lineValue (LineAnswer.Found m) = m
+lineValue (LineAnswer.Refused r) = zeroLine
 
 unfoldable pub byProfileOf : IonoState → Bool
 byProfileOf t = ltZ (t .iedp) (pos 0)
@@ -89,6 +103,19 @@ unfoldable pub bentOf : Float → Float → Pair → HopGeometry → Round
 bentOf fc fx h g =
     roundsOf (record { fc = fc; fx = fx; hp = h .hp; ht = h .ht; psi = g .psi; cpsi = g .cpsi; spsi = g .spsi }) 5
     (record { sphe = g .sphe; fob = fx *f g .secp; del = g .del; hp = h .hp })
+
+-- the paper's number of each case, 0 for two deviations, and the two, +0 beside a refusal
+abbrev pub deviationsNumber : Deviations → ℕ
+deviationsNumber (Deviations.Both sigl sigu) = 0
+deviationsNumber (Deviations.Refused r) = numberOf r
+
+abbrev pub lowerValue : Deviations → Float
+lowerValue (Deviations.Both sigl sigu) = sigl
+lowerValue (Deviations.Refused r) = f0
+
+abbrev pub upperValue : Deviations → Float
+upperValue (Deviations.Both sigl sigu) = sigu
+upperValue (Deviations.Refused r) = f0
 
 abbrev pub highBy : Deviation → Float → Deviations
 highBy (Deviation.Value u) l = Deviations.Both (maxOf l f0·01) (maxOf u f0·01)

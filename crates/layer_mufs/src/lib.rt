@@ -3,7 +3,7 @@ ghost use mathlib.Core.Path.{_≡_};
 ghost use Prim.Native.Nat.{_<_};
 ghost use Rattle.layer_mufs.specs.Controlling.{compareE, controllingOf};
 ghost use Rattle.layer_mufs.specs.Tangents.{xtOf, fx1Of, betaOf, f2TangentOf, tangentsOf};
-ghost use Rattle.layer_mufs.specs.Lines.{tenthOf, lineOf, byProfileOf, eHeightsOf, eFoundOf, eLineOf, parabolicOf, f2HeightsOf, bentOf, deviationsOf, f2BentOf, f2LineOf, f1FoundOf, f1OwnOf, f1LineOf};
+ghost use Rattle.layer_mufs.specs.Lines.{tenthOf, lineOf, zeroLine, lineNumber, lineValue, byProfileOf, eHeightsOf, eFoundOf, eLineOf, parabolicOf, f2HeightsOf, bentOf, deviationsNumber, lowerValue, upperValue, deviationsOf, f2BentOf, f2LineOf, f1FoundOf, f1OwnOf, f1LineOf};
 use deciles::Deviation;
 use hops::Geometry;
 use hops::HopGeometry;
@@ -179,6 +179,45 @@ pub fn line(
     }
 }
 
+// A line of +0.
+pub fn zero_line() -> LayerMuf
+    ensures { λ r. ⌜ r ≡ zeroLine ⌝ }
+{
+    LayerMuf {
+        sigl: 0.0,
+        sigu: 0.0,
+        delmuf: 0.0,
+        hpmuf: 0.0,
+        htmuf: 0.0,
+        fvmuf: 0.0,
+        afmuf: 0.0,
+        nhopmf: 0,
+        yfot: 0.0,
+        ymuf: 0.0,
+        yhpf: 0.0,
+    }
+}
+
+// 0 for a line, else the refusal's number.
+pub fn line_number(a: LineAnswer) -> u32
+    ensures { λ n. ⌜ n ≡ lineNumber a ⌝ }
+{
+    match a {
+        LineAnswer::Found(_) => 0,
+        LineAnswer::Refused(r) => refusal::number(r),
+    }
+}
+
+// The line, of +0 beside a refusal.
+pub fn line_value(a: LineAnswer) -> LayerMuf
+    ensures { λ m. ⌜ m ≡ lineValue a ⌝ }
+{
+    match a {
+        LineAnswer::Found(m) => m,
+        LineAnswer::Refused(_) => zero_line(),
+    }
+}
+
 // Whether the profile alone gives heights.
 fn by_profile(t: IonoState) -> bool
     ensures { λ r. ⌜ r ≡ byProfileOf t ⌝ }
@@ -274,6 +313,36 @@ fn bent(fc: f32, fx: f32, h: Pair, g: HopGeometry) -> Round
         hp: h.hp,
     };
     hops::rounds(p, start)
+}
+
+// 0 for two deviations, else the refusal's number.
+pub fn deviations_number(a: Deviations) -> u32
+    ensures { λ n. ⌜ n ≡ deviationsNumber a ⌝ }
+{
+    match a {
+        Deviations::Both(_, _) => 0,
+        Deviations::Refused(r) => refusal::number(r),
+    }
+}
+
+// The lower one, +0 beside a refusal.
+pub fn lower_value(a: Deviations) -> f32
+    ensures { λ r. ⌜ r ≡ lowerValue a ⌝ }
+{
+    match a {
+        Deviations::Both(sigl, _) => sigl,
+        Deviations::Refused(_) => 0.0,
+    }
+}
+
+// The upper one, +0 beside a refusal.
+pub fn upper_value(a: Deviations) -> f32
+    ensures { λ r. ⌜ r ≡ upperValue a ⌝ }
+{
+    match a {
+        Deviations::Both(_, sigu) => sigu,
+        Deviations::Refused(_) => 0.0,
+    }
 }
 
 fn both_deviations(f2d: &[f32], f2muf: f32, ssn: f32, clat: f32, clck: f32) -> Deviations

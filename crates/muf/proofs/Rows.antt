@@ -21,7 +21,7 @@ use Rattle.profile.specs.Lecden.{slotAt, lecdenOf}
 use Rattle.profile.specs.declared.Slot.{Slot}
 use Rattle.layer_mufs.specs.declared.Circuit.{Circuit}
 use Rattle.muf.specs.Sporadic.{rayOf, takenBy, takenOf, hopBy, rowBy, esRowOf, startOf, nextBy, esFrom, esLineBy, esLineOf, rowAt}
-use Rattle.muf.specs.Curmuf.{esBy, threeBy, threeOf, workedOf, doneBy, doneOf, inDomain, listsReach, refusedDone, rowsBy, takenRows, rowsOf, flatOf}
+use Rattle.muf.specs.Curmuf.{esBy, stepThreeBy, threeOf, stepDoneBy, doneOf, inDomain, listsReach, refusedDone, rowsBy, takenRows, rowsOf, flatOf}
 use Rattle.muf.specs.declared.EsRow.{EsRow}
 use Rattle.muf.specs.declared.EsRay.{EsRay}
 use Rattle.muf.specs.declared.EsSearch.{EsSearch}
@@ -94,23 +94,23 @@ unfolding esLineOf refusedDone
 es-below (EsStep.Next a) m s t fe x ks w = line-below (a .esmuf -f f1000 ≥f f0) m a fe refl w
 es-below (EsStep.Refused r) m s t fe x ks w = never
 
-three-below : (q : ThreeAnswer) (s t : IonoState) (l : Slot) (ks n : ℕ) (row : ℕ → EsRow) (c : Circuit) → Below n (threeBy q s t l ks n row c)
+three-below : (q : ThreeAnswer) (m : ℕ) (s t : IonoState) (l : Slot) (ks : ℕ) (step : EsStep) → HeldStep m step → Below m (stepThreeBy q s t l ks step)
 unfolding refusedDone
-three-below (ThreeAnswer.Found m) s t l ks n row c = es-below (esFrom row c n 0 startOf) n s t (l .fi0) m ks (all-held row c n)
-three-below (ThreeAnswer.Refused r) s t l ks n row c = never
+three-below (ThreeAnswer.Found x) m s t l ks step w = es-below step m s t (l .fi0) x ks w
+three-below (ThreeAnswer.Refused r) m s t l ks step w = never
 
-done-by-below : (a b : Bool) (s : IonoState) (n : ℕ) (row : ℕ → EsRow) (f2d clat clck : List Float) (c : Circuit) → Below n (doneBy a b s n row f2d clat clck c)
-unfolding workedOf refusedDone
-done-by-below true true s n row f2d clat clck c =
+done-by-below : (a b : Bool) (m : ℕ) (s : IonoState) (step : EsStep) (f2d clat clck : List Float) (c : Circuit) → HeldStep m step → Below m (stepDoneBy a b s step f2d clat clck c)
+unfolding refusedDone
+done-by-below true true m s step f2d clat clck c w =
     let ks = controllingOf s in
     let t = lecdenOf s ks in
-    three-below (threeOf t (slotAt t ks) ks f2d (at clat ks) (at clck ks) c) s t (slotAt t ks) ks n row c
-done-by-below true false s n row f2d clat clck c = never
-done-by-below false b s n row f2d clat clck c = never
+    three-below (threeOf t (slotAt t ks) ks f2d (at clat ks) (at clck ks) c) m s t (slotAt t ks) ks step w
+done-by-below true false m s step f2d clat clck c w = never
+done-by-below false b m s step f2d clat clck c w = never
 
 pub done-below : (s : IonoState) (n : ℕ) (row : ℕ → EsRow) (f2d clat clck : List Float) (c : Circuit) → doneOf s n row f2d clat clck c .rewrites ≡ true → doneOf s n row f2d clat clck c .ksx < n
 unfolding doneOf
-done-below s n row f2d clat clck c = done-by-below (inDomain c) (listsReach (controllingOf s) (length f2d) (length clat) (length clck)) s n row f2d clat clck c
+done-below s n row f2d clat clck c = done-by-below (inDomain c) (listsReach (controllingOf s) (length f2d) (length clat) (length clck)) n s (esFrom row c n 0 startOf) f2d clat clck c (all-held row c n)
 
 rows-by : (b : Bool) (there km : ℕ) → ltb there km ≡ b → rowsBy b there km ≤ there
 rows-by true there km h = omega arith

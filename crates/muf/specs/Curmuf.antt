@@ -7,6 +7,7 @@ use lib.ListN.{length, set}
 use lib.Ieee.{Float}
 use Rattle.scalar.specs.F32.{_≤f_, _>f_}
 use Rattle.scalar.specs.Literals.{f0, f6·3, f90, f40100}
+use Rattle.refusal.specs.Number.{numberOf}
 use Rattle.refusal.specs.declared.Refusal.{Refusal}
 use Rattle.refusal.specs.declared.Outcome.{Outcome}
 use Rattle.layers.specs.State.{at}
@@ -16,7 +17,7 @@ use Rattle.profile.specs.Lecden.{slotAt, lecdenOf}
 use Rattle.profile.specs.declared.Slot.{Slot}
 use Rattle.layer_mufs.specs.Controlling.{controllingOf}
 use Rattle.layer_mufs.specs.Tangents.{tangentsOf}
-use Rattle.layer_mufs.specs.Lines.{eLineOf, f2LineOf, f1LineOf}
+use Rattle.layer_mufs.specs.Lines.{zeroLine, eLineOf, f2LineOf, f1LineOf}
 use Rattle.layer_mufs.specs.declared.Circuit.{Circuit}
 use Rattle.layer_mufs.specs.declared.Tangents.{Tangents}
 use Rattle.layer_mufs.specs.declared.LineAnswer.{LineAnswer}
@@ -65,6 +66,15 @@ threeOf t l ks f2d clat clck c =
     let x = tangentsOf l (c .gcdkm) in
     eThen (eLineOf t (x .fxe) (c .gcdkm) (c .amind)) t l ks x f2d clat clck c
 
+-- the paper's number of each case, 0 for the three lines, and the lines, of +0 beside a refusal
+abbrev pub threeNumber : ThreeAnswer → ℕ
+threeNumber (ThreeAnswer.Found m) = 0
+threeNumber (ThreeAnswer.Refused r) = numberOf r
+
+abbrev pub threeValue : ThreeAnswer → Three
+threeValue (ThreeAnswer.Found m) = m
+threeValue (ThreeAnswer.Refused r) = record { e = zeroLine; f1 = zeroLine; f2 = zeroLine }
+
 -- then Es
 
 unfoldable pub refusedDone : IonoState → Refusal → Done
@@ -81,25 +91,39 @@ esBy (EsStep.Next a) s t fe m ks =
     }
 esBy (EsStep.Refused r) s t fe m ks = refusedDone s r
 
-abbrev pub threeBy : ThreeAnswer → IonoState → IonoState → Slot → ℕ → ℕ → (ℕ → EsRow) → Circuit → Done
-threeBy (ThreeAnswer.Found m) s t l ks n row c = esBy (esFrom row c n 0 startOf) s t (l .fi0) m ks
-threeBy (ThreeAnswer.Refused r) s t l ks n row c = refusedDone s r
+abbrev pub stepThreeBy : ThreeAnswer → IonoState → IonoState → Slot → ℕ → EsStep → Done
+stepThreeBy (ThreeAnswer.Found m) s t l ks step = esBy step s t (l .fi0) m ks
+stepThreeBy (ThreeAnswer.Refused r) s t l ks step = refusedDone s r
 
-unfoldable pub workedOf : IonoState → ℕ → ℕ → (ℕ → EsRow) → List Float → Float → Float → Circuit → Done
-workedOf s ks n row f2d clat clck c =
+abbrev pub stepWorkedOf : IonoState → ℕ → EsStep → List Float → Float → Float → Circuit → Done
+stepWorkedOf s ks step f2d clat clck c =
     let t = lecdenOf s ks in
     let l = slotAt t ks in
-    threeBy (threeOf t l ks f2d clat clck c) s t l ks n row c
+    stepThreeBy (threeOf t l ks f2d clat clck c) s t l ks step
 
 -- is the input in its domain, do the lists reach
-abbrev pub doneBy : Bool → Bool → IonoState → ℕ → (ℕ → EsRow) → List Float → List Float → List Float → Circuit → Done
-doneBy true true s n row f2d clat clck c = let ks = controllingOf s in workedOf s ks n row f2d (at clat ks) (at clck ks) c
-doneBy true false s n row f2d clat clck c = refusedDone s Refusal.MufLists
-doneBy false reach s n row f2d clat clck c = refusedDone s Refusal.MufInput
+abbrev pub stepDoneBy : Bool → Bool → IonoState → EsStep → List Float → List Float → List Float → Circuit → Done
+stepDoneBy true true s step f2d clat clck c = let ks = controllingOf s in stepWorkedOf s ks step f2d (at clat ks) (at clck ks) c
+stepDoneBy true false s step f2d clat clck c = refusedDone s Refusal.MufLists
+stepDoneBy false reach s step f2d clat clck c = refusedDone s Refusal.MufInput
 
--- n rows of Es, each as `row` gives it
+-- the whole call, the search of the Es rows given as its step
+abbrev pub stepDoneOf : IonoState → EsStep → List Float → List Float → List Float → Circuit → Done
+stepDoneOf s step f2d clat clck c = stepDoneBy (inDomain c) (listsReach (controllingOf s) (length f2d) (length clat) (length clck)) s step f2d clat clck c
+
+-- the same where the step is the search of n rows of Es, each as `row` gives it
+abbrev pub threeBy : ThreeAnswer → IonoState → IonoState → Slot → ℕ → ℕ → (ℕ → EsRow) → Circuit → Done
+threeBy x s t l ks n row c = stepThreeBy x s t l ks (esFrom row c n 0 startOf)
+
+unfoldable abbrev pub workedOf : IonoState → ℕ → ℕ → (ℕ → EsRow) → List Float → Float → Float → Circuit → Done
+unfolding stepWorkedOf
+workedOf s ks n row f2d clat clck c = stepWorkedOf s ks (esFrom row c n 0 startOf) f2d clat clck c
+
+abbrev pub doneBy : Bool → Bool → IonoState → ℕ → (ℕ → EsRow) → List Float → List Float → List Float → Circuit → Done
+doneBy domain reach s n row f2d clat clck c = stepDoneBy domain reach s (esFrom row c n 0 startOf) f2d clat clck c
+
 unfoldable pub doneOf : IonoState → ℕ → (ℕ → EsRow) → List Float → List Float → List Float → Circuit → Done
-doneOf s n row f2d clat clck c = doneBy (inDomain c) (listsReach (controllingOf s) (length f2d) (length clat) (length clck)) s n row f2d clat clck c
+doneOf s n row f2d clat clck c = stepDoneOf s (esFrom row c n 0 startOf) f2d clat clck c
 
 -- the rows that there are, at most km
 abbrev pub rowsBy : Bool → ℕ → ℕ → ℕ

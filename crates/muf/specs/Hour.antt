@@ -11,6 +11,7 @@ use Rattle.refusal.specs.declared.Refusal.{Refusal}
 use Rattle.refusal.specs.declared.Outcome.{Outcome}
 use Rattle.layers.specs.declared.IonoState.{IonoState}
 use Rattle.layers.specs.declared.LayerMuf.{LayerMuf}
+use Rattle.layer_mufs.specs.Lines.{zeroLine}
 use Rattle.muf.specs.declared.Three.{Three}
 use Rattle.muf.specs.declared.Mode.{Mode}
 use Rattle.muf.specs.declared.MufHour.{MufHour}
@@ -48,9 +49,6 @@ hourOf m es ks =
       layers = m .e ∷ m .f1 ∷ m .f2 ∷ es ∷ [];
       ks = ks;
     }
-
-unfoldable pub zeroLine : LayerMuf
-zeroLine = record { sigl = f0; sigu = f0; delmuf = f0; hpmuf = f0; htmuf = f0; fvmuf = f0; afmuf = f0; nhopmf = pos 0; yfot = f0; ymuf = f0; yhpf = f0 }
 
 unfoldable pub zeroHour : MufHour
 zeroHour =

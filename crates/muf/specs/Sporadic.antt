@@ -9,12 +9,12 @@ use Rattle.scalar.specs.Scalar.{minOf}
 use Rattle.scalar.specs.Root.{sqrtOf}
 use Rattle.circular.specs.SinCos.{sinOf, cosOf}
 use Rattle.circular.specs.Atan.{atanOf}
+use Rattle.refusal.specs.Number.{numberOf}
 use Rattle.hops.specs.Geometry.{RZ, hopsOf}
 use Rattle.hops.specs.declared.Hops.{Hops}
 use Rattle.layers.specs.State.{at}
-use Rattle.layer_mufs.specs.Lines.{lineOf}
+use Rattle.layer_mufs.specs.Lines.{lineOf, zeroLine}
 use Rattle.layer_mufs.specs.declared.Circuit.{Circuit}
-use Rattle.muf.specs.Hour.{zeroLine}
 use Rattle.muf.specs.declared.EsRow.{EsRow}
 use Rattle.muf.specs.declared.EsRay.{EsRay}
 use Rattle.muf.specs.declared.EsSearch.{EsSearch}
@@ -54,6 +54,18 @@ esRowOf a k row c = rowBy (row .fs1 ≤f f0) a k row c
 
 unfoldable pub startOf : EsSearch
 startOf = record { esmuf = f1000; ksx = 0; tdelx = f0; secpx = f0; hop = f0; fs0 = f0; fs1 = f0; fs2 = f0; hs = f0 }
+
+-- the paper's number of each case, 0 for a search, and the search, of +0 beside a refusal
+abbrev pub stepNumber : EsStep → ℕ
+stepNumber (EsStep.Next a) = 0
+stepNumber (EsStep.Refused r) = numberOf r
+
+abbrev pub noSearch : EsSearch
+noSearch = record { esmuf = f0; ksx = 0; tdelx = f0; secpx = f0; hop = f0; fs0 = f0; fs1 = f0; fs2 = f0; hs = f0 }
+
+abbrev pub stepValue : EsStep → EsSearch
+stepValue (EsStep.Next a) = a
+stepValue (EsStep.Refused r) = noSearch
 
 -- row k of a flat list
 abbrev pub rowAt : List Float → ℕ → EsRow

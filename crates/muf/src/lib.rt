@@ -1,12 +1,11 @@
 // The circuit MUF of an hour: what is refused, the three regular layers, sporadic E over flat rows
 // of four numbers, and the hour put together.
 ghost use mathlib.Core.Path.{_≡_};
-ghost use Prim.Native.Nat.{ℕ, _+_, _*_, _<_, _≤_};
+ghost use Prim.Native.Nat.{_+_, _*_, _<_, _≤_};
 ghost use lib.ListN.{length};
-ghost use Rattle.muf.specs.Sporadic.{rayOf, takenOf, esRowOf, startOf, rowAt, esFrom, sigl4Of, esFoundOf, esLineOf};
-ghost use Rattle.muf.specs.declared.EsRow.{EsRow};
-ghost use Rattle.muf.specs.Hour.{modeOf, hourOf, zeroLine, zeroHour, refusedOf};
-ghost use Rattle.muf.specs.Curmuf.{withinOf, inDomain, listsReach, threeOf, takenRows, rowsOf, refusedDone, esBy, workedOf, doneOf, flatOf, esAfterOf, curmufOf};
+ghost use Rattle.muf.specs.Sporadic.{rayOf, takenOf, esRowOf, startOf, stepNumber, stepValue, rowAt, esFrom, sigl4Of, esFoundOf, esLineOf};
+ghost use Rattle.muf.specs.Hour.{modeOf, hourOf, zeroHour, refusedOf};
+ghost use Rattle.muf.specs.Curmuf.{withinOf, inDomain, listsReach, threeOf, threeNumber, threeValue, takenRows, rowsOf, refusedDone, esBy, stepWorkedOf, stepDoneOf, flatOf, esAfterOf, curmufOf};
 use hops::Hops;
 use layer_mufs::Circuit;
 use layer_mufs::LineAnswer;
@@ -180,6 +179,36 @@ pub fn es_start() -> EsSearch
     }
 }
 
+// 0 for a search, else the refusal's number.
+pub fn step_number(a: EsStep) -> u32
+    ensures { λ n. ⌜ n ≡ stepNumber a ⌝ }
+{
+    match a {
+        EsStep::Next(_) => 0,
+        EsStep::Refused(r) => refusal::number(r),
+    }
+}
+
+// The search, of +0 beside a refusal.
+pub fn step_value(a: EsStep) -> EsSearch
+    ensures { λ r. ⌜ r ≡ stepValue a ⌝ }
+{
+    match a {
+        EsStep::Next(b) => b,
+        EsStep::Refused(_) => EsSearch {
+            esmuf: 0.0,
+            ksx: 0,
+            tdelx: 0.0,
+            secpx: 0.0,
+            hop: 0.0,
+            fs0: 0.0,
+            fs1: 0.0,
+            fs2: 0.0,
+            hs: 0.0,
+        },
+    }
+}
+
 fn flat_row(es: &[f32], k: usize) -> EsRow
     requires { ⌜ 4 * k + 3 < length (now es) ⌝ }
     ensures { λ r. ⌜ r ≡ rowAt (now (es .entry)) k ⌝ }
@@ -233,24 +262,6 @@ fn lower_spread(xes: f32, sigb: f32, sigu4: f32) -> f32
     sigu4
 }
 
-fn zero_line() -> LayerMuf
-    ensures { λ r. ⌜ r ≡ zeroLine ⌝ }
-{
-    LayerMuf {
-        sigl: 0.0,
-        sigu: 0.0,
-        delmuf: 0.0,
-        hpmuf: 0.0,
-        htmuf: 0.0,
-        fvmuf: 0.0,
-        afmuf: 0.0,
-        nhopmf: 0,
-        yfot: 0.0,
-        ymuf: 0.0,
-        yhpf: 0.0,
-    }
-}
-
 // The line of the controlling row; `fe` is the regular E critical frequency.
 fn es_found(a: EsSearch, fe: f32) -> EsLine
     ensures { λ r. ⌜ r ≡ esFoundOf a fe ⌝ }
@@ -283,7 +294,7 @@ fn es_line(a: EsSearch, fe: f32) -> EsLine
     ensures { λ r. ⌜ r ≡ esLineOf a fe ⌝ }
 {
     if a.esmuf - 1000.0 >= 0.0 {
-        let line = zero_line();
+        let line = layer_mufs::zero_line();
         return EsLine {
             line,
             rewrites: false,
@@ -346,7 +357,7 @@ fn hour(m: Three, es: LayerMuf, ks: usize) -> MufHour
 fn zero_hour() -> MufHour
     ensures { λ r. ⌜ r ≡ zeroHour ⌝ }
 {
-    let z = zero_line();
+    let z = layer_mufs::zero_line();
     let layers = [z, z, z, z];
     MufHour {
         emuf: 0.0,
@@ -409,6 +420,29 @@ pub fn lists_reach(ks: usize, deciles: usize, lats: usize, clocks: usize) -> boo
         return false;
     }
     ks < clocks
+}
+
+// 0 for the three lines, else the refusal's number.
+pub fn three_number(a: ThreeAnswer) -> u32
+    ensures { λ n. ⌜ n ≡ threeNumber a ⌝ }
+{
+    match a {
+        ThreeAnswer::Found(_) => 0,
+        ThreeAnswer::Refused(r) => refusal::number(r),
+    }
+}
+
+// The lines, of +0 beside a refusal.
+pub fn three_value(a: ThreeAnswer) -> Three
+    ensures { λ m. ⌜ m ≡ threeValue a ⌝ }
+{
+    match a {
+        ThreeAnswer::Found(m) => m,
+        ThreeAnswer::Refused(_) => {
+            let z = layer_mufs::zero_line();
+            Three { e: z, f1: z, f2: z }
+        }
+    }
 }
 
 // E, then F2, then F1.
@@ -520,7 +554,7 @@ pub fn worked(
     c: Circuit,
 ) -> Done
     requires { ⌜ ks < 3 ⌝ }
-    ensures { λ r. ⌜ ((n : ℕ) (row : ℕ → EsRow) → step ≡ esFrom row c n 0 startOf → r ≡ workedOf s ks n row (now (f2d .entry)) clat clck c) ⌝ }
+    ensures { λ r. ⌜ r ≡ stepWorkedOf s ks step (now (f2d .entry)) clat clck c ⌝ }
 {
     let t = profile::lecden_slot(s, ks);
     let l = profile::slot_at(t, ks);
@@ -541,7 +575,7 @@ pub fn searched(
     clck: &[f32],
     c: Circuit,
 ) -> Done
-    ensures { λ r. ⌜ ((n : ℕ) (row : ℕ → EsRow) → step ≡ esFrom row c n 0 startOf → r ≡ doneOf s n row (now (f2d .entry)) (now (clat .entry)) (now (clck .entry)) c) ⌝ }
+    ensures { λ r. ⌜ r ≡ stepDoneOf s step (now (f2d .entry)) (now (clat .entry)) (now (clck .entry)) c ⌝ }
 {
     if in_domain(c) {
         let ks = layer_mufs::controlling(s);

@@ -3,27 +3,12 @@ ghost use mathlib.Core.Path.{_≡_};
 ghost use Prim.Native.Nat.{_≤_};
 ghost use lib.ListN.{length};
 ghost use denote.Ref.{now};
-ghost use Rattle.port_state.specs.Words.{floatsOf, floatsInto};
+ghost use Rattle.port_state.specs.Words.{floatsInto};
 ghost use Rattle.heights.specs.Bendy.{layerNumberOf, layerValuesOf};
 ghost use Rattle.port_heights.specs.Exports.{heightsInto, readingInto, gethpLeft, gethpScanLeft, readingLeft, bendyLeft, penLeft, xlinLeft};
 use heights::Heights;
 use heights::LayerNumber;
 use readings::Reading;
-
-fn wide(w: u32) -> usize
-    ensures { λ r. ⌜ r ≡ w ⌝ }
-{
-    w as usize
-}
-
-fn floats_50(w: &[u32]) -> [f32; 50]
-    requires { ⌜ 50 ≤ length (now w) ⌝ }
-    ensures { λ r. ⌜ r ≡ floatsOf (now (w .entry)) 0 50 ⌝ }
-{
-    let mut x = [0.0; 50];
-    port_state::floats_of(w, 0, &mut x);
-    x
-}
 
 fn heights_into(h: Heights, out: &mut [u32])
     requires { ⌜ (3 ≤ length (now out)) × (h .cursor ≤ 49) ⌝ }
@@ -127,7 +112,7 @@ pub extern "C" fn port_bendy(state: &[u32], i: u32, k: u32, f: u32, out: &mut [u
     }
     let s = port_state::state_of(state);
     let x = scalar::number(f);
-    let a = heights::bendy(s, wide(i), wide(k), x);
+    let a = heights::bendy(s, port_state::wide(i), port_state::wide(k), x);
     layer_into(a, out)
 }
 
@@ -143,7 +128,7 @@ pub extern "C" fn port_pen(state: &[u32], i: u32, k: u32, f: u32, out: &mut [u32
     }
     let s = port_state::state_of(state);
     let x = scalar::number(f);
-    let a = heights::pen(s, wide(i), wide(k), x);
+    let a = heights::pen(s, port_state::wide(i), port_state::wide(k), x);
     layer_into(a, out)
 }
 
@@ -162,8 +147,8 @@ pub extern "C" fn port_xlin(x: u32, xn: &[u32], yn: &[u32], out: &mut [u32]) -> 
         return 1;
     }
     let at = scalar::number(x);
-    let xs = floats_50(xn);
-    let ys = floats_50(yn);
+    let xs = port_state::floats_50(xn, 0);
+    let ys = port_state::floats_50(yn, 0);
     let v = [heights::xlin(at, &xs, &ys)];
     port_state::floats_into(&v, out, 0);
     0

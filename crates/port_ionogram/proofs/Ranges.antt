@@ -10,10 +10,9 @@ use Rattle.scalar.specs.Literals.{f0, f0·01, f8·5, f10}
 use Rattle.scalar.specs.Scalar.{absOf}
 use Rattle.layers.specs.State.{at}
 use Rattle.layers.specs.declared.IonoState.{IonoState}
-use Rattle.ionogram.specs.Angles.{ANG, NANGX, stepOf, raisedBy, raisedFrom, countBy, countOf, scanBy, sangOf}
+use Rattle.ionogram.specs.Angles.{ANG, NANGX, stepOf, raisedBy, raisedFrom, countBy, countOf, scanBy, sangOf, scanValue}
 use Rattle.ionogram.specs.Selmod.{slotIf, threeBy, selmodBy, selmodOf}
 use Rattle.ionogram.proofs.Counts.{step-range, nangx-range}
-use Rattle.port_ionogram.specs.Exports.{anglesOf}
 
 raised-by : (b : Bool) (n m : ℕ) → n ≤ 40 → m ≤ 40 → raisedBy b n m ≤ 40
 raised-by true n m p q = p
@@ -33,11 +32,11 @@ count-range : (amind : Float) (iang : ℕ) → iang ≤ 40 → countOf amind ian
 unfolding countOf
 count-range amind iang h = count-by (amind >f f0) (at ANG (iang - 1) -f f10 -f amind <f f0) amind iang h
 
-scan-by : (b : Bool) (amind : Float) (id : ℕ) → id ≤ 8 → anglesOf (scanBy b amind id) ≤ 40
+scan-by : (b : Bool) (amind : Float) (id : ℕ) → id ≤ 8 → scanValue (scanBy b amind id) ≤ 40
 scan-by true amind id h = omega arith
 scan-by false amind id h = count-range amind (getD NANGX (id - 1) 0) (nangx-range (id - 1) (omega arith) .1)
 
-pub angles-range : (gcdkm amind : Float) → anglesOf (sangOf gcdkm amind) ≤ 40
+pub angles-range : (gcdkm amind : Float) → scanValue (sangOf gcdkm amind) ≤ 40
 unfolding sangOf
 angles-range gcdkm amind = scan-by (eqb (stepOf gcdkm) 0) amind (stepOf gcdkm) (step-range gcdkm)
 

@@ -2,7 +2,7 @@
 use mathlib.Core.Bool.{Bool, true, false, _||_}
 use mathlib.Core.List.{List}
 use Prim.Native.Nat.{ℕ, _*_}
-use lib.Dec.{ltb}
+use lib.Dec.{ltb, eqb}
 use lib.IntN.{ℤ}
 use lib.ListN.{length, set}
 use lib.Ieee.{binary32, ofBits}
@@ -11,7 +11,7 @@ use Rattle.refusal.specs.declared.Refusal.{Refusal}
 use Rattle.refusal.specs.declared.Outcome.{Outcome}
 use Rattle.port_state.specs.Ports.{Ported, refusedWith}
 use Rattle.port_state.specs.State.{stateOf, stateInto}
-use Rattle.ionogram.specs.Angles.{sangOf}
+use Rattle.ionogram.specs.Angles.{sangOf, scanNumber, scanValue}
 use Rattle.ionogram.specs.Selmod.{selmodOf}
 use Rattle.ionogram.specs.Fobby.{fobbyOutcome, cellsAfter}
 use Rattle.ionogram.specs.declared.Scan.{Scan}
@@ -33,14 +33,13 @@ unlessShort false w a = a
 
 -- ---- the angle count, the controlling slot
 
--- the angle count; none beside a refusal
-abbrev pub anglesOf : Scan → ℕ
-anglesOf (Scan.Angles n) = n
-anglesOf (Scan.Refused r) = 0
+-- answered: the count is written
+abbrev pub countBy : Bool → ℕ → List ℕ → List ℕ
+countBy true n out = set out 0 n
+countBy false n out = out
 
 abbrev pub scanInto : Scan → List ℕ → Ported
-scanInto (Scan.Angles n) out = record { number = 0; words = set out 0 n }
-scanInto (Scan.Refused r) out = refusedWith r out
+scanInto a out = record { number = scanNumber a; words = countBy (eqb (scanNumber a) 0) (scanValue a) out }
 
 unfoldable pub portSang : ℕ → ℕ → List ℕ → Ported
 portSang gcdkm amind out = unlessShort (short out 1) out (scanInto (sangOf (ofBits binary32 gcdkm) (ofBits binary32 amind)) out)

@@ -3,11 +3,12 @@ ghost use mathlib.Core.Path.{_≡_};
 ghost use Prim.Native.Nat.{_*_, _≤_};
 ghost use lib.ListN.{length};
 ghost use denote.Ref.{now};
+ghost use Rattle.ionogram.specs.Angles.{scanValue};
 ghost use Rattle.ionogram.specs.Fobby.{cellsAfter};
 ghost use Rattle.hour.specs.Sheet.{slotSheetOf, sheetCellsOf};
 ghost use Rattle.port_state.specs.State.{stateInto};
 ghost use Rattle.port_ionogram.specs.Layouts.{cellsOf, cellsInto, ionogramInto};
-ghost use Rattle.port_ionogram.specs.Exports.{anglesOf, scanInto, rowsInto, portSang, portSelmod, portGenion, portFobby, portAlosfv, sheetOn, sheetCellsOn, portSheet};
+ghost use Rattle.port_ionogram.specs.Exports.{scanInto, rowsInto, portSang, portSelmod, portGenion, portFobby, portAlosfv, sheetOn, sheetCellsOn, portSheet};
 use super::layouts;
 use hour::SlotSheet;
 use ionogram::Ionogram;
@@ -18,16 +19,16 @@ use layers::LayerMuf;
 use refusal::Outcome;
 
 fn scan_into(a: Scan, out: &mut [u32]) -> u32
-    requires { ⌜ (1 ≤ length (now out)) × (anglesOf a ≤ 40) ⌝ }
+    requires { ⌜ (1 ≤ length (now out)) × (scanValue a ≤ 40) ⌝ }
     ensures { λ r. ⌜ (r ≡ scanInto a (now (out .entry)) .number) × (now (out .exit) ≡ scanInto a (now (out .entry)) .words) ⌝ }
 {
-    match a {
-        Scan::Angles(n) => {
-            out[0] = n as u32;
-            0
-        }
-        Scan::Refused(r) => refusal::number(r),
+    let number = ionogram::scan_number(a);
+    if number == 0 {
+        let n = ionogram::scan_value(a);
+        out[0] = n as u32;
+        return number;
     }
+    number
 }
 
 // out: the angle count
@@ -88,7 +89,7 @@ pub extern "C" fn port_genion(state: &[u32], k: u32, out: &mut [u32]) -> u32
         return 1;
     }
     let s = port_state::state_of(state);
-    let a = sounding::genion(s, layouts::wide(k));
+    let a = sounding::genion(s, port_state::wide(k));
     rows_into(a, out)
 }
 
@@ -109,7 +110,7 @@ pub extern "C" fn port_alosfv(state: &[u32], k: u32, ion: &mut [u32], layers: &[
     let s = port_state::state_of(state);
     let rows = layouts::ionogram_of(ion);
     let lines = layouts::lines_of(layers);
-    let a = losses::alosfv(s, layouts::wide(k), rows, lines);
+    let a = losses::alosfv(s, port_state::wide(k), rows, lines);
     rows_into(a, ion)
 }
 
@@ -134,7 +135,7 @@ pub extern "C" fn port_fobby(ion: &[u32], nang: u32, cells: &mut [u32]) -> u32
     if nang > 40 {
         return 8;
     }
-    let n = layouts::wide(nang);
+    let n = port_state::wide(nang);
     let count = 30 * n;
     if cells.len() < count {
         return 8;
@@ -217,11 +218,11 @@ pub extern "C" fn port_sheet(
     if nang > 40 {
         return 8;
     }
-    let n = layouts::wide(nang);
+    let n = port_state::wide(nang);
     if cells.len() < 30 * n {
         return 8;
     }
-    let slot = layouts::wide(k);
+    let slot = port_state::wide(k);
     sheet_into(state, slot, n, layers, cells, out);
     0
 }

@@ -8,12 +8,6 @@ ghost use Rattle.port_ionogram.specs.Layouts.{cellsOf, cellsInto, ionogr
 use ionogram::Ionogram;
 use layers::LayerMuf;
 
-pub fn wide(w: u32) -> usize
-    ensures { λ r. ⌜ r ≡ w ⌝ }
-{
-    w as usize
-}
-
 // As many cells as are lent.
 pub fn cells_of(w: &[u32], c: &mut [i32])
     requires { ⌜ length (now c) ≤ length (now w) ⌝ }

@@ -17,22 +17,26 @@ use Rattle.muf.specs.declared.Done.{Done}
 use Rattle.port_state.specs.Words.{floatsOf, floatsInto, word, wordOf, countOf}
 use Rattle.port_state.specs.Ports.{Ported}
 use Rattle.port_state.specs.State.{stateOf, stateInto}
-use Rattle.deciles.specs.F2dis.{f2disOf, deviationNumber}
+use Rattle.deciles.specs.F2dis.{f2disOf, deviationNumber, deviationValue}
 use Rattle.deciles.specs.declared.Deviation.{Deviation}
 
 abbrev pub number : List ℕ → ℕ → Float
 number w i = ofBits binary32 (word w i)
 
-abbrev pub deviationValues : Deviation → List Float
-deviationValues (Deviation.Value x) = x ∷ []
-deviationValues (Deviation.Refused r) = []
+-- answered: the deviation is written
+abbrev pub deviationBy : Bool → Float → List ℕ → List ℕ
+deviationBy true x out = floatsInto out 0 (x ∷ [])
+deviationBy false x out = out
+
+abbrev pub deviationInto : Deviation → List ℕ → Ported
+deviationInto d out = record { number = deviationNumber d; words = deviationBy (eqb (deviationNumber d) 0) (deviationValue d) out }
 
 -- too few numbers, no room for the answer, 576 deciles
 abbrev pub f2disBy : Bool → Bool → Bool → List ℕ → Deviation → Ported
 f2disBy true b c out d = record { number = 1; words = out }
 f2disBy false true c out d = record { number = 1; words = out }
 f2disBy false false false out d = record { number = numberOf Refusal.MufLists; words = out }
-f2disBy false false true out d = record { number = deviationNumber d; words = floatsInto out 0 (deviationValues d) }
+f2disBy false false true out d = deviationInto d out
 
 unfoldable pub f2disLeft : List ℕ → List ℕ → List ℕ → Ported
 f2disLeft deciles numbers out =

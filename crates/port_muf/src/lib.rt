@@ -4,9 +4,8 @@ ghost use mathlib.Core.Path.{_≡_};
 ghost use Prim.Native.Nat.{_≤_};
 ghost use lib.ListN.{length};
 ghost use denote.Ref.{now};
-ghost use Rattle.port_state.specs.Words.{floatsOf, floatsInto};
-ghost use Rattle.deciles.specs.F2dis.{deviationNumber};
-ghost use Rattle.port_muf.specs.Exports.{deviationValues, f2disLeft};
+ghost use Rattle.port_state.specs.Words.{floatsOf};
+ghost use Rattle.port_muf.specs.Exports.{deviationInto, f2disLeft};
 use deciles::Deviation;
 
 pub mod hour;
@@ -22,7 +21,7 @@ fn floats_576(w: &[u32]) -> [f32; 576]
 
 fn deviation_into(d: Deviation, out: &mut [u32]) -> u32
     requires { ⌜ 1 ≤ length (now out) ⌝ }
-    ensures { λ r. ⌜ (r ≡ deviationNumber d) × (now (out .exit) ≡ floatsInto (now (out .entry)) 0 (deviationValues d)) ⌝ }
+    ensures { λ r. ⌜ (r ≡ deviationInto d (now (out .entry)) .number) × (now (out .exit) ≡ deviationInto d (now (out .entry)) .words) ⌝ }
 {
     match d {
         Deviation::Value(v) => {

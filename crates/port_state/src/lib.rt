@@ -38,7 +38,7 @@ fn floats_15(w: &[u32], from: usize) -> [f32; 15]
     x
 }
 
-fn floats_50(w: &[u32], from: usize) -> [f32; 50]
+pub fn floats_50(w: &[u32], from: usize) -> [f32; 50]
     requires { ⌜ from + 50 ≤ length (now w) ⌝ }
     ensures { λ r. ⌜ r ≡ floatsOf (now (w .entry)) from 50 ⌝ }
 {
@@ -114,7 +114,7 @@ pub fn flag(b: bool) -> u32
 }
 
 // A word fits a usize.
-fn wide(w: u32) -> usize
+pub fn wide(w: u32) -> usize
     ensures { λ r. ⌜ r ≡ w ⌝ }
 {
     w as usize

@@ -60,10 +60,22 @@ segmentBy false from0 from1 to0 to1 probe = levelBy (from0 -f from1 ==f f0) from
 unfoldable pub segmentOf : Float → Float → Float → Float → Float → Hit
 segmentOf from0 from1 to0 to1 probe = let d = from0 -f from1 in segmentBy (d <f f0) from0 from1 to0 to1 probe
 
+-- does the segment hold the probe, and with which number, +0 where it does not
+abbrev pub heldOf : Hit → Bool
+heldOf (At v) = true
+heldOf Miss = false
+
+abbrev pub hitValue : Hit → Float
+hitValue (At v) = v
+hitValue Miss = f0
+
 -- ---- the scan
+abbrev pub orOnBy : Bool → Float → Reading → Reading
+orOnBy true v r = Segment v
+orOnBy false v r = r
+
 abbrev pub orOn : Hit → Reading → Reading
-orOn (At v) r = Segment v
-orOn Miss r = r
+orOn h r = orOnBy (heldOf h) (hitValue h) r
 
 -- the n segments from ih on: the first that holds the probe, or the last number
 unfoldable pub scanFrom : List Float → List Float → Float → ℕ → ℕ → Reading

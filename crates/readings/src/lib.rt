@@ -2,7 +2,7 @@
 // heights rise, on from the segment at which the last read stopped.
 ghost use mathlib.Core.Path.{_≡_};
 ghost use denote.Ref.{now};
-ghost use Rattle.readings.specs.Scan.{segmentOf, scanOf, valueOf, kindOf, profileInterpolateOf, readingOf};
+ghost use Rattle.readings.specs.Scan.{segmentOf, heldOf, hitValue, scanOf, valueOf, kindOf, profileInterpolateOf, readingOf};
 ghost use Rattle.readings.specs.Cursor.{climbOf, readOnOf};
 
 // What one segment has for a probe.
@@ -37,6 +37,26 @@ pub fn segment(from0: f32, from1: f32, to0: f32, to1: f32, probe: f32) -> Hit
         }
     }
     Hit::Miss
+}
+
+// Whether the segment holds the probe.
+pub fn held(h: Hit) -> bool
+    ensures { λ b. ⌜ b ≡ heldOf h ⌝ }
+{
+    match h {
+        Hit::At(_) => true,
+        Hit::Miss => false,
+    }
+}
+
+// +0 where it does not.
+pub fn hit_value(h: Hit) -> f32
+    ensures { λ v. ⌜ v ≡ hitValue h ⌝ }
+{
+    match h {
+        Hit::At(v) => v,
+        Hit::Miss => 0.0,
+    }
 }
 
 // A density read, with its number: at or below the floor, on a segment, or above all of them.

@@ -1,7 +1,7 @@
 -- The paper's marked trials as one table: what is tried, and the answer. Numbers stand as the paper writes them: `decimal 3125 3` is the f32 nearest to 3.125.
 use mathlib.Core.List.{List, [], _∷_}
 use mathlib.Core.Path.{_≡_}
-use Prim.Native.Nat.{ℕ}
+use Prim.Native.Nat.{ℕ, zero, suc}
 use lib.IntN.{ℤ, pos}
 use lib.ListN.{replicate}
 use lib.Ieee.{Float, nan}
@@ -9,15 +9,12 @@ use Rattle.scalar.specs.F32.{negf}
 use Rattle.scalar.specs.Literals.{f0, f1, f10, f50, decimal}
 use Rattle.scalar.specs.Scalar.{truncOf}
 use Rattle.scalar.specs.Root.{sqrtOf}
-use Rattle.refusal.specs.Number.{numberOf}
 use Rattle.layers.specs.State.{at}
 use Rattle.layers.specs.declared.LayerParams.{LayerParams}
 use Rattle.layers.specs.FromLayers.{fromLayersOf}
 use Rattle.layers.specs.Ionset.{ionsetOf}
-use Rattle.deciles.specs.F2dis.{iccOf, f2disOf}
-use Rattle.deciles.specs.declared.Deviation.{Deviation}
-use Rattle.ionogram.specs.Angles.{sangOf}
-use Rattle.ionogram.specs.declared.Scan.{Scan}
+use Rattle.deciles.specs.F2dis.{iccOf, f2disOf, deviationNumber}
+use Rattle.ionogram.specs.Angles.{sangOf, scanNumber, scanValue}
 
 pub data Trial : Type 0 where
   -- `sang` at gcdkm and amind
@@ -35,22 +32,19 @@ pub data Result : Type 0 where
   whole : ℤ → Result
   number : Float → Result
 
-abbrev pub scanned : Scan → Result
-scanned (Scan.Angles n) = count n
-scanned (Scan.Refused r) = refused (numberOf r)
-
-abbrev pub blockOr : Deviation → ℕ → Result
-blockOr (Deviation.Value x) icc = count icc
-blockOr (Deviation.Refused r) icc = refused (numberOf r)
+-- the paper's number, 0 for an answer, and the count
+abbrev pub answerBy : ℕ → ℕ → Result
+answerBy zero n = count n
+answerBy (suc r) n = refused (suc r)
 
 abbrev pub pointOf : Float → Float → Float → LayerParams
 pointOf e one two = record { fi = e ∷ one ∷ two ∷ []; yi = replicate 3 f0; hi = replicate 3 f0 }
 
 unfoldable pub resultOf : Trial → Result
-resultOf (sang gcdkm amind) = scanned (sangOf gcdkm amind)
+resultOf (sang gcdkm amind) = let a = sangOf gcdkm amind in answerBy (scanNumber a) (scanValue a)
 resultOf (truncation x) = whole (truncOf x)
 resultOf (root x) = number (sqrtOf x)
-resultOf (block clck) = blockOr (f2disOf (replicate 576 f1) f10 f50 f0 f10 clck) (iccOf clck)
+resultOf (block clck) = answerBy (deviationNumber (f2disOf (replicate 576 f1) f10 f50 f0 f10 clck)) (iccOf clck)
 resultOf (keptF1 e one two) =
     let slots = ionsetOf (fromLayersOf (pointOf e one two ∷ []) 1 .state) .state in
     number (at (slots .fi) 1)

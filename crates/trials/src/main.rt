@@ -46,19 +46,7 @@ fn slots() -> IonoState {
 }
 
 fn no_layers() -> [LayerMuf; 4] {
-    let line = LayerMuf {
-        sigl: 0.0,
-        sigu: 0.0,
-        delmuf: 0.0,
-        hpmuf: 0.0,
-        htmuf: 0.0,
-        fvmuf: 0.0,
-        afmuf: 0.0,
-        nhopmf: 0,
-        yfot: 0.0,
-        ymuf: 0.0,
-        yhpf: 0.0,
-    };
+    let line = layer_mufs::zero_line();
     [line, line, line, line]
 }
 
@@ -100,6 +88,23 @@ fn angles() {
     say(b"sin NaN: ", number_of(circular::sin_or_refuse(nan)));
     say(b"cos 4: ", number_of(circular::cos_or_refuse(four)));
     say(b"cos above 4: ", number_of(circular::cos_or_refuse(next)));
+    say_bits(
+        b"sine of 4: ",
+        circular::answer_value(circular::sin_or_refuse(four)),
+    );
+    say_bits(
+        b"beside its refusal: ",
+        circular::answer_value(circular::sin_or_refuse(next)),
+    );
+}
+
+// A layer at 300 km reaches 1,500 km in one hop; no number of hops at the ground does.
+fn hop_counts() {
+    let one = hops::hop_count(1500.0, 3.0, 300.0);
+    say(b"hops at 300 km: ", hops::hops_number(one) as u64);
+    say_bits(b"their count: ", hops::hops_value(one));
+    let ground = hops::hop_count(1500.0, 0.0, 0.0);
+    say(b"hops at the ground: ", hops::hops_number(ground) as u64);
 }
 
 fn same(a: f32, b: f32) -> bool {
@@ -247,5 +252,6 @@ fn main() {
     slot_numbers();
     mufs();
     angles();
+    hop_counts();
     prepared_twice();
 }

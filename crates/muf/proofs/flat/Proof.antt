@@ -1,5 +1,5 @@
--- The rows searched are those of the list, so what `searched` says of any rows it says of these.
-use Rattle.muf.specs.Curmuf.{flatOf}
+-- The step is the search of the rows of the list.
+use Rattle.muf.specs.Curmuf.{doneOf, flatOf}
 use Rattle.muf.proofs.Rows.{rows-there}
 use borrow.Author.Needs.{needs}
 use Rattle.muf.proofs.flat.Statement.{statement}
@@ -15,8 +15,8 @@ searched-requires : tie.Need-searched-requires
 searched-requires c κs = search needs
 
 returns : tie.Need-returns
-unfolding flatOf
-returns c = rw (← c .before .before .row-count .ensures) (c .searched .ensures _ _ (c .before .es-rows .ensures))
+unfolding flatOf doneOf
+returns c = rw (← c .before .before .row-count .ensures, ← c .before .es-rows .ensures, ← c .searched .ensures)
 
 pub flat-spec : {M : Type 1} → statement M
 flat-spec = tie.close (tie.spec row-count-requires es-rows-requires searched-requires returns)

@@ -1,5 +1,3 @@
--- The step given is the search that the definition makes, of whatever rows.
-use Rattle.muf.specs.Curmuf.{workedOf}
 use borrow.Author.Needs.{needs}
 use Rattle.muf.proofs.worked.Statement.{statement}
 use Rattle.muf.proofs.worked.Tie as tie
@@ -26,12 +24,10 @@ finish-requires : tie.Need-finish-requires
 finish-requires c κs = search needs
 
 returns : tie.Need-returns
-unfolding workedOf
-returns c n row e = rw (← c .before .before .before .before .before .before .lecden-slot .ensures, ← c .before .before .before .before .before .slot-at .ensures, ← c .before .before .before .before .three-lines .ensures, c .before .before .found .given .1, ← c .refused-done .ensures)
+returns c = rw (← c .before .before .before .before .before .before .lecden-slot .ensures, ← c .before .before .before .before .before .slot-at .ensures, ← c .before .before .before .before .three-lines .ensures, c .before .before .found .given .1, ← c .refused-done .ensures)
 
 returns-2 : tie.Need-returns-2
-unfolding workedOf
-returns-2 c n row e = rw (← c .before .before .before .before .before .before .lecden-slot .ensures, ← c .before .before .before .before .before .slot-at .ensures, ← c .before .before .before .before .three-lines .ensures, c .before .before .found2 .given .1, ← e, ← c .finish .ensures)
+returns-2 c = rw (← c .before .before .before .before .before .before .lecden-slot .ensures, ← c .before .before .before .before .before .slot-at .ensures, ← c .before .before .before .before .three-lines .ensures, c .before .before .found2 .given .1, ← c .finish .ensures)
 
 pub worked-spec : {M : Type 1} → statement M
 worked-spec =

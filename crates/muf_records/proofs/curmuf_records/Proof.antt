@@ -1,7 +1,7 @@
 -- `curmuf_records` meets its contract: a walk of its MIR. The list of records is lent as `&` to `search`, for a lifetime that is made for the call, and comes back; `searched` has what was found; and `rewrite` is given the list for good.
 -- All that the proof knows of the three is that they meet their contracts.
 -- Assumes nothing.
-use mathlib.Core.Path.{_≡_, refl, sym, subst}
+use mathlib.Core.Path.{_≡_, refl, sym, subst, ap, _∙_}
 use mathlib.Core.Bool.{true}
 use Prim.Native.Nat.{ℕ, _<_}
 use mathlib.Core.List.{List, [], _∷_}
@@ -56,8 +56,7 @@ use Rattle.layer_mufs.specs.declared.Circuit.{Circuit}
 use Rattle.layer_mufs.proofs.Circuit as Ci
 use Rattle.layer_mufs.proofs.Circuit.Laws as Ci′
 use Rattle.muf.specs.Sporadic.{esFrom, startOf}
-use Rattle.muf.specs.Curmuf.{takenRows, doneOf}
-use Rattle.muf.specs.declared.EsRow.{EsRow}
+use Rattle.muf.specs.Curmuf.{takenRows, stepDoneOf, doneOf}
 use Rattle.muf.specs.declared.EsStep.{EsStep}
 use Rattle.muf.proofs.EsStep as St
 use Rattle.muf.proofs.EsStep.Laws as St′
@@ -114,9 +113,14 @@ function = record {
   body = body.t-1;
 }
 
--- what `searched` says of its result, for whatever rows the step given is the search of
+-- what `searched` says of its result
 abbrev Worked : IonoState → EsStep → List Float → List Float → List Float → Circuit → Done → Type 0
-Worked s step f2d clat clck c r = (n : ℕ) (row : ℕ → EsRow) → step ≡ esFrom row c n 0 startOf → r ≡ doneOf s n row f2d clat clck c
+Worked s step f2d clat clck c r = r ≡ stepDoneOf s step f2d clat clck c
+
+-- so where the step is the search of the records
+of-records : (s : IonoState) (ys : List EsParams) (step : EsStep) (f2d clat clck : List Float) (c : Circuit) (r : Done) → step ≡ esFrom (recordAt ys) c (takenRows (length ys) (s .km)) 0 startOf → Worked s step f2d clat clck c r → r ≡ recordsDoneOf s ys f2d clat clck c
+unfolding recordsDoneOf doneOf
+of-records s ys step f2d clat clck c r e w = w ∙ ap (λ (z : EsStep). stepDoneOf s z f2d clat clck c) e
 
 module _ {M : Type 1} (𝓤 : URA M) (H : Heap 𝓤) (A : Atoms 𝓤) (mem″ : Memory → SProp 𝓤) (run : Routine → Fun 𝓤) where
   -- the contracts that the proof cites
@@ -266,7 +270,6 @@ module _ {M : Type 1} (𝓤 : URA M) (H : Heap 𝓤) (A : Atoms 𝓤) (W : Given
 
       works : (step : EsStep) (w₁ : Val) → Is St.the-row step (w₁ ∷ []) → step ≡ esFrom (recordAt ys) c (takenRows (length ys) (s .km)) 0 startOf
           → Sq W (Locals shown shown-at (froom Do′.mir l₈ 0) (fat fullShare St′.mir l₇ 0 w₁)) (runs C Λ En body.t-4 (atRet En Post))
-      unfolding recordsDoneOf
       works step w₁ is₁ e₁ =
           -- the lists of numbers are Copy
           move ! (30 ∷ 31 ∷ 32 ∷ 29 ∷ []) $ use1 W (‵ F₁ ⊛ ‵ F₁) (shr-slice-copy 𝓤 H A W (named 1) κ₁ f32 .twice x₁ (fv x₁ ∷ [])) $ split ! $
@@ -282,7 +285,7 @@ module _ {M : Type 1} (𝓤 : URA M) (H : Heap 𝓤) (A : Atoms 𝓤) (W : Given
           split ! $ move ! (1 ∷ []) $ peeks ! Do.the-row (Is Do.the-row) (shows 𝓤 H A Do.the-row) d (w₂ ∷ []) (λ is₂. drop ! $
           land ! (from ! (stop !)) (init ! 12 refl (LL.lawful Do.the-type Do′.the-laws 𝓤 H A W .typed d _ is₂ .0)) $
           move ! (4 ∷ 5 ∷ 6 ∷ 7 ∷ 8 ∷ 9 ∷ 10 ∷ 11 ∷ 12 ∷ 13 ∷ 14 ∷ 15 ∷ 16 ∷ 17 ∷ 18 ∷ 19 ∷ 20 ∷ 21 ∷ 22 ∷ 23 ∷ 24 ∷ 25 ∷ 26 ∷ 27 ∷ 28 ∷ 29 ∷ 30 ∷ 31 ∷ 32 ∷ 0 ∷ 3 ∷ 2 ∷ 1 ∷ []) $
-          rewrites step w₁ d w₂ is₂ (e₂ (takenRows (length ys) (s .km)) (recordAt ys) e₁)))))
+          rewrites step w₁ d w₂ is₂ (of-records s ys step (x₁ .now) (x₂ .now) (x₃ .now) c d e₁ e₂)))))
 
       searches : Sq W (Locals (froom (sliceTy seen) l₁₀ 0) (froom seen l₉ 0) (froom Do′.mir l₈ 0) (froom St′.mir l₇ 0)) (runs C Λ En body.t-1 (atRet En Post))
       searches =

@@ -1,6 +1,6 @@
 -- A value takes one word; beside a refusal nothing is written.
 use mathlib.Core.Path.{refl}
-use Rattle.port_state.specs.Words.{floatsInto}
+use Rattle.port_muf.proofs.Refused.{no-answer}
 use borrow.Author.Needs.{needs}
 use Rattle.port_muf.proofs.deviation_into.Statement.{statement}
 use Rattle.port_muf.proofs.deviation_into.Tie as tie
@@ -27,8 +27,7 @@ returns : tie.Need-returns
 returns c = rw (c .before .before .before .before .before .before .d .given .1) (refl, c .before .before .floats-into .ensures)
 
 returns-2 : tie.Need-returns-2
-unfolding floatsInto
-returns-2 c = rw (c .before .before .d2 .given .1) (c .number .ensures, refl)
+returns-2 c = rw (c .before .before .d2 .given .1, no-answer _) (c .number .ensures, refl)
 
 pub deviation-into-spec : {M : Type 1} → statement M
 deviation-into-spec =

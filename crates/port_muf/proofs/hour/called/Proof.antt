@@ -3,15 +3,11 @@ use mathlib.Core.Path.{sym, _∙_}
 use Prim.Native.Nat.{_<_}
 use native.Mathlib.Nat.{le-of-eq}
 use native.Mathlib.Omega.{arith}
-use lib.ListN.{length}
 use mir.Facts.{fits-le, fits-lit}
 use Rattle.layer_mufs.proofs.Small.{controlling-small}
-use Rattle.muf.specs.Sporadic.{rowAt}
-use Rattle.muf.specs.Curmuf.{rowsOf}
 use Rattle.muf.proofs.Rows.{rows-there}
 use Rattle.muf.proofs.Lists.{deciles-whole, lists-reach}
 use borrow.Author.Needs.{needs}
-use Rattle.port_muf.specs.Exports.{floats}
 use Rattle.port_muf.proofs.Floats.{not-in-domain, lists-short, taken-up}
 use Rattle.port_muf.proofs.hour.called.Statement.{statement}
 use Rattle.port_muf.proofs.hour.called.Tie as tie
@@ -71,10 +67,11 @@ returns c =
     let f = c .before .before .before .before .before .before .before .before in
     let q = f .before .before .before .before .before in
     let a = q .before .before .before .before .before .args in
-    c .worked .ensures (rowsOf (length (a .es .now)) (a .s .km)) (rowAt (floats (a .es .now))) (rw (← c .before .before .before .row-count .ensures) (c .before .before .word-rows .ensures))
-    ∙ taken-up (a .s) (a .es .now) (a .deciles .now) (a .clat .now) (a .clck .now) (a .c) _ _ _ _ (f .before .before .before .controlling .ensures)
+    c .worked .ensures
+    ∙ taken-up (a .s) (a .es .now) (a .deciles .now) (a .clat .now) (a .clck .now) (a .c) _ _ _ _ _ (f .before .before .before .controlling .ensures)
     (sym (q .in-domain .ensures) ∙ f .before .before .before .before .if1 .taken)
     (sym (f .before .before .lists-reach .ensures) ∙ f .before .if2 .taken)
+    (rw (← c .before .before .before .row-count .ensures) (c .before .before .word-rows .ensures))
     (f .floats-576 .ensures)
     (c .before .before .before .before .before .before .number .ensures)
     (c .before .before .before .before .number2 .ensures)

@@ -1,7 +1,7 @@
-use Rattle.muf.specs.Hour.{zeroLine}
+use Rattle.layer_mufs.specs.Lines.{zeroLine}
 use mathlib.Core.Path.{refl}
-use Rattle.muf.proofs.zero_line.Statement.{statement}
-use Rattle.muf.proofs.zero_line.Tie as tie
+use Rattle.layer_mufs.proofs.zero_line.Statement.{statement}
+use Rattle.layer_mufs.proofs.zero_line.Tie as tie
 
 returns : tie.Need-returns
 unfolding zeroLine

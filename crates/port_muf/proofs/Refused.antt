@@ -1,0 +1,21 @@
+-- No refusal has the number of an answer: case by case.
+use mathlib.Core.Bool.{false}
+use mathlib.Core.Path.{_≡_, refl}
+use lib.Dec.{eqb}
+use Rattle.refusal.specs.Number.{numberOf}
+use Rattle.refusal.specs.declared.Refusal.{Refusal}
+
+pub no-answer : (r : Refusal) → eqb (numberOf r) 0 ≡ false
+no-answer Refusal.Length = refl
+no-answer Refusal.RecordZero = refl
+no-answer Refusal.ChainStep = refl
+no-answer Refusal.ChainRecord = refl
+no-answer Refusal.PointCount = refl
+no-answer Refusal.SlotNumber = refl
+no-answer Refusal.Distance = refl
+no-answer Refusal.Reflectrix = refl
+no-answer Refusal.MufInput = refl
+no-answer Refusal.MufLists = refl
+no-answer Refusal.MufHops = refl
+no-answer Refusal.TimeBlock = refl
+no-answer Refusal.Angle = refl
