@@ -4,7 +4,6 @@ ghost use mathlib.Core.Path.{_≡_};
 ghost use Prim.Native.Nat.{_<_};
 ghost use lib.Dec.{eqb};
 ghost use denote.Ref.{now};
-ghost use Rattle.profile.specs.Rising.{risesOf};
 ghost use Rattle.heights.specs.Nodes.{xt, wt, zgBy, heightOf, igAt, ibAt};
 ghost use Rattle.heights.specs.Gethp.{cutOf, mupOf, hpOf, gethpOf, gethpScanOf};
 ghost use Rattle.heights.specs.Bendy.{bendyOf, penOf, bendyAnswer, penAnswer};
@@ -256,10 +255,9 @@ fn gethp_read(htr: &[f32; 50], fnsq: &[f32; 50], rises: bool, fxx: f32) -> Heigh
     }
 }
 
-// The heights of the vertical frequency `fxx`, where `rises` is what the rising test says of the state's heights: for a caller that asks for many frequencies on one profile.
+// The heights of the vertical frequency `fxx`, the densities read by a walk or by scans: `gethp` where `rises` is what the rising test says of the state's heights, for a caller that asks for many frequencies on one profile.
 pub fn gethp_rising(s: IonoState, rises: bool, fxx: f32) -> Heights
-    requires { ⌜ rises ≡ risesOf (s .htr) ⌝ }
-    ensures { λ r. ⌜ r ≡ gethpOf s fxx ⌝ }
+    ensures { λ r. ⌜ r ≡ gethpReadOf rises (s .htr) (s .fnsq) fxx ⌝ }
 {
     let htr = s.htr;
     let fnsq = s.fnsq;

@@ -29,7 +29,7 @@ use Rattle.layer_mufs.specs.declared.Circuit.{Circuit}
 use Rattle.layer_mufs.proofs.Small.{controlling-small}
 use Rattle.muf.specs.Hour.{refusedOf}
 use Rattle.muf.specs.Sporadic.{startOf, rowAt, esFrom}
-use Rattle.muf.specs.Curmuf.{inDomain, listsReach, threeOf, refusedDone, esBy, threeBy, workedOf, doneBy, doneOf, rowsBy, rowsOf, flatOf}
+use Rattle.muf.specs.Curmuf.{inDomain, listsReach, threeOf, refusedDone, esBy, threeBy, workedOf, doneBy, stepDoneOf, doneOf, rowsBy, rowsOf, flatOf}
 use Rattle.muf.specs.declared.EsRow.{EsRow}
 use Rattle.muf.specs.declared.EsStep.{EsStep}
 use Rattle.muf.specs.declared.Three.{Three}
@@ -80,18 +80,18 @@ es-follows : (x : EsStep) (s t : IonoState) (fe : Float) (m : Three) (k : ℕ) �
 es-follows (EsStep.Next a) s t fe m k = (refl, refl)
 es-follows (EsStep.Refused r) s t fe m k = refused-follows s t k r
 
-three-follows : (x : ThreeAnswer) (s t : IonoState) (l : Slot) (k n : ℕ) (row : ℕ → EsRow) (c : Circuit) → Follows (threeBy x t (lecdenOf t k) l k n row c) (threeBy x s (lecdenOf s k) l k n row c) t k
-three-follows (ThreeAnswer.Found m) s t l k n row c = es-follows (esFrom row c n 0 startOf) s t (l .fi0) m k
-three-follows (ThreeAnswer.Refused r) s t l k n row c = refused-follows s t k r
+three-follows : (x : ThreeAnswer) (s t : IonoState) (l : Slot) (k : ℕ) (step : EsStep) → Follows (threeBy x t (lecdenOf t k) l k step) (threeBy x s (lecdenOf s k) l k step) t k
+three-follows (ThreeAnswer.Found m) s t l k step = es-follows step s t (l .fi0) m k
+three-follows (ThreeAnswer.Refused r) s t l k step = refused-follows s t k r
 
-worked-follows : (s t : IonoState) (k n : ℕ) (row : ℕ → EsRow) (f2d : List Float) (clat clck : Float) (c : Circuit) → Alike (lecdenOf t k) (lecdenOf s k) k → Follows (workedOf t k n row f2d clat clck c) (workedOf s k n row f2d clat clck c) t k
+worked-follows : (s t : IonoState) (k : ℕ) (step : EsStep) (f2d : List Float) (clat clck : Float) (c : Circuit) → Alike (lecdenOf t k) (lecdenOf s k) k → Follows (workedOf t k step f2d clat clck c) (workedOf s k step f2d clat clck c) t k
 unfolding workedOf
-worked-follows s t k n row f2d clat clck c a =
+worked-follows s t k step f2d clat clck c a =
     let l = slotAt (lecdenOf s k) k in
-    let whole : ThreeAnswer → Slot → Done = λ x m. threeBy x t (lecdenOf t k) m k n row c in
+    let whole : ThreeAnswer → Slot → Done = λ x m. threeBy x t (lecdenOf t k) m k step in
     let e : whole (threeOf (lecdenOf t k) (slotAt (lecdenOf t k) k) k f2d clat clck c) (slotAt (lecdenOf t k) k) ≡ whole (threeOf (lecdenOf s k) l k f2d clat clck c) l =
     ap (λ (m : Slot). whole (threeOf (lecdenOf t k) m k f2d clat clck c) m) (a .slot-same) ∙ ap (λ (x : ThreeAnswer). whole x l) (three-same (lecdenOf t k) (lecdenOf s k) k a l f2d clat clck c) in
-    subst (λ (d : Done). Follows d (threeBy (threeOf (lecdenOf s k) l k f2d clat clck c) s (lecdenOf s k) l k n row c) t k) (sym e) (three-follows (threeOf (lecdenOf s k) l k f2d clat clck c) s t l k n row c)
+    subst (λ (d : Done). Follows d (threeBy (threeOf (lecdenOf s k) l k f2d clat clck c) s (lecdenOf s k) l k step) t k) (sym e) (three-follows (threeOf (lecdenOf s k) l k f2d clat clck c) s t l k step)
 
 -- the controlling slot is chosen by the critical frequencies and kfx
 compare-same : (s t : IonoState) (kr : ℕ) → t .fi ≡ s .fi → compareE t kr ≡ compareE s kr
@@ -123,23 +123,24 @@ deciles-right : (n k lats clocks : ℕ) → (eqb n 576 && ltb k lats && ltb k cl
 deciles-right n k lats clocks e = first-of (eqb n 576) (ltb k lats) (first-of (eqb n 576 && ltb k lats) (ltb k clocks) e)
 
 -- by domain, deciles and reach: where lecden is reached at all, the MUF has picked the slot
-done-by : (d r : Bool) (s t : IonoState) (n : ℕ) (row : ℕ → EsRow) (f2d clat clck : List Float) (c : Circuit) → Common s t → (d ≡ true → r ≡ true → slotAt t (controllingOf s) ≡ slotAt s (controllingOf s)) → Follows (doneBy d r t n row f2d clat clck c) (doneBy d r s n row f2d clat clck c) t (controllingOf s)
-done-by true true s t n row f2d clat clck c g fresh =
+done-by : (d r : Bool) (s t : IonoState) (step : EsStep) (f2d clat clck : List Float) (c : Circuit) → Common s t → (d ≡ true → r ≡ true → slotAt t (controllingOf s) ≡ slotAt s (controllingOf s)) → Follows (doneBy d r t step f2d clat clck c) (doneBy d r s step f2d clat clck c) t (controllingOf s)
+done-by true true s t step f2d clat clck c g fresh =
     let k = controllingOf s in
-    subst (λ (j : ℕ). Follows (workedOf t j n row f2d (at clat j) (at clck j) c) (workedOf s k n row f2d (at clat k) (at clck k) c) t k) (sym (controlling-same s t g))
-    (worked-follows s t k n row f2d (at clat k) (at clck k) c (lecden-alike s t k g (fresh refl refl)))
-done-by true false s t n row f2d clat clck c g fresh = refused-follows s t (controllingOf s) Refusal.MufLists
-done-by false r s t n row f2d clat clck c g fresh = refused-follows s t (controllingOf s) Refusal.MufInput
+    subst (λ (j : ℕ). Follows (workedOf t j step f2d (at clat j) (at clck j) c) (workedOf s k step f2d (at clat k) (at clck k) c) t k) (sym (controlling-same s t g))
+    (worked-follows s t k step f2d (at clat k) (at clck k) c (lecden-alike s t k g (fresh refl refl)))
+done-by true false s t step f2d clat clck c g fresh = refused-follows s t (controllingOf s) Refusal.MufLists
+done-by false r s t step f2d clat clck c g fresh = refused-follows s t (controllingOf s) Refusal.MufInput
 
 picked : (d e : Bool) (k : ℕ) → d ≡ true → e ≡ true → pickIf (d && e) k ≡ some k
 picked d e k hd he = rw (hd, he)
 
 done-follows : (s t : IonoState) (n : ℕ) (row : ℕ → EsRow) (f2d clat clck : List Float) (c : Circuit) → Common s t → ((k : ℕ) → pickIf (inDomain c && eqb (length f2d) 576) (controllingOf s) ≡ some k → slotAt t k ≡ slotAt s k) → Follows (doneOf t n row f2d clat clck c) (doneOf s n row f2d clat clck c) t (controllingOf s)
-unfolding doneOf listsReach
+unfolding doneOf stepDoneOf listsReach
 done-follows s t n row f2d clat clck c g fresh =
+    let step = esFrom row c n 0 startOf in
     let reach : ℕ → Bool = λ k. eqb (length f2d) 576 && ltb k (length clat) && ltb k (length clck) in
-    subst (λ (k : ℕ). Follows (doneBy (inDomain c) (reach k) t n row f2d clat clck c) (doneBy (inDomain c) (reach (controllingOf s)) s n row f2d clat clck c) t (controllingOf s)) (sym (controlling-same s t g))
-    (done-by (inDomain c) (reach (controllingOf s)) s t n row f2d clat clck c g (λ hd hr. fresh (controllingOf s) (picked (inDomain c) (eqb (length f2d) 576) (controllingOf s) hd (deciles-right (length f2d) (controllingOf s) (length clat) (length clck) hr))))
+    subst (λ (k : ℕ). Follows (doneBy (inDomain c) (reach k) t step f2d clat clck c) (doneBy (inDomain c) (reach (controllingOf s)) s step f2d clat clck c) t (controllingOf s)) (sym (controlling-same s t g))
+    (done-by (inDomain c) (reach (controllingOf s)) s t step f2d clat clck c g (λ hd hr. fresh (controllingOf s) (picked (inDomain c) (eqb (length f2d) 576) (controllingOf s) hd (deciles-right (length f2d) (controllingOf s) (length clat) (length clck) hr))))
 
 muf-follows : (es : EsRows) (s t : IonoState) (f2d clat clck : List Float) (c : Circuit) → Common s t → FreshFor s t (aMuf es f2d clat clck c) → Follows (mufOf t es f2d clat clck c) (mufOf s es f2d clat clck c) t (controllingOf s)
 unfolding mufOf flatOf recordsDoneOf pick
@@ -152,17 +153,17 @@ muf-follows (records es) s t f2d clat clck c g fresh =
     (done-follows s t (count (s .km)) (recordAt es) f2d clat clck c g fresh)
 
 -- where it is refused 9, or 10 for its deciles, it is not answered: so an answered MUF has picked its slot
-answered-by : (d r : Bool) (s : IonoState) (n : ℕ) (row : ℕ → EsRow) (f2d clat clck : List Float) (c : Circuit) → isAnswered (doneBy d r s n row f2d clat clck c .answer .outcome) ≡ true → (d ≡ true) × (r ≡ true)
+answered-by : (d r : Bool) (s : IonoState) (step : EsStep) (f2d clat clck : List Float) (c : Circuit) → isAnswered (doneBy d r s step f2d clat clck c .answer .outcome) ≡ true → (d ≡ true) × (r ≡ true)
 unfolding refusedDone refusedOf
-answered-by true true s n row f2d clat clck c e = (refl, refl)
-answered-by true false s n row f2d clat clck c e = absurd (not-both e)
-answered-by false r s n row f2d clat clck c e = absurd (not-both e)
+answered-by true true s step f2d clat clck c e = (refl, refl)
+answered-by true false s step f2d clat clck c e = absurd (not-both e)
+answered-by false r s step f2d clat clck c e = absurd (not-both e)
 
 done-picked : (s : IonoState) (n : ℕ) (row : ℕ → EsRow) (f2d clat clck : List Float) (c : Circuit) → isAnswered (doneOf s n row f2d clat clck c .answer .outcome) ≡ true → pickIf (inDomain c && eqb (length f2d) 576) (controllingOf s) ≡ some (controllingOf s)
-unfolding doneOf listsReach
+unfolding doneOf stepDoneOf listsReach
 done-picked s n row f2d clat clck c e =
     let k = controllingOf s in
-    let h = answered-by (inDomain c) (eqb (length f2d) 576 && ltb k (length clat) && ltb k (length clck)) s n row f2d clat clck c e in
+    let h = answered-by (inDomain c) (eqb (length f2d) 576 && ltb k (length clat) && ltb k (length clck)) s (esFrom row c n 0 startOf) f2d clat clck c e in
     picked (inDomain c) (eqb (length f2d) 576) k (h .0) (deciles-right (length f2d) k (length clat) (length clck) (h .1))
 
 muf-picked : (es : EsRows) (s : IonoState) (f2d clat clck : List Float) (c : Circuit) → answered s (aMuf es f2d clat clck c) ≡ true → pick s (aMuf es f2d clat clck c) ≡ some (controllingOf s)

@@ -30,8 +30,10 @@ use Rattle.layer_mufs.specs.declared.Circuit.{Circuit}
 use Rattle.layer_mufs.specs.declared.Tangents.{Tangents}
 use Rattle.layer_mufs.specs.declared.Pair.{Pair}
 use Rattle.layer_mufs.specs.declared.LineAnswer.{LineAnswer}
-use Rattle.muf.specs.Curmuf.{inDomain, listsReach, f1Then, f2Then, eThen, threeOf, threeBy, workedOf, doneBy, doneOf, flatOf}
+use Rattle.muf.specs.Curmuf.{inDomain, listsReach, f1Then, f2Then, eThen, threeOf, threeBy, workedOf, doneBy, stepDoneOf, doneOf, flatOf}
+use Rattle.muf.specs.Sporadic.{startOf, esFrom}
 use Rattle.muf.specs.declared.EsRow.{EsRow}
+use Rattle.muf.specs.declared.EsStep.{EsStep}
 use Rattle.muf.specs.declared.ThreeAnswer.{ThreeAnswer}
 use Rattle.muf.specs.declared.Done.{Done}
 use Rattle.muf_records.specs.Records.{recordsDoneOf}
@@ -95,21 +97,21 @@ module _ (find : Finder) (t : IonoState) (agree : Agree find gethpOf t) where
 -- ---- a call on s, which reads the profiles that `lecden` makes of s
 
 module _ (find : Finder) (s : IonoState) (agree : (k : ℕ) → Agree find gethpOf (lecdenOf s k)) where
-  worked : (k n : ℕ) (row : ℕ → EsRow) (f2d : List Float) (clat clck : Float) (c : Circuit) → workedWith find s k n row f2d clat clck c ≡ workedOf s k n row f2d clat clck c
+  worked : (k : ℕ) (step : EsStep) (f2d : List Float) (clat clck : Float) (c : Circuit) → workedWith find s k step f2d clat clck c ≡ workedOf s k step f2d clat clck c
   unfolding workedWith workedOf
-  worked k n row f2d clat clck c =
+  worked k step f2d clat clck c =
       let t = lecdenOf s k in
       let l = slotAt t k in
-      ap (λ (y : ThreeAnswer). threeBy y s t l k n row c) (three find t (agree k) l k f2d clat clck c)
+      ap (λ (y : ThreeAnswer). threeBy y s t l k step) (three find t (agree k) l k f2d clat clck c)
 
-  done-by : (a b : Bool) (n : ℕ) (row : ℕ → EsRow) (f2d clat clck : List Float) (c : Circuit) → doneByWith a b find s n row f2d clat clck c ≡ doneBy a b s n row f2d clat clck c
-  done-by true true n row f2d clat clck c = let k = controllingOf s in worked k n row f2d (at clat k) (at clck k) c
-  done-by true false n row f2d clat clck c = refl
-  done-by false b n row f2d clat clck c = refl
+  done-by : (a b : Bool) (step : EsStep) (f2d clat clck : List Float) (c : Circuit) → doneByWith a b find s step f2d clat clck c ≡ doneBy a b s step f2d clat clck c
+  done-by true true step f2d clat clck c = let k = controllingOf s in worked k step f2d (at clat k) (at clck k) c
+  done-by true false step f2d clat clck c = refl
+  done-by false b step f2d clat clck c = refl
 
   done : (n : ℕ) (row : ℕ → EsRow) (f2d clat clck : List Float) (c : Circuit) → doneWith find s n row f2d clat clck c ≡ doneOf s n row f2d clat clck c
-  unfolding doneWith doneOf
-  done n row f2d clat clck c = done-by (inDomain c) (listsReach (controllingOf s) (length f2d) (length clat) (length clck)) n row f2d clat clck c
+  unfolding doneWith doneOf stepDoneOf
+  done n row f2d clat clck c = done-by (inDomain c) (listsReach (controllingOf s) (length f2d) (length clat) (length clck)) (esFrom row c n 0 startOf) f2d clat clck c
 
   muf-with : (es : EsRows) (f2d clat clck : List Float) (c : Circuit) → mufWith find s es f2d clat clck c ≡ mufOf s es f2d clat clck c
   unfolding mufWith mufOf flatOf recordsDoneOf

@@ -25,7 +25,9 @@ use Rattle.layer_mufs.specs.declared.Tangents.{Tangents}
 use Rattle.layer_mufs.specs.declared.Pair.{Pair}
 use Rattle.layer_mufs.specs.declared.LineAnswer.{LineAnswer}
 use Rattle.muf.specs.Curmuf.{inDomain, listsReach, f1Then, threeBy, refusedDone}
+use Rattle.muf.specs.Sporadic.{startOf, esFrom}
 use Rattle.muf.specs.declared.EsRow.{EsRow}
+use Rattle.muf.specs.declared.EsStep.{EsStep}
 use Rattle.muf.specs.declared.ThreeAnswer.{ThreeAnswer}
 use Rattle.muf.specs.declared.Done.{Done}
 
@@ -81,17 +83,17 @@ threeWith find t l ks f2d clat clck c =
     let x = tangentsOf l (c .gcdkm) in
     eThenWith (eLineWith find t (x .fxe) (c .gcdkm) (c .amind)) find t l ks x f2d clat clck c
 
-unfoldable pub workedWith : Finder → IonoState → ℕ → ℕ → (ℕ → EsRow) → List Float → Float → Float → Circuit → Done
-workedWith find s ks n row f2d clat clck c =
+unfoldable pub workedWith : Finder → IonoState → ℕ → EsStep → List Float → Float → Float → Circuit → Done
+workedWith find s ks step f2d clat clck c =
     let t = lecdenOf s ks in
     let l = slotAt t ks in
-    threeBy (threeWith find t l ks f2d clat clck c) s t l ks n row c
+    threeBy (threeWith find t l ks f2d clat clck c) s t l ks step
 
 -- is the input in its domain, do the lists reach
-abbrev pub doneByWith : Bool → Bool → Finder → IonoState → ℕ → (ℕ → EsRow) → List Float → List Float → List Float → Circuit → Done
-doneByWith true true find s n row f2d clat clck c = let ks = controllingOf s in workedWith find s ks n row f2d (at clat ks) (at clck ks) c
-doneByWith true false find s n row f2d clat clck c = refusedDone s Refusal.MufLists
-doneByWith false reach find s n row f2d clat clck c = refusedDone s Refusal.MufInput
+abbrev pub doneByWith : Bool → Bool → Finder → IonoState → EsStep → List Float → List Float → List Float → Circuit → Done
+doneByWith true true find s step f2d clat clck c = let ks = controllingOf s in workedWith find s ks step f2d (at clat ks) (at clck ks) c
+doneByWith true false find s step f2d clat clck c = refusedDone s Refusal.MufLists
+doneByWith false reach find s step f2d clat clck c = refusedDone s Refusal.MufInput
 
 unfoldable pub doneWith : Finder → IonoState → ℕ → (ℕ → EsRow) → List Float → List Float → List Float → Circuit → Done
-doneWith find s n row f2d clat clck c = doneByWith (inDomain c) (listsReach (controllingOf s) (length f2d) (length clat) (length clck)) find s n row f2d clat clck c
+doneWith find s n row f2d clat clck c = doneByWith (inDomain c) (listsReach (controllingOf s) (length f2d) (length clat) (length clck)) find s (esFrom row c n 0 startOf) f2d clat clck c

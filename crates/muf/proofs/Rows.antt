@@ -21,7 +21,7 @@ use Rattle.profile.specs.Lecden.{slotAt, lecdenOf}
 use Rattle.profile.specs.declared.Slot.{Slot}
 use Rattle.layer_mufs.specs.declared.Circuit.{Circuit}
 use Rattle.muf.specs.Sporadic.{rayOf, takenBy, takenOf, hopBy, rowBy, esRowOf, startOf, nextBy, esFrom, esLineBy, esLineOf, rowAt}
-use Rattle.muf.specs.Curmuf.{esBy, stepThreeBy, threeOf, stepDoneBy, doneOf, inDomain, listsReach, refusedDone, rowsBy, takenRows, rowsOf, flatOf}
+use Rattle.muf.specs.Curmuf.{esBy, threeBy, threeOf, workedOf, doneBy, stepDoneOf, doneOf, inDomain, listsReach, refusedDone, rowsBy, takenRows, rowsOf, flatOf}
 use Rattle.muf.specs.declared.EsRow.{EsRow}
 use Rattle.muf.specs.declared.EsRay.{EsRay}
 use Rattle.muf.specs.declared.EsSearch.{EsSearch}
@@ -94,13 +94,13 @@ unfolding esLineOf refusedDone
 es-below (EsStep.Next a) m s t fe x ks w = line-below (a .esmuf -f f1000 ≥f f0) m a fe refl w
 es-below (EsStep.Refused r) m s t fe x ks w = never
 
-three-below : (q : ThreeAnswer) (m : ℕ) (s t : IonoState) (l : Slot) (ks : ℕ) (step : EsStep) → HeldStep m step → Below m (stepThreeBy q s t l ks step)
+three-below : (q : ThreeAnswer) (m : ℕ) (s t : IonoState) (l : Slot) (ks : ℕ) (step : EsStep) → HeldStep m step → Below m (threeBy q s t l ks step)
 unfolding refusedDone
 three-below (ThreeAnswer.Found x) m s t l ks step w = es-below step m s t (l .fi0) x ks w
 three-below (ThreeAnswer.Refused r) m s t l ks step w = never
 
-done-by-below : (a b : Bool) (m : ℕ) (s : IonoState) (step : EsStep) (f2d clat clck : List Float) (c : Circuit) → HeldStep m step → Below m (stepDoneBy a b s step f2d clat clck c)
-unfolding refusedDone
+done-by-below : (a b : Bool) (m : ℕ) (s : IonoState) (step : EsStep) (f2d clat clck : List Float) (c : Circuit) → HeldStep m step → Below m (doneBy a b s step f2d clat clck c)
+unfolding workedOf refusedDone
 done-by-below true true m s step f2d clat clck c w =
     let ks = controllingOf s in
     let t = lecdenOf s ks in
@@ -109,7 +109,7 @@ done-by-below true false m s step f2d clat clck c w = never
 done-by-below false b m s step f2d clat clck c w = never
 
 pub done-below : (s : IonoState) (n : ℕ) (row : ℕ → EsRow) (f2d clat clck : List Float) (c : Circuit) → doneOf s n row f2d clat clck c .rewrites ≡ true → doneOf s n row f2d clat clck c .ksx < n
-unfolding doneOf
+unfolding doneOf stepDoneOf
 done-below s n row f2d clat clck c = done-by-below (inDomain c) (listsReach (controllingOf s) (length f2d) (length clat) (length clck)) n s (esFrom row c n 0 startOf) f2d clat clck c (all-held row c n)
 
 rows-by : (b : Bool) (there km : ℕ) → ltb there km ≡ b → rowsBy b there km ≤ there

@@ -91,37 +91,27 @@ esBy (EsStep.Next a) s t fe m ks =
     }
 esBy (EsStep.Refused r) s t fe m ks = refusedDone s r
 
-abbrev pub stepThreeBy : ThreeAnswer → IonoState → IonoState → Slot → ℕ → EsStep → Done
-stepThreeBy (ThreeAnswer.Found m) s t l ks step = esBy step s t (l .fi0) m ks
-stepThreeBy (ThreeAnswer.Refused r) s t l ks step = refusedDone s r
+abbrev pub threeBy : ThreeAnswer → IonoState → IonoState → Slot → ℕ → EsStep → Done
+threeBy (ThreeAnswer.Found m) s t l ks step = esBy step s t (l .fi0) m ks
+threeBy (ThreeAnswer.Refused r) s t l ks step = refusedDone s r
 
-abbrev pub stepWorkedOf : IonoState → ℕ → EsStep → List Float → Float → Float → Circuit → Done
-stepWorkedOf s ks step f2d clat clck c =
+unfoldable pub workedOf : IonoState → ℕ → EsStep → List Float → Float → Float → Circuit → Done
+workedOf s ks step f2d clat clck c =
     let t = lecdenOf s ks in
     let l = slotAt t ks in
-    stepThreeBy (threeOf t l ks f2d clat clck c) s t l ks step
+    threeBy (threeOf t l ks f2d clat clck c) s t l ks step
 
 -- is the input in its domain, do the lists reach
-abbrev pub stepDoneBy : Bool → Bool → IonoState → EsStep → List Float → List Float → List Float → Circuit → Done
-stepDoneBy true true s step f2d clat clck c = let ks = controllingOf s in stepWorkedOf s ks step f2d (at clat ks) (at clck ks) c
-stepDoneBy true false s step f2d clat clck c = refusedDone s Refusal.MufLists
-stepDoneBy false reach s step f2d clat clck c = refusedDone s Refusal.MufInput
+abbrev pub doneBy : Bool → Bool → IonoState → EsStep → List Float → List Float → List Float → Circuit → Done
+doneBy true true s step f2d clat clck c = let ks = controllingOf s in workedOf s ks step f2d (at clat ks) (at clck ks) c
+doneBy true false s step f2d clat clck c = refusedDone s Refusal.MufLists
+doneBy false reach s step f2d clat clck c = refusedDone s Refusal.MufInput
 
 -- the whole call, the search of the Es rows given as its step
-abbrev pub stepDoneOf : IonoState → EsStep → List Float → List Float → List Float → Circuit → Done
-stepDoneOf s step f2d clat clck c = stepDoneBy (inDomain c) (listsReach (controllingOf s) (length f2d) (length clat) (length clck)) s step f2d clat clck c
+unfoldable pub stepDoneOf : IonoState → EsStep → List Float → List Float → List Float → Circuit → Done
+stepDoneOf s step f2d clat clck c = doneBy (inDomain c) (listsReach (controllingOf s) (length f2d) (length clat) (length clck)) s step f2d clat clck c
 
--- the same where the step is the search of n rows of Es, each as `row` gives it
-abbrev pub threeBy : ThreeAnswer → IonoState → IonoState → Slot → ℕ → ℕ → (ℕ → EsRow) → Circuit → Done
-threeBy x s t l ks n row c = stepThreeBy x s t l ks (esFrom row c n 0 startOf)
-
-unfoldable abbrev pub workedOf : IonoState → ℕ → ℕ → (ℕ → EsRow) → List Float → Float → Float → Circuit → Done
-unfolding stepWorkedOf
-workedOf s ks n row f2d clat clck c = stepWorkedOf s ks (esFrom row c n 0 startOf) f2d clat clck c
-
-abbrev pub doneBy : Bool → Bool → IonoState → ℕ → (ℕ → EsRow) → List Float → List Float → List Float → Circuit → Done
-doneBy domain reach s n row f2d clat clck c = stepDoneBy domain reach s (esFrom row c n 0 startOf) f2d clat clck c
-
+-- n rows of Es, each as `row` gives it
 unfoldable pub doneOf : IonoState → ℕ → (ℕ → EsRow) → List Float → List Float → List Float → Circuit → Done
 doneOf s n row f2d clat clck c = stepDoneOf s (esFrom row c n 0 startOf) f2d clat clck c
 

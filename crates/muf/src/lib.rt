@@ -5,7 +5,7 @@ ghost use Prim.Native.Nat.{_+_, _*_, _<_, _≤_};
 ghost use lib.ListN.{length};
 ghost use Rattle.muf.specs.Sporadic.{rayOf, takenOf, esRowOf, startOf, stepNumber, stepValue, rowAt, esFrom, sigl4Of, esFoundOf, esLineOf};
 ghost use Rattle.muf.specs.Hour.{modeOf, hourOf, zeroHour, refusedOf};
-ghost use Rattle.muf.specs.Curmuf.{withinOf, inDomain, listsReach, threeOf, threeNumber, threeValue, takenRows, rowsOf, refusedDone, esBy, stepWorkedOf, stepDoneOf, flatOf, esAfterOf, curmufOf};
+ghost use Rattle.muf.specs.Curmuf.{withinOf, inDomain, listsReach, threeOf, threeNumber, threeValue, takenRows, rowsOf, refusedDone, esBy, workedOf, stepDoneOf, flatOf, esAfterOf, curmufOf};
 use hops::Hops;
 use layer_mufs::Circuit;
 use layer_mufs::LineAnswer;
@@ -554,7 +554,7 @@ pub fn worked(
     c: Circuit,
 ) -> Done
     requires { ⌜ ks < 3 ⌝ }
-    ensures { λ r. ⌜ r ≡ stepWorkedOf s ks step (now (f2d .entry)) clat clck c ⌝ }
+    ensures { λ r. ⌜ r ≡ workedOf s ks step (now (f2d .entry)) clat clck c ⌝ }
 {
     let t = profile::lecden_slot(s, ks);
     let l = profile::slot_at(t, ks);

@@ -14,7 +14,7 @@ use Rattle.layers.specs.declared.IonoState.{IonoState}
 use Rattle.layer_mufs.specs.Controlling.{controllingOf}
 use Rattle.layer_mufs.specs.declared.Circuit.{Circuit}
 use Rattle.muf.specs.Sporadic.{rowAt, esFrom, startOf}
-use Rattle.muf.specs.Curmuf.{doneOf, flatOf, inDomain, listsReach, refusedDone, rowsOf, stepDoneBy, stepWorkedOf}
+use Rattle.muf.specs.Curmuf.{doneBy, doneOf, flatOf, inDomain, listsReach, refusedDone, rowsOf, stepDoneOf, workedOf}
 use Rattle.muf.specs.declared.Done.{Done}
 use Rattle.muf.specs.declared.EsStep.{EsStep}
 use Rattle.muf.proofs.Rows.{flat-below}
@@ -33,8 +33,8 @@ all-of w h = rw (take-all 576 w (le-of-eq h))
 
 module _ (s : IonoState) (es deciles clat clck : List ℕ) (c : Circuit) where
   -- the lists by the lengths of their words
-  by-lengths : flatOf s (floats es) (floats deciles) (floats clat) (floats clck) c ≡ stepDoneBy (inDomain c) (listsReach (controllingOf s) (length deciles) (length clat) (length clck)) s (esFrom (rowAt (floats es)) c (rowsOf (length es) (s .km)) 0 startOf) (floats deciles) (floats clat) (floats clck) c
-  unfolding flatOf doneOf
+  by-lengths : flatOf s (floats es) (floats deciles) (floats clat) (floats clck) c ≡ doneBy (inDomain c) (listsReach (controllingOf s) (length deciles) (length clat) (length clck)) s (esFrom (rowAt (floats es)) c (rowsOf (length es) (s .km)) 0 startOf) (floats deciles) (floats clat) (floats clck) c
+  unfolding flatOf doneOf stepDoneOf
   by-lengths = rw (length-map es (ofBits binary32), length-map deciles (ofBits binary32), length-map clat (ofBits binary32), length-map clck (ofBits binary32))
 
   pub not-in-domain : inDomain c ≡ false → refusedDone s Refusal.MufInput ≡ flatOf s (floats es) (floats deciles) (floats clat) (floats clck) c
@@ -43,7 +43,7 @@ module _ (s : IonoState) (es deciles clat clck : List ℕ) (c : Circuit) where
   pub lists-short : (ks : ℕ) → ks ≡ controllingOf s → inDomain c ≡ true → listsReach ks (length deciles) (length clat) (length clck) ≡ false → refusedDone s Refusal.MufLists ≡ flatOf s (floats es) (floats deciles) (floats clat) (floats clck) c
   lists-short ks e p q = rw (by-lengths, p, ← e, q)
 
-  pub taken-up : (ks : ℕ) (step : EsStep) (f2d : List Float) (lat clock : Float) → ks ≡ controllingOf s → inDomain c ≡ true → listsReach ks (length deciles) (length clat) (length clck) ≡ true → step ≡ esFrom (rowAt (floats es)) c (rowsOf (length es) (s .km)) 0 startOf → f2d ≡ floatsOf deciles 0 576 → lat ≡ ofBits binary32 (getD clat ks 0) → clock ≡ ofBits binary32 (getD clck ks 0) → stepWorkedOf s ks step f2d lat clock c ≡ flatOf s (floats es) (floats deciles) (floats clat) (floats clck) c
+  pub taken-up : (ks : ℕ) (step : EsStep) (f2d : List Float) (lat clock : Float) → ks ≡ controllingOf s → inDomain c ≡ true → listsReach ks (length deciles) (length clat) (length clck) ≡ true → step ≡ esFrom (rowAt (floats es)) c (rowsOf (length es) (s .km)) 0 startOf → f2d ≡ floatsOf deciles 0 576 → lat ≡ ofBits binary32 (getD clat ks 0) → clock ≡ ofBits binary32 (getD clck ks 0) → workedOf s ks step f2d lat clock c ≡ flatOf s (floats es) (floats deciles) (floats clat) (floats clck) c
   taken-up ks step f2d lat clock e p q w d a t =
       let r = lists-reach ks (length deciles) (length clat) (length clck) q in
       rw (

@@ -5,6 +5,7 @@ use native.Mathlib.Omega.{arith}
 use mir.Facts.{fits-le, fits-lit}
 use Rattle.layer_mufs.proofs.Small.{controlling-small}
 use Rattle.muf.proofs.Lists.{lists-reach}
+use Rattle.muf.specs.Curmuf.{stepDoneOf}
 use borrow.Author.Needs.{needs}
 use Rattle.muf.proofs.searched.Statement.{statement}
 use Rattle.muf.proofs.searched.Tie as tie
@@ -39,18 +40,21 @@ worked-requires : tie.Need-worked-requires
 worked-requires c κs = let b = c .before .before .before .before .controlling in rw (b .ensures) (controlling-small _)
 
 returns : tie.Need-returns
+unfolding stepDoneOf
 returns c = rw (← c .before .before .before .before .before .before .before .in-domain .ensures, c .before .before .before .before .before .before .if1 .taken, ← c .before .before .before .before .before .controlling .ensures, ← c .before .before .before .before .lists-reach .ensures, c .before .before .before .if2 .taken, ← c .before .before .before .before .before .controlling .ensures, ← c .worked .ensures)
 
 refused-done-requires : tie.Need-refused-done-requires
 refused-done-requires c κs = search needs
 
 returns-2 : tie.Need-returns-2
+unfolding stepDoneOf
 returns-2 c = rw (← c .before .before .before .before .before .in-domain .ensures, c .before .before .before .before .if1 .taken, ← c .before .before .before .controlling .ensures, ← c .before .before .lists-reach .ensures, c .before .if2 .left, ← c .refused-done .ensures)
 
 refused-done-requires-2 : tie.Need-refused-done-requires-2
 refused-done-requires-2 c κs = search needs
 
 returns-3 : tie.Need-returns-3
+unfolding stepDoneOf
 returns-3 c = rw (← c .before .before .in-domain .ensures, c .before .if1 .left, ← c .refused-done2 .ensures)
 
 pub searched-spec : {M : Type 1} → statement M

@@ -10,6 +10,8 @@ use lib.Ieee.{Float}
 use Rattle.scalar.specs.Literals.{f0}
 use Rattle.layers.specs.State.{at}
 use Rattle.heights.specs.Gethp.{gethpOf}
+use Rattle.heights.proofs.Owned.{field-held}
+use Rattle.heights.proofs.Walks.{gethp-read-so}
 use Rattle.sounding.specs.Genion.{rowsOf}
 use Rattle.sounding.proofs.rows.by_profile.Statement.{statement}
 use Rattle.sounding.proofs.rows.by_profile.Tie as tie
@@ -35,7 +37,7 @@ array-read-gethp-rising : tie.Need-array-read-gethp-rising Inv-loop μ-loop
 array-read-gethp-rising c = omega arith
 
 gethp-rising-requires : tie.Need-gethp-rising-requires Inv-loop μ-loop
-gethp-rising-requires c κs = c .before .before .pre
+gethp-rising-requires c κs = tt
 
 mul-hprim : tie.Need-mul-hprim Inv-loop μ-loop
 mul-hprim c = omega arith
@@ -58,7 +60,10 @@ loop-less c = omega arith
 loop-again : tie.Need-loop-again Inv-loop μ-loop
 loop-again c =
     let l = c .before .before .loop in
-    let e = c .gethp-rising .ensures in
+    let q = c .before .before .before in
+    let a = q .args in
+    let g = q .good .0 .1 .1 .1 .1 .1 .1 .1 .0 in
+    let e = c .gethp-rising .ensures ∙ gethp-read-so (a .rises) (a .s) _ (field-held (a .s .htr) (g .0) (g .1 .1)) (q .pre) in
     (omega arith, one-turn _ _ (l .i) _ _ (l .inv .1) (ap (λ h. h .hp) e), one-turn _ _ (l .i) _ _ (l .inv .2) (ap (λ h. h .ht) e))
 
 returns : tie.Need-returns Inv-loop μ-loop

@@ -5,6 +5,8 @@ use native.Mathlib.Nat.{le-antisymm}
 use native.Mathlib.Numerals.{add-one}
 use native.Mathlib.Omega.{arith}
 use Rattle.heights.specs.Gethp.{gethpOf}
+use Rattle.heights.proofs.Owned.{field-held}
+use Rattle.heights.proofs.Walks.{gethp-read-so}
 use Rattle.sounding.specs.Genion.{HPE, rowsOf}
 use Rattle.sounding.proofs.rows.virtual_rows_by_profile.Statement.{statement}
 use Rattle.sounding.proofs.rows.virtual_rows_by_profile.Tie as tie
@@ -29,7 +31,7 @@ array-read-gethp-rising : tie.Need-array-read-gethp-rising Inv-loop μ-loop
 array-read-gethp-rising c = omega arith
 
 gethp-rising-requires : tie.Need-gethp-rising-requires Inv-loop μ-loop
-gethp-rising-requires c κs = c .before .before .pre
+gethp-rising-requires c κs = tt
 
 add-hprim : tie.Need-add-hprim Inv-loop μ-loop
 add-hprim c = omega arith
@@ -48,7 +50,12 @@ loop-less c = omega arith
 
 loop-again : tie.Need-loop-again Inv-loop μ-loop
 unfolding rowsOf
-loop-again c = (omega arith, rw (add-one _, ← c .before .before .loop .inv .1, ← c .gethp-rising .ensures))
+loop-again c =
+    let l = c .before .before in
+    let a = l .before .args in
+    let g = l .before .good .0 .1 .1 .1 .1 .1 .1 .1 .0 in
+    let e = c .gethp-rising .ensures ∙ gethp-read-so (a .rises) (a .s) _ (field-held (a .s .htr) (g .0) (g .1 .1)) (l .before .pre) in
+    (omega arith, rw (add-one _, ← l .loop .inv .1, ← e))
 
 returns : tie.Need-returns Inv-loop μ-loop
 returns c = c .before .loop .inv .1 ∙ ap (rowsOf _ _ _ _) (le-antisymm (c .before .loop .inv .0) (c .loop-test .left))
