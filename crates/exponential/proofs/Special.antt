@@ -2,7 +2,7 @@
 use mathlib.Core.Path.{_≡_, refl}
 use mathlib.Core.Bool.{Bool, true, false}
 use lib.IntN.{pos}
-use lib.Ieee.{nan, inf, fin, binary32, ofBits, toBits}
+use lib.Ieee.{nan, inf, fin, ofBits, toBits}
 use Rattle.exponential.specs.Exp.{expOf}
 use Rattle.exponential.specs.Ln.{lnOf}
 
