@@ -186,7 +186,7 @@ pub fn wrappers(folder: &Path) -> String {
         }
         text += &wrapper(export, built);
     }
-    text + &format!("/// What no library has yet.\npub const MISSING: &[&str] = &{missing:?};\n")
+    text + &format!("/// What no library has.\npub const MISSING: &[&str] = &{missing:?};\n")
 }
 
 /// Whether the library is there and its index has the function.

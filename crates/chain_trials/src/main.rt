@@ -103,10 +103,10 @@ fn records() {
 }
 
 fn chains() {
-    let mut rubbish = smallest();
-    rubbish[128] = 9;
-    rubbish[190] = 7;
-    print(b"a record off the chain\n", rubbish, 192);
+    let mut aside = smallest();
+    aside[128] = 9;
+    aside[190] = 7;
+    print(b"a record off the chain\n", aside, 192);
     let mut permuted = record(record(record(smallest(), 0, 1, 2), 2, 2, 1), 1, 2, 0);
     permuted[4] = 2;
     print(b"a permuted chain\n", permuted, 192);
