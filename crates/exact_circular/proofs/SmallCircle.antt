@@ -1,16 +1,14 @@
 -- The tangent of a small angle w against R / P where R is known against the hypotenuse: cos² + sin² = 1, which the first terms of the two series keep within 2 units of the radius B.
 use mathlib.Core.Path.{_≡_, ap, subst}
-use Prim.Native.Nat.{ℕ, suc, _+_, _*_, _^_, _≤_, _<_}
+use Prim.Native.Nat.{ℕ, _+_, _*_, _^_, _≤_, _<_}
 use native.Mathlib.Nat.{le-of-lt, le-dest, mul-pos, mul-le-mul, mul-le-mul-left, mul-le-mul-right, le-of-mul-le-mul-right}
 use native.Mathlib.Omega.{arith}
+use Rattle.scalar.proofs.WholeRoot.{root-ge}
 use Rattle.series.proofs.Cases.{split}
 use Rattle.series.proofs.SmallAngle.{Parts}
 
 pub root-le : (a b : ℕ) → a * a ≤ b * b → a ≤ b
-root-le a b h = split b a (λ l. absurd (no (mul-le-mul l l))) (λ l. l)
-  where
-    no : suc b * suc b ≤ a * a → ⊥
-    no k = omega (arith, h, k)
+root-le a b h = root-ge (b * b) b a (omega arith) h
 
 pub twice : (a b : ℕ) → 2 * (a * b) ≤ a * a + b * b
 twice a b = split a b (λ l. at a b (le-dest (le-of-lt l))) (λ l. turn (at b a (le-dest l)))

@@ -146,8 +146,8 @@ left-alone none s = refl
 left-alone (some c) s = refl
 
 -- for any first state
-pub any-list : (s : IonoState) → Numbers s → (calls : List Call) → Allowed s calls → ListOfCalls s calls
-any-list s n calls allowed =
+pub any-list : (s : IonoState) (calls : List Call) → Allowed s calls → ListOfCalls s calls
+any-list s calls allowed =
     let r = ran s calls s (common-self s) (at-first s calls) allowed in
     let c = r .all-common in
     record {
@@ -163,12 +163,12 @@ any-list s n calls allowed =
       kfx-left = c .kfx-common;
       iedp-left = c .iedp-common;
       ielect-left = c .ielect-common;
-      answers-walked = answers-with gethpWalkOf Numbers after-numbers by-walks calls s n;
-      state-walked = run-with gethpWalkOf Numbers after-numbers by-walks calls s n;
+      answers-walked = λ n. answers-with gethpWalkOf Numbers after-numbers by-walks calls s n;
+      state-walked = λ n. run-with gethpWalkOf Numbers after-numbers by-walks calls s n;
       answers-scanned = answers-with gethpScanOf (λ t. Unit {0}) (λ t c u. tt) by-scans calls s tt;
       state-scanned = run-with gethpScanOf (λ t. Unit {0}) (λ t c u. tt) by-scans calls s tt;
-      reads-well = every-reads calls s n;
+      reads-well = λ n. every-reads calls s n;
     }
 
 pub lists-of-calls : ListsOfCalls
-lists-of-calls = λ first n h calls allowed. any-list (ionsetOf first .state) (ionset-numbers first n) calls allowed
+lists-of-calls = λ first h calls allowed. (any-list (ionsetOf first .state) calls allowed, λ n. ionset-numbers first n)

@@ -119,7 +119,7 @@ SameProfile u v = (u .htr ≡ v .htr) × (u .fnsq ≡ v .fnsq) × (u .«htr_rise
 abbrev pub ReadsWell : IonoState → Type 0
 ReadsWell u = (f : Float) → T (risesOf (u .htr)) → FortyReads u f
 
--- The definitions' numbers are of any precision, those of a state that a program holds are f32. It is asked of the first state, where a walk depends on it: semi-thicknesses, layers' heights and the profile's heights.
+-- The definitions' numbers are of any precision, those of a state that a program holds are f32. It is asked of the first state only where a walk depends on it: semi-thicknesses, layers' heights and the profile's heights. `ionset` and every call keep it.
 pub record Numbers (s : IonoState) : Type 0 where
   pub yi-held : Held (s .yi)
   pub hi-held : Held (s .hi)
@@ -145,13 +145,15 @@ pub record ListOfCalls (s : IonoState) (calls : List Call) : Type 0 where
   pub iedp-left : runOf s calls .iedp ≡ s .iedp
   pub ielect-left : runOf s calls .ielect ≡ s .ielect
   -- (v) read by walks, as the code does, every answer (rows, cells, hours, Es rows) and the state left are these; and they are the same with forty full scans in place of each walk
-  pub answers-walked : answersWalkOf s calls ≡ answersOf s calls
-  pub state-walked : runWalkOf s calls ≡ runOf s calls
+  pub answers-walked : Numbers s → answersWalkOf s calls ≡ answersOf s calls
+  pub state-walked : Numbers s → runWalkOf s calls ≡ runOf s calls
   pub answers-scanned : answersScanOf s calls ≡ answersOf s calls
   pub state-scanned : runScanOf s calls ≡ runOf s calls
   -- (vi) on each profile that is read the forty reads are the scans', in rising order, with the cursor as counted and moved 49 places at most
-  pub reads-well : Every ReadsWell (readOf s calls)
+  pub reads-well : Numbers s → Every ReadsWell (readOf s calls)
 
--- for what `ionset` answers of any state of f32 numbers with 1 to 5 points
+-- for what `ionset` answers of any state with 1 to 5 points, and its numbers are f32 where those of that state are
 abbrev pub ListsOfCalls : Type 0
-ListsOfCalls = (first : IonoState) → Numbers first → T (countTaken (first .km)) → (calls : List Call) → Allowed (ionsetOf first .state) calls → ListOfCalls (ionsetOf first .state) calls
+ListsOfCalls =
+    (first : IonoState) → T (countTaken (first .km)) → (calls : List Call) → Allowed (ionsetOf first .state) calls
+    → ListOfCalls (ionsetOf first .state) calls × (Numbers first → Numbers (ionsetOf first .state))
