@@ -1,3 +1,4 @@
 pub mod Record
 pub mod Chain
 pub mod Read
+pub mod Point

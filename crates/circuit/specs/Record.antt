@@ -1,18 +1,19 @@
 -- A record of a circuit file, and the numbers in it, least significant byte first (the paper, "Circuit file").
-use Prim.Native.Nat.{ℕ, zero, suc, _+_, _*_}
+use Prim.Native.Nat.{ℕ, zero, suc, _+_, _*_, _≤_, _<_}
 use mathlib.Core.List.{List, [], _∷_, _++_}
 use mathlib.Core.Bool.{Bool, true, _&&_}
 use lib.ListN.{getD, take, drop}
 use lib.Dec.{eqb}
+use Rattle.circuit.specs.declared.Form.{Form}
 
--- How a file is laid out: bytes in a record, the kind of record 0, words in a point.
-pub record Form : Type 0 where
-  pub size : ℕ
-  pub first : ℕ
-  pub point : ℕ
-
+-- the paper's form
 abbrev pub form64 : Form
-form64 = record { size = 64; first = 1; point = 15 }
+form64 = record { size = 64; first = 1; extra = 0 }
+
+-- What the reader and the writer ask of a form: a record has room for the words of a point, and its size and the kind of
+-- record 0 are numbers of two bytes.
+abbrev pub Fit : Form → Type 0
+Fit o = (64 + 4 * o .extra ≤ o .size) × (o .size < 65536) × (o .first < 65536)
 
 -- the bytes of record n
 abbrev pub recordAt : Form → List ℕ → ℕ → List ℕ

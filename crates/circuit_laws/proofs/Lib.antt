@@ -5,3 +5,5 @@ pub mod Linked
 pub mod Again
 pub mod WrittenRead
 pub mod WrittenForm
+pub mod Carried
+pub mod Paper

@@ -1,3 +1,4 @@
 pub mod OnChain
 pub mod Forms
 pub mod Laws
+pub mod Paper

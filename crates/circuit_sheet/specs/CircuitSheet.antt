@@ -1,15 +1,16 @@
 -- The sheet of a circuit file. MUF and slot sheets each start from the slots as `ionset` left them, over the state that `from_layers` makes of the points. The paper's refusals: 1 to 4 for the file, then 7, then the MUF's.
 use mathlib.Core.Bool.{Bool, true, false}
-use mathlib.Core.List.{List, [], _∷_, map}
-use Prim.Native.Nat.{ℕ, _+_, _*_}
+use mathlib.Core.List.{List, [], _∷_, _++_, map}
+use Prim.Native.Nat.{ℕ, zero, suc, _+_, _*_, _/_, _%_}
 use lib.Dec.{eqb, ltb}
 use lib.IntN.{ℤ, pos, negsuc}
-use lib.ListN.{getD, take, replicate}
+use lib.ListN.{take, replicate}
 use lib.Ieee.{Float, binary32, ofBits}
 use Rattle.refusal.specs.declared.Refusal.{Refusal}
 use Rattle.refusal.specs.declared.Outcome.{Outcome}
 use Rattle.circuit.specs.Record.{form64}
 use Rattle.circuit.specs.Read.{readOf}
+use Rattle.circuit.specs.Point.{pointNumber}
 use Rattle.circuit.specs.declared.Circuit as file
 use Rattle.layers.specs.State.{withIedp}
 use Rattle.layers.specs.FromLayers.{fromLayersOf}
@@ -32,30 +33,28 @@ use Rattle.circuit_sheet.specs.declared.Sheet.{Sheet}
 abbrev pub Circuit : Type 0
 Circuit = file.Circuit
 
--- the number whose bits are word i of the points, fifteen words a point: fi, yi, hi, Es fs, hs, clat, clck
-unfoldable pub numberAt : List ℕ → ℕ → Float
-numberAt words i = ofBits binary32 (getD words i 0)
+-- three numbers of point i, from word j on
+unfoldable pub threeAt : List ℕ → ℕ → ℕ → List Float
+threeAt words i j = pointNumber words i j ∷ pointNumber words i (j + 1) ∷ pointNumber words i (j + 2) ∷ []
 
-unfoldable pub threeAt : List ℕ → ℕ → List Float
-threeAt words i = numberAt words i ∷ numberAt words (i + 1) ∷ numberAt words (i + 2) ∷ []
-
--- a point's layers, from its word 0 on
+-- the layers of point i
 unfoldable pub layersAt : List ℕ → ℕ → LayerParams
-layersAt words i = record { fi = threeAt words i; yi = threeAt words (i + 3); hi = threeAt words (i + 6) }
+layersAt words i = record { fi = threeAt words i 0; yi = threeAt words i 3; hi = threeAt words i 6 }
 
 unfoldable pub paramsOf : List ℕ → List LayerParams
-paramsOf words = map (layersAt words) (0 ∷ 15 ∷ 30 ∷ 45 ∷ 60 ∷ [])
+paramsOf words = map (layersAt words) (0 ∷ 1 ∷ 2 ∷ 3 ∷ 4 ∷ [])
 
--- of each point Es fs and hs
+-- the first n of the points' Es numbers: of each point its words 9 to 12, Es fs and hs
+unfoldable pub esUpTo : List ℕ → ℕ → List Float
+esUpTo words zero = []
+esUpTo words (suc n) = esUpTo words n ++ (pointNumber words (n / 4) (9 + n % 4) ∷ [])
+
 unfoldable pub esOf : List ℕ → List Float
-esOf words =
-    map (numberAt words)
-    (9 ∷ 10 ∷ 11 ∷ 12 ∷ 24 ∷ 25 ∷ 26 ∷ 27 ∷ 39 ∷ 40 ∷ 41 ∷ 42 ∷ 54 ∷ 55 ∷ 56 ∷ 57 ∷ 69 ∷ 70 ∷ 71 ∷ 72 ∷ [])
+esOf words = esUpTo words 20
 
 -- of each point clat (word 13) or clck (word 14)
 unfoldable pub columnOf : List ℕ → ℕ → List Float
-columnOf words j =
-    numberAt words j ∷ numberAt words (j + 15) ∷ numberAt words (j + 30) ∷ numberAt words (j + 45) ∷ numberAt words (j + 60) ∷ []
+columnOf words j = map (λ i. pointNumber words i j) (0 ∷ 1 ∷ 2 ∷ 3 ∷ 4 ∷ [])
 
 -- shape 0: `iedp` -1; 1: `iedp` 0
 abbrev pub iedpBy : Bool → ℤ

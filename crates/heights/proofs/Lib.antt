@@ -3,3 +3,4 @@ pub mod Owned
 pub mod Rise
 pub mod Walks
 pub mod Whole
+pub mod Finders

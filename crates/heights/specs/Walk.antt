@@ -7,11 +7,12 @@ use lib.ListN.{set, replicate}
 use lib.Ieee.{Float}
 use Rattle.scalar.specs.F32.{_-f_, _*f_, _≤f_, _≥f_}
 use Rattle.scalar.specs.Literals.{f0}
+use Rattle.profile.specs.Rising.{risesOf}
 use Rattle.readings.specs.Scan.{at}
 use Rattle.readings.specs.declared.Read.{Read}
 use Rattle.walk.specs.Walk.{cursorBefore, walkRead}
 use Rattle.heights.specs.Nodes.{igAt, ibAt, heightAt}
-use Rattle.heights.specs.Gethp.{cutOf, ysqOf, gethpBy}
+use Rattle.heights.specs.Gethp.{cutOf, ysqOf, gethpBy, Finder}
 use Rattle.heights.specs.declared.Heights.{Heights}
 
 -- read k of the walk, and the cursor after n reads
@@ -48,6 +49,10 @@ unfoldable pub gethpReadOf : Bool → List Float → List Float → Float → He
 gethpReadOf rises htr fnsq fxx =
     let fr = fxx *f fxx in
     gethpBy (fr -f at fnsq 0 ≤f f0) htr fnsq fr (λ ht. ysqReadBy rises htr fnsq ht fr) (λ ht. cursorReadBy rises htr fnsq ht)
+
+-- the code's way of finding heights: one walk where the heights pass the rising test, and forty scans where they do not
+unfoldable pub gethpWalkOf : Finder
+gethpWalkOf s fxx = gethpReadOf (risesOf (s .htr)) (s .htr) (s .fnsq) fxx
 
 -- ---- the densities in a flat table, ysq[ig][ib] at 2 * ig + ib: after n reads, each put at its place
 unfoldable pub filled : (ℕ → ℕ) → (ℕ → Float) → ℕ → List Float

@@ -1,4 +1,4 @@
--- The slot sheet: `lecden`, `genion`, `fobby` and `alosfv` of slot k in turn, with a layer table given. The paper's refusals: 6 for a slot above 2, then 8 for over 40 angles or fewer than 30 cells an angle.
+-- The slot sheet: `lecden`, `genion`, `fobby` and `alosfv` of slot k in turn, with a layer table given; `find` is the way of finding heights off the profile. The paper's refusals: 6 for a slot above 2, then 8 for over 40 angles or fewer than 30 cells an angle.
 use mathlib.Core.Bool.{Bool, true, false}
 use mathlib.Core.List.{List}
 use Prim.Native.Nat.{ℕ}
@@ -9,43 +9,38 @@ use Rattle.refusal.specs.declared.Outcome.{Outcome}
 use Rattle.layers.specs.declared.IonoState.{IonoState}
 use Rattle.layers.specs.declared.LayerMuf.{LayerMuf}
 use Rattle.profile.specs.Lecden.{lecdenOf}
+use Rattle.heights.specs.Gethp.{Finder, gethpOf}
 use Rattle.ionogram.specs.Fobby.{anglesInto, roomFor}
-use Rattle.ionogram.specs.declared.Ionogram.{Ionogram}
 use Rattle.losses.specs.Alosfv.{alosfvOf}
-use Rattle.sounding.specs.Genion.{Finder, noRows, genionBy, genionOf}
+use Rattle.sounding.specs.Genion.{noRows, genionWith}
 use Rattle.hour.specs.declared.SlotSheet.{SlotSheet}
-
--- `genion`, by a way of finding heights
-abbrev pub Sounder : Type 0
-Sounder = IonoState → ℕ → Ionogram
 
 abbrev pub refusedSheet : IonoState → Refusal → SlotSheet
 refusedSheet s r = record { outcome = Outcome.Refused r; state = s; ion = noRows }
 
 -- is the slot number at most 2, is there room
-abbrev pub sheetBy : Bool → Bool → Sounder → IonoState → ℕ → List LayerMuf → SlotSheet
-sheetBy true true sound s k layers =
+abbrev pub sheetBy : Bool → Bool → Finder → IonoState → ℕ → List LayerMuf → SlotSheet
+sheetBy true true find s k layers =
     let t = lecdenOf s k in
-    record { outcome = Outcome.Answered; state = t; ion = alosfvOf t k (sound t k) layers }
-sheetBy true false sound s k layers = refusedSheet s Refusal.Reflectrix
-sheetBy false room sound s k layers = refusedSheet s Refusal.SlotNumber
+    record { outcome = Outcome.Answered; state = t; ion = alosfvOf t k (genionWith find t k) layers }
+sheetBy true false find s k layers = refusedSheet s Refusal.Reflectrix
+sheetBy false room find s k layers = refusedSheet s Refusal.SlotNumber
 
 -- the reflectrix is of the rows before their loss factors; a refused call leaves every cell, an answered one those past the last angle
-abbrev pub cellsBy : Bool → Bool → Sounder → IonoState → ℕ → ℕ → List ℤ → List ℤ
-cellsBy true true sound s k nang cells = anglesInto (sound (lecdenOf s k) k) cells nang
-cellsBy true false sound s k nang cells = cells
-cellsBy false room sound s k nang cells = cells
+abbrev pub cellsBy : Bool → Bool → Finder → IonoState → ℕ → ℕ → List ℤ → List ℤ
+cellsBy true true find s k nang cells = anglesInto (genionWith find (lecdenOf s k) k) cells nang
+cellsBy true false find s k nang cells = cells
+cellsBy false room find s k nang cells = cells
 
-unfoldable pub slotSheetOf : IonoState → ℕ → ℕ → List LayerMuf → List ℤ → SlotSheet
-slotSheetOf s k nang layers cells = sheetBy (leb k 2) (roomFor nang cells) genionOf s k layers
+unfoldable pub slotSheetWith : Finder → IonoState → ℕ → ℕ → List LayerMuf → List ℤ → SlotSheet
+slotSheetWith find s k nang layers cells = sheetBy (leb k 2) (roomFor nang cells) find s k layers
+
+abbrev pub slotSheetOf : IonoState → ℕ → ℕ → List LayerMuf → List ℤ → SlotSheet
+slotSheetOf = slotSheetWith gethpOf
 
 -- what the lent cells hold afterwards
-unfoldable pub sheetCellsOf : IonoState → ℕ → ℕ → List ℤ → List ℤ
-sheetCellsOf s k nang cells = cellsBy (leb k 2) (roomFor nang cells) genionOf s k nang cells
-
--- the same by another way of finding heights
-unfoldable pub slotSheetWith : Finder → IonoState → ℕ → ℕ → List LayerMuf → List ℤ → SlotSheet
-slotSheetWith find s k nang layers cells = sheetBy (leb k 2) (roomFor nang cells) (genionBy find) s k layers
-
 unfoldable pub sheetCellsWith : Finder → IonoState → ℕ → ℕ → List ℤ → List ℤ
-sheetCellsWith find s k nang cells = cellsBy (leb k 2) (roomFor nang cells) (genionBy find) s k nang cells
+sheetCellsWith find s k nang cells = cellsBy (leb k 2) (roomFor nang cells) find s k nang cells
+
+abbrev pub sheetCellsOf : IonoState → ℕ → ℕ → List ℤ → List ℤ
+sheetCellsOf = sheetCellsWith gethpOf

@@ -8,17 +8,15 @@ use borrow.Author.Tests.{eqb-true, eqb-false}
 use Rattle.layers.specs.declared.IonoState.{IonoState}
 use Rattle.layers.specs.Ionset.{ionsetOf}
 use Rattle.profile.specs.Lecden.{slotAt, lecdenOf}
-use Rattle.heights.specs.Gethp.{gethpOf, gethpScanOf}
+use Rattle.heights.specs.Gethp.{Finder, gethpScanOf}
+use Rattle.heights.specs.Walk.{gethpWalkOf}
 use Rattle.heights.proofs.Whole.{forty-reads}
-use Rattle.sounding.specs.Genion.{Finder}
-use Rattle.sounding.proofs.Ways.{Agree, scans-agree}
-use Rattle.hour_laws.specs.Ways.{gethpWalkOf}
+use Rattle.heights.proofs.Finders.{walks-agree, scans-agree}
 use Rattle.hour_laws.specs.Calls.{Call, Answer, answerOf, afterOf, afterWith, answered, pick}
 use Rattle.hour_laws.specs.Lists.{runOf, answersOf, runWith, answersWith, withPicked, readOf, Every, Together, Allowed, picks, orElse, own, laterOr, onlyIf, lastOf, alone, SameProfile, ReadsWell, Numbers, ListOfCalls, ListsOfCalls}
 use Rattle.hour_laws.proofs.Prepared.{Common, common-self}
 use Rattle.hour_laws.proofs.Numbers.{lecden-numbers, ionset-numbers}
-use Rattle.hour_laws.proofs.Ways.{walks-agree, answer-with, after-with}
-use Rattle.hour_laws.proofs.Frames.{not-both, FreshFor, preparedIf, slotOf, call-leaves, some-same, one-step}
+use Rattle.hour_laws.proofs.Frames.{not-both, FreshFor, preparedIf, AgreesOn, slotOf, call-leaves, answer-with, after-with, some-same, one-step}
 
 -- ---- who picks a slot
 
@@ -72,7 +70,7 @@ profile-step s t t₁ r c none true h g ih = let p = h refl in (ih .0 ∙ p .0, 
 profile-step s t t₁ r c none false h g ih = subst (λ (w : IonoState). SameProfile r w) (g refl) ih
 
 ran : (s : IonoState) (cs : List Call) (t : IonoState) → Common s t → Every (FreshFor s t) cs → Allowed s cs → RanOn s t cs
-unfolding runOf answersOf own lastOf
+unfolding runWith answersWith own lastOf
 ran s [] t g fresh allowed = record { all-answers = refl; all-common = g; all-slots = λ k. refl; the-profile = (refl, refl, refl) }
 ran s (c ∷ cs) t g fresh allowed =
     let x = one-step s t c g (fresh .0) in
@@ -98,31 +96,25 @@ after-numbers t c n = subst Numbers (sym (call-leaves c t)) (prepared-numbers (a
 -- ---- other ways of finding heights
 
 -- P holds of every state that the list comes through, and where it holds `find` agrees with `gethpOf`
-module _ (find : Finder) (P : IonoState → Type 0) (stays : (t : IonoState) (c : Call) → P t → P (afterOf t c)) (agree : (t : IonoState) → P t → (k : ℕ) → Agree find gethpOf (lecdenOf t k)) where
+module _ (find : Finder) (P : IonoState → Type 0) (stays : (t : IonoState) (c : Call) → P t → P (afterOf t c)) (agree : (t : IonoState) → P t → AgreesOn find t) where
   run-with : (cs : List Call) (t : IonoState) → P t → runWith find t cs ≡ runOf t cs
-  unfolding runWith runOf
+  unfolding runWith
   run-with [] t p = refl
-  run-with (c ∷ cs) t p = ap (λ (w : IonoState). runWith find w cs) (after-with find t (agree t p) c) ∙ run-with cs (afterOf t c) (stays t c p)
+  run-with (c ∷ cs) t p = ap (λ (w : IonoState). runWith find w cs) (after-with c find t (agree t p)) ∙ run-with cs (afterOf t c) (stays t c p)
 
   answers-with : (cs : List Call) (t : IonoState) → P t → answersWith find t cs ≡ answersOf t cs
-  unfolding answersWith answersOf
+  unfolding answersWith
   answers-with [] t p = refl
   answers-with (c ∷ cs) t p =
-      ap (λ (a : Answer). a ∷ answersWith find (afterWith find t c) cs) (answer-with find t (agree t p) c)
-      ∙ ap (λ (w : IonoState). answerOf t c ∷ answersWith find w cs) (after-with find t (agree t p) c)
+      ap (λ (a : Answer). a ∷ answersWith find (afterWith find t c) cs) (answer-with c find t (agree t p))
+      ∙ ap (λ (w : IonoState). answerOf t c ∷ answersWith find w cs) (after-with c find t (agree t p))
       ∙ ap (λ (rest : List Answer). answerOf t c ∷ rest) (answers-with cs (afterOf t c) (stays t c p))
 
-by-walks : (t : IonoState) → Numbers t → (k : ℕ) → Agree gethpWalkOf gethpOf (lecdenOf t k)
+by-walks : (t : IonoState) → Numbers t → AgreesOn gethpWalkOf t
 by-walks t n k = walks-agree (lecdenOf t k) (lecden-numbers t k n .htr-held)
 
-by-scans : (t : IonoState) → Unit {0} → (k : ℕ) → Agree gethpScanOf gethpOf (lecdenOf t k)
+by-scans : (t : IonoState) → Unit {0} → AgreesOn gethpScanOf t
 by-scans t u k = scans-agree (lecdenOf t k)
-
--- with `gethpOf` itself they are the contracts' definitions, for any list on any state
-pub with-contracts : (s : IonoState) (calls : List Call) → (answersWith gethpOf s calls ≡ answersOf s calls) × (runWith gethpOf s calls ≡ runOf s calls)
-with-contracts s calls =
-    let same : (t : IonoState) → Unit {0} → (k : ℕ) → Agree gethpOf gethpOf (lecdenOf t k) = λ t u k f. (refl, refl) in
-    (answers-with gethpOf (λ t. Unit {0}) (λ t c u. tt) same calls s tt, run-with gethpOf (λ t. Unit {0}) (λ t c u. tt) same calls s tt)
 
 -- ---- the reads
 

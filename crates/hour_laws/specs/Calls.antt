@@ -1,4 +1,4 @@
--- Calls on one state: circuit MUFs and slot sheets, each with its own arguments and lent cells. What a call answers and what it leaves are the very definitions that the contracts of the two functions are equated with.
+-- Calls on one state: circuit MUFs and slot sheets, each with its own arguments and lent cells. With `gethpOf` for the way of finding heights, `find`, what a call answers and what it leaves are the very definitions that the contracts of the two functions are equated with.
 use mathlib.Core.Bool.{Bool, true, false, _&&_}
 use mathlib.Core.List.{List}
 use mathlib.Core.Option.{Option, none, some}
@@ -11,17 +11,15 @@ use Rattle.refusal.specs.declared.Outcome.{Outcome}
 use Rattle.layers.specs.declared.IonoState.{IonoState}
 use Rattle.layers.specs.declared.LayerMuf.{LayerMuf}
 use Rattle.layers.specs.declared.EsParams.{EsParams}
+use Rattle.heights.specs.Gethp.{Finder, gethpOf}
 use Rattle.ionogram.specs.declared.Ionogram.{Ionogram}
 use Rattle.layer_mufs.specs.Controlling.{controllingOf}
 use Rattle.layer_mufs.specs.declared.Circuit.{Circuit}
-use Rattle.muf.specs.Curmuf.{inDomain, takenRows, rowsOf, flatOf, rewrittenBy}
-use Rattle.muf.specs.Sporadic.{rowAt}
+use Rattle.muf.specs.Curmuf.{inDomain, flatWith, rewrittenBy}
 use Rattle.muf.specs.declared.MufHour.{MufHour}
 use Rattle.muf.specs.declared.Done.{Done}
-use Rattle.muf_records.specs.Records.{recordAt, recordsDoneOf, recordsBy}
-use Rattle.sounding.specs.Genion.{Finder}
-use Rattle.hour.specs.Sheet.{slotSheetOf, sheetCellsOf, slotSheetWith, sheetCellsWith}
-use Rattle.hour_laws.specs.Ways.{doneWith}
+use Rattle.muf_records.specs.Records.{recordsDoneWith, recordsBy}
+use Rattle.hour.specs.Sheet.{slotSheetWith, sheetCellsWith}
 
 -- ---- the Es rows lent to a circuit MUF: flat, four numbers a row, or records
 
@@ -29,9 +27,9 @@ pub data EsRows : Type 0 where
   flat : List Float → EsRows
   records : List EsParams → EsRows
 
-unfoldable pub mufOf : IonoState → EsRows → List Float → List Float → List Float → Circuit → Done
-mufOf s (flat es) f2d clat clck c = flatOf s es f2d clat clck c
-mufOf s (records es) f2d clat clck c = recordsDoneOf s es f2d clat clck c
+unfoldable pub mufWith : Finder → IonoState → EsRows → List Float → List Float → List Float → Circuit → Done
+mufWith find s (flat es) f2d clat clck c = flatWith find s es f2d clat clck c
+mufWith find s (records es) f2d clat clck c = recordsDoneWith find s es f2d clat clck c
 
 -- only the controlling row's lower decile is rewritten
 unfoldable pub esAfter : EsRows → Bool → ℕ → Float → EsRows
@@ -50,28 +48,20 @@ pub data Answer : Type 0 where
   ofMuf : Outcome → MufHour → EsRows → Answer
   ofSheet : Outcome → Ionogram → List ℤ → Answer
 
-unfoldable pub answerOf : IonoState → Call → Answer
-answerOf s (aMuf es f2d clat clck c) = let d = mufOf s es f2d clat clck c in ofMuf (d .answer .outcome) (d .answer .hour) (esAfter es (d .rewrites) (d .ksx) (d .lower))
-answerOf s (aSheet k nang layers cells) = let r = slotSheetOf s k nang layers cells in ofSheet (r .outcome) (r .ion) (sheetCellsOf s k nang cells)
-
--- the state that it returns
-unfoldable pub afterOf : IonoState → Call → IonoState
-afterOf s (aMuf es f2d clat clck c) = mufOf s es f2d clat clck c .answer .state
-afterOf s (aSheet k nang layers cells) = slotSheetOf s k nang layers cells .state
-
--- ---- the same by a way of finding heights
-
-unfoldable pub mufWith : Finder → IonoState → EsRows → List Float → List Float → List Float → Circuit → Done
-mufWith find s (flat es) f2d clat clck c = doneWith find s (rowsOf (length es) (s .km)) (rowAt es) f2d clat clck c
-mufWith find s (records es) f2d clat clck c = doneWith find s (takenRows (length es) (s .km)) (recordAt es) f2d clat clck c
-
 unfoldable pub answerWith : Finder → IonoState → Call → Answer
 answerWith find s (aMuf es f2d clat clck c) = let d = mufWith find s es f2d clat clck c in ofMuf (d .answer .outcome) (d .answer .hour) (esAfter es (d .rewrites) (d .ksx) (d .lower))
 answerWith find s (aSheet k nang layers cells) = let r = slotSheetWith find s k nang layers cells in ofSheet (r .outcome) (r .ion) (sheetCellsWith find s k nang cells)
 
+abbrev pub answerOf : IonoState → Call → Answer
+answerOf = answerWith gethpOf
+
+-- the state that it returns
 unfoldable pub afterWith : Finder → IonoState → Call → IonoState
 afterWith find s (aMuf es f2d clat clck c) = mufWith find s es f2d clat clck c .answer .state
 afterWith find s (aSheet k nang layers cells) = slotSheetWith find s k nang layers cells .state
+
+abbrev pub afterOf : IonoState → Call → IonoState
+afterOf = afterWith gethpOf
 
 -- ---- answered or refused, and the slot that a call picks
 

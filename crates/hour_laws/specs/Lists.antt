@@ -15,23 +15,12 @@ use Rattle.layers.specs.declared.IonoState.{IonoState}
 use Rattle.profile.specs.Lecden.{slotAt, lecdenOf}
 use Rattle.profile.specs.Rising.{risesOf}
 use Rattle.walk.specs.Walk.{Held}
-use Rattle.heights.specs.Gethp.{gethpScanOf}
+use Rattle.heights.specs.Gethp.{Finder, gethpOf, gethpScanOf}
+use Rattle.heights.specs.Walk.{gethpWalkOf}
 use Rattle.heights.specs.Reads.{FortyReads}
-use Rattle.sounding.specs.Genion.{Finder}
-use Rattle.hour_laws.specs.Ways.{gethpWalkOf}
 use Rattle.hour_laws.specs.Calls.{Call, Answer, answerOf, afterOf, answerWith, afterWith, answered, pick}
 
 -- ---- a list run: the state at its end, and the answers in their order
-
-unfoldable pub runOf : IonoState → List Call → IonoState
-runOf s [] = s
-runOf s (c ∷ cs) = runOf (afterOf s c) cs
-
-unfoldable pub answersOf : IonoState → List Call → List Answer
-answersOf s [] = []
-answersOf s (c ∷ cs) = answerOf s c ∷ answersOf (afterOf s c) cs
-
--- ---- the same by a way of finding heights
 
 unfoldable pub runWith : Finder → IonoState → List Call → IonoState
 runWith find s [] = s
@@ -41,19 +30,26 @@ unfoldable pub answersWith : Finder → IonoState → List Call → List Answer
 answersWith find s [] = []
 answersWith find s (c ∷ cs) = answerWith find s c ∷ answersWith find (afterWith find s c) cs
 
+-- as the contracts say
+abbrev pub runOf : IonoState → List Call → IonoState
+runOf = runWith gethpOf
+
+abbrev pub answersOf : IonoState → List Call → List Answer
+answersOf = answersWith gethpOf
+
 -- by walks, as the code reads
 abbrev pub runWalkOf : IonoState → List Call → IonoState
-runWalkOf s calls = runWith gethpWalkOf s calls
+runWalkOf = runWith gethpWalkOf
 
 abbrev pub answersWalkOf : IonoState → List Call → List Answer
-answersWalkOf s calls = answersWith gethpWalkOf s calls
+answersWalkOf = answersWith gethpWalkOf
 
 -- by forty full scans in place of each walk
 abbrev pub runScanOf : IonoState → List Call → IonoState
-runScanOf s calls = runWith gethpScanOf s calls
+runScanOf = runWith gethpScanOf
 
 abbrev pub answersScanOf : IonoState → List Call → List Answer
-answersScanOf s calls = answersWith gethpScanOf s calls
+answersScanOf = answersWith gethpScanOf
 
 -- ---- the states whose profiles its calls read: each with the slot prepared that the call picks
 

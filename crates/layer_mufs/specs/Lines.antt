@@ -1,4 +1,4 @@
--- The E, F2 and F1 sections of `curmuf`. t is the state as `lecden` of the controlling slot ks leaves it, l that slot of it.
+-- The E, F2 and F1 sections of `curmuf`. t is the state as `lecden` of the controlling slot ks leaves it, l that slot of it; `find` is the way of finding heights off its profile.
 use mathlib.Core.Bool.{Bool, true, false}
 use mathlib.Core.List.{List}
 use Prim.Native.Nat.{ℕ}
@@ -18,7 +18,7 @@ use Rattle.hops.specs.declared.Geometry.{Geometry}
 use Rattle.hops.specs.declared.HopGeometry.{HopGeometry}
 use Rattle.hops.specs.declared.Round.{Round}
 use Rattle.heights.specs.Bendy.{bendyOf, penOf}
-use Rattle.heights.specs.Gethp.{gethpOf}
+use Rattle.heights.specs.Gethp.{Finder, gethpOf}
 use Rattle.layers.specs.declared.IonoState.{IonoState}
 use Rattle.layers.specs.declared.LayerMuf.{LayerMuf}
 use Rattle.profile.specs.declared.Slot.{Slot}
@@ -55,17 +55,17 @@ lineValue (LineAnswer.Refused r) = zeroLine
 unfoldable pub byProfileOf : IonoState → Bool
 byProfileOf t = ltZ (t .iedp) (pos 0)
 
-abbrev pub readOf : IonoState → Float → Pair
-readOf t fx = let h = gethpOf t fx in record { hp = h .hp; ht = h .ht }
+abbrev pub readWith : Finder → IonoState → Float → Pair
+readWith find t fx = let h = find t fx in record { hp = h .hp; ht = h .ht }
 
 -- the E layer
 
-abbrev pub eHeightsBy : Bool → IonoState → Float → Pair
-eHeightsBy true t fxe = readOf t fxe
-eHeightsBy false t fxe = record { hp = f125·3; ht = f104·25 }
+abbrev pub eHeightsBy : Bool → Finder → IonoState → Float → Pair
+eHeightsBy true find t fxe = readWith find t fxe
+eHeightsBy false find t fxe = record { hp = f125·3; ht = f104·25 }
 
-unfoldable pub eHeightsOf : IonoState → Float → Pair
-eHeightsOf t fxe = eHeightsBy (byProfileOf t) t fxe
+unfoldable pub eHeightsWith : Finder → IonoState → Float → Pair
+eHeightsWith find t fxe = eHeightsBy (byProfileOf t) find t fxe
 
 unfoldable pub eFoundOf : HopGeometry → Pair → Float → LayerMuf
 eFoundOf g h fxe =
@@ -77,8 +77,11 @@ abbrev pub eLineBy : Geometry → Pair → Float → LineAnswer
 eLineBy (Geometry.Found g) h fxe = LineAnswer.Found (eFoundOf g h fxe)
 eLineBy (Geometry.Refused r) h fxe = LineAnswer.Refused r
 
-unfoldable pub eLineOf : IonoState → Float → Float → Float → LineAnswer
-eLineOf t fxe gcdkm amind = let h = eHeightsOf t fxe in eLineBy (geometryOf gcdkm amind (h .hp) (h .ht) true) h fxe
+unfoldable pub eLineWith : Finder → IonoState → Float → Float → Float → LineAnswer
+eLineWith find t fxe gcdkm amind = let h = eHeightsWith find t fxe in eLineBy (geometryOf gcdkm amind (h .hp) (h .ht) true) h fxe
+
+abbrev pub eLineOf : IonoState → Float → Float → Float → LineAnswer
+eLineOf = eLineWith gethpOf
 
 -- the F2 layer
 
@@ -90,13 +93,13 @@ parabolicOf t l ks x =
     }
 
 -- iedp < 0, fi1 > 0: a NaN counts as no F1 here
-abbrev pub f2HeightsBy : Bool → Bool → IonoState → Slot → ℕ → Tangents → Pair
-f2HeightsBy true f1 t l ks x = readOf t (x .fx2)
-f2HeightsBy false true t l ks x = readOf t (x .fx2)
-f2HeightsBy false false t l ks x = parabolicOf t l ks x
+abbrev pub f2HeightsBy : Bool → Bool → Finder → IonoState → Slot → ℕ → Tangents → Pair
+f2HeightsBy true f1 find t l ks x = readWith find t (x .fx2)
+f2HeightsBy false true find t l ks x = readWith find t (x .fx2)
+f2HeightsBy false false find t l ks x = parabolicOf t l ks x
 
-unfoldable pub f2HeightsOf : IonoState → Slot → ℕ → Tangents → Pair
-f2HeightsOf t l ks x = f2HeightsBy (byProfileOf t) (l .fi1 >f f0) t l ks x
+unfoldable pub f2HeightsWith : Finder → IonoState → Slot → ℕ → Tangents → Pair
+f2HeightsWith find t l ks x = f2HeightsBy (byProfileOf t) (l .fi1 >f f0) find t l ks x
 
 -- the rounds from the first pass on; they read neither angle nor height of their start
 unfoldable pub bentOf : Float → Float → Pair → HopGeometry → Round
@@ -139,10 +142,13 @@ abbrev pub f2LineBy : Geometry → Slot → Pair → Tangents → List Float →
 f2LineBy (Geometry.Found g) l h x f2d clat clck c = f2BentOf f2d (bentOf (l .fi2) (x .fx2) h g) (h .ht) (x .fx2) (g .xhops) (c .ssn) clat clck
 f2LineBy (Geometry.Refused r) l h x f2d clat clck c = LineAnswer.Refused r
 
-unfoldable pub f2LineOf : IonoState → Slot → ℕ → Tangents → List Float → Float → Float → Circuit → LineAnswer
-f2LineOf t l ks x f2d clat clck c =
-    let h = f2HeightsOf t l ks x in
+unfoldable pub f2LineWith : Finder → IonoState → Slot → ℕ → Tangents → List Float → Float → Float → Circuit → LineAnswer
+f2LineWith find t l ks x f2d clat clck c =
+    let h = f2HeightsWith find t l ks x in
     f2LineBy (geometryOf (c .gcdkm) (c .amind) (h .hp) (h .ht) false) l h x f2d clat clck c
+
+abbrev pub f2LineOf : IonoState → Slot → ℕ → Tangents → List Float → Float → Float → Circuit → LineAnswer
+f2LineOf = f2LineWith gethpOf
 
 -- the F1 layer
 
@@ -156,13 +162,16 @@ abbrev pub f1OwnBy : Geometry → Pair → Float → Float → LineAnswer
 f1OwnBy (Geometry.Found g) h fc fx1 = LineAnswer.Found (f1FoundOf g h fc fx1)
 f1OwnBy (Geometry.Refused r) h fc fx1 = LineAnswer.Refused r
 
-unfoldable pub f1OwnOf : IonoState → Float → Float → Float → Float → LineAnswer
-f1OwnOf t fc fx1 gcdkm amind = let h = readOf t fx1 in f1OwnBy (geometryOf gcdkm amind (h .hp) (h .ht) true) h fc fx1
+unfoldable pub f1OwnWith : Finder → IonoState → Float → Float → Float → Float → LineAnswer
+f1OwnWith find t fc fx1 gcdkm amind = let h = readWith find t fx1 in f1OwnBy (geometryOf gcdkm amind (h .hp) (h .ht) true) h fc fx1
 
 -- fi1 <= 0: no F1, and the E line again; here a NaN counts as an F1
-abbrev pub f1LineBy : Bool → IonoState → Slot → Float → LayerMuf → Float → Float → LineAnswer
-f1LineBy true t l fx1 e gcdkm amind = LineAnswer.Found e
-f1LineBy false t l fx1 e gcdkm amind = f1OwnOf t (l .fi1) fx1 gcdkm amind
+abbrev pub f1LineBy : Bool → Finder → IonoState → Slot → Float → LayerMuf → Float → Float → LineAnswer
+f1LineBy true find t l fx1 e gcdkm amind = LineAnswer.Found e
+f1LineBy false find t l fx1 e gcdkm amind = f1OwnWith find t (l .fi1) fx1 gcdkm amind
 
-unfoldable pub f1LineOf : IonoState → Slot → Float → LayerMuf → Float → Float → LineAnswer
-f1LineOf t l fx1 e gcdkm amind = f1LineBy (l .fi1 ≤f f0) t l fx1 e gcdkm amind
+unfoldable pub f1LineWith : Finder → IonoState → Slot → Float → LayerMuf → Float → Float → LineAnswer
+f1LineWith find t l fx1 e gcdkm amind = f1LineBy (l .fi1 ≤f f0) find t l fx1 e gcdkm amind
+
+abbrev pub f1LineOf : IonoState → Slot → Float → LayerMuf → Float → Float → LineAnswer
+f1LineOf = f1LineWith gethpOf

@@ -1,9 +1,10 @@
 // The slot that controls a MUF hour, and its E, F2 and F1 lines.
 ghost use mathlib.Core.Path.{_≡_};
 ghost use Prim.Native.Nat.{_<_};
+ghost use Rattle.heights.specs.Gethp.{gethpOf};
 ghost use Rattle.layer_mufs.specs.Controlling.{compareE, controllingOf};
 ghost use Rattle.layer_mufs.specs.Tangents.{xtOf, fx1Of, betaOf, f2TangentOf, tangentsOf};
-ghost use Rattle.layer_mufs.specs.Lines.{tenthOf, lineOf, zeroLine, lineNumber, lineValue, byProfileOf, eHeightsOf, eFoundOf, eLineOf, parabolicOf, f2HeightsOf, bentOf, deviationsNumber, lowerValue, upperValue, deviationsOf, f2BentOf, f2LineOf, f1FoundOf, f1OwnOf, f1LineOf};
+ghost use Rattle.layer_mufs.specs.Lines.{tenthOf, lineOf, zeroLine, lineNumber, lineValue, byProfileOf, eHeightsWith, eFoundOf, eLineOf, parabolicOf, f2HeightsWith, bentOf, deviationsNumber, lowerValue, upperValue, deviationsOf, f2BentOf, f2LineOf, f1FoundOf, f1OwnWith, f1LineOf};
 use deciles::Deviation;
 use hops::Geometry;
 use hops::HopGeometry;
@@ -229,7 +230,7 @@ fn by_profile(t: IonoState) -> bool
 // Off the profile, or fixed: those of a parabola that peaks at 110 km and is 20 km in
 // semi-thickness.
 fn e_heights(t: IonoState, fxe: f32) -> Pair
-    ensures { λ r. ⌜ r ≡ eHeightsOf t fxe ⌝ }
+    ensures { λ r. ⌜ r ≡ eHeightsWith gethpOf t fxe ⌝ }
 {
     if by_profile(t) {
         let h = heights::gethp(t, fxe);
@@ -280,7 +281,7 @@ fn parabolic(t: IonoState, l: Slot, ks: usize, x: Tangents) -> Pair
 // By parabolas only if F1 is missing: the closed form is of E and F2 alone.
 fn f2_heights(t: IonoState, l: Slot, ks: usize, x: Tangents) -> Pair
     requires { ⌜ ks < 3 ⌝ }
-    ensures { λ r. ⌜ r ≡ f2HeightsOf t l ks x ⌝ }
+    ensures { λ r. ⌜ r ≡ f2HeightsWith gethpOf t l ks x ⌝ }
 {
     if by_profile(t) {
         let h = heights::gethp(t, x.fx2);
@@ -423,7 +424,7 @@ fn f1_found(g: HopGeometry, h: Pair, fc: f32, fx1: f32) -> LayerMuf
 
 // Where there is an F1 layer.
 fn f1_own(t: IonoState, fc: f32, fx1: f32, gcdkm: f32, amind: f32) -> LineAnswer
-    ensures { λ r. ⌜ r ≡ f1OwnOf t fc fx1 gcdkm amind ⌝ }
+    ensures { λ r. ⌜ r ≡ f1OwnWith gethpOf t fc fx1 gcdkm amind ⌝ }
 {
     let at = heights::gethp(t, fx1);
     let h = Pair {

@@ -19,9 +19,10 @@ use Rattle.layers.specs.declared.IonoState.{IonoState}
 use Rattle.layer_mufs.specs.Controlling.{controllingOf}
 use Rattle.profile.specs.Lecden.{slotAt, lecdenOf}
 use Rattle.profile.specs.declared.Slot.{Slot}
+use Rattle.heights.specs.Gethp.{gethpOf}
 use Rattle.layer_mufs.specs.declared.Circuit.{Circuit}
 use Rattle.muf.specs.Sporadic.{rayOf, takenBy, takenOf, hopBy, rowBy, esRowOf, startOf, nextBy, esFrom, esLineBy, esLineOf, rowAt}
-use Rattle.muf.specs.Curmuf.{esBy, threeBy, threeOf, workedOf, doneBy, stepDoneOf, doneOf, inDomain, listsReach, refusedDone, rowsBy, takenRows, rowsOf, flatOf}
+use Rattle.muf.specs.Curmuf.{esBy, threeBy, threeWith, workedWith, doneBy, stepDoneWith, doneWith, inDomain, listsReach, refusedDone, rowsBy, takenRows, rowsOf, flatWith, flatOf}
 use Rattle.muf.specs.declared.EsRow.{EsRow}
 use Rattle.muf.specs.declared.EsRay.{EsRay}
 use Rattle.muf.specs.declared.EsSearch.{EsSearch}
@@ -99,17 +100,17 @@ unfolding refusedDone
 three-below (ThreeAnswer.Found x) m s t l ks step w = es-below step m s t (l .fi0) x ks w
 three-below (ThreeAnswer.Refused r) m s t l ks step w = never
 
-done-by-below : (a b : Bool) (m : ℕ) (s : IonoState) (step : EsStep) (f2d clat clck : List Float) (c : Circuit) → HeldStep m step → Below m (doneBy a b s step f2d clat clck c)
-unfolding workedOf refusedDone
+done-by-below : (a b : Bool) (m : ℕ) (s : IonoState) (step : EsStep) (f2d clat clck : List Float) (c : Circuit) → HeldStep m step → Below m (doneBy a b gethpOf s step f2d clat clck c)
+unfolding workedWith refusedDone
 done-by-below true true m s step f2d clat clck c w =
     let ks = controllingOf s in
     let t = lecdenOf s ks in
-    three-below (threeOf t (slotAt t ks) ks f2d (at clat ks) (at clck ks) c) m s t (slotAt t ks) ks step w
+    three-below (threeWith gethpOf t (slotAt t ks) ks f2d (at clat ks) (at clck ks) c) m s t (slotAt t ks) ks step w
 done-by-below true false m s step f2d clat clck c w = never
 done-by-below false b m s step f2d clat clck c w = never
 
-pub done-below : (s : IonoState) (n : ℕ) (row : ℕ → EsRow) (f2d clat clck : List Float) (c : Circuit) → doneOf s n row f2d clat clck c .rewrites ≡ true → doneOf s n row f2d clat clck c .ksx < n
-unfolding doneOf stepDoneOf
+pub done-below : (s : IonoState) (n : ℕ) (row : ℕ → EsRow) (f2d clat clck : List Float) (c : Circuit) → doneWith gethpOf s n row f2d clat clck c .rewrites ≡ true → doneWith gethpOf s n row f2d clat clck c .ksx < n
+unfolding doneWith stepDoneWith
 done-below s n row f2d clat clck c = done-by-below (inDomain c) (listsReach (controllingOf s) (length f2d) (length clat) (length clck)) n s (esFrom row c n 0 startOf) f2d clat clck c (all-held row c n)
 
 rows-by : (b : Bool) (there km : ℕ) → ltb there km ≡ b → rowsBy b there km ≤ there
@@ -125,7 +126,7 @@ unfolding rowsOf
 rows-there numbers km = let h = taken-there (numbers / 4) km in omega (arith, div-add-mod' numbers 4)
 
 pub flat-below : (s : IonoState) (es f2d clat clck : List Float) (c : Circuit) → flatOf s es f2d clat clck c .rewrites ≡ true → 4 * flatOf s es f2d clat clck c .ksx < length es
-unfolding flatOf
+unfolding flatWith
 flat-below s es f2d clat clck c e =
     let h = done-below s (rowsOf (length es) (s .km)) (rowAt es) f2d clat clck c e in
     omega (arith, rows-there (length es) (s .km))

@@ -1,4 +1,4 @@
--- `curmuf` whole: what is refused and in which order, the hour, the state and the Es rows after. The Es rows enter by their number and what each holds, so that one definition serves flat rows and rows of records.
+-- `curmuf` whole: what is refused and in which order, the hour, the state and the Es rows after. The Es rows enter by their number and what each holds, so that one definition serves flat rows and rows of records; `find` is the way of finding heights off the profile.
 use mathlib.Core.Bool.{Bool, true, false, _&&_}
 use mathlib.Core.List.{List}
 use Prim.Native.Nat.{ℕ, _*_, _/_}
@@ -15,9 +15,10 @@ use Rattle.layers.specs.declared.IonoState.{IonoState}
 use Rattle.layers.specs.declared.LayerMuf.{LayerMuf}
 use Rattle.profile.specs.Lecden.{slotAt, lecdenOf}
 use Rattle.profile.specs.declared.Slot.{Slot}
+use Rattle.heights.specs.Gethp.{Finder, gethpOf}
 use Rattle.layer_mufs.specs.Controlling.{controllingOf}
 use Rattle.layer_mufs.specs.Tangents.{tangentsOf}
-use Rattle.layer_mufs.specs.Lines.{zeroLine, eLineOf, f2LineOf, f1LineOf}
+use Rattle.layer_mufs.specs.Lines.{zeroLine, eLineWith, f2LineWith, f1LineWith}
 use Rattle.layer_mufs.specs.declared.Circuit.{Circuit}
 use Rattle.layer_mufs.specs.declared.Tangents.{Tangents}
 use Rattle.layer_mufs.specs.declared.LineAnswer.{LineAnswer}
@@ -53,18 +54,18 @@ abbrev pub f1Then : LineAnswer → LayerMuf → LayerMuf → ThreeAnswer
 f1Then (LineAnswer.Found f1) e f2 = ThreeAnswer.Found (record { e = e; f1 = f1; f2 = f2 })
 f1Then (LineAnswer.Refused r) e f2 = ThreeAnswer.Refused r
 
-abbrev pub f2Then : LineAnswer → IonoState → Slot → Tangents → Circuit → LayerMuf → ThreeAnswer
-f2Then (LineAnswer.Found f2) t l x c e = f1Then (f1LineOf t l (x .fx1) e (c .gcdkm) (c .amind)) e f2
-f2Then (LineAnswer.Refused r) t l x c e = ThreeAnswer.Refused r
+abbrev pub f2Then : LineAnswer → Finder → IonoState → Slot → Tangents → Circuit → LayerMuf → ThreeAnswer
+f2Then (LineAnswer.Found f2) find t l x c e = f1Then (f1LineWith find t l (x .fx1) e (c .gcdkm) (c .amind)) e f2
+f2Then (LineAnswer.Refused r) find t l x c e = ThreeAnswer.Refused r
 
-abbrev pub eThen : LineAnswer → IonoState → Slot → ℕ → Tangents → List Float → Float → Float → Circuit → ThreeAnswer
-eThen (LineAnswer.Found e) t l ks x f2d clat clck c = f2Then (f2LineOf t l ks x f2d clat clck c) t l x c e
-eThen (LineAnswer.Refused r) t l ks x f2d clat clck c = ThreeAnswer.Refused r
+abbrev pub eThen : LineAnswer → Finder → IonoState → Slot → ℕ → Tangents → List Float → Float → Float → Circuit → ThreeAnswer
+eThen (LineAnswer.Found e) find t l ks x f2d clat clck c = f2Then (f2LineWith find t l ks x f2d clat clck c) find t l x c e
+eThen (LineAnswer.Refused r) find t l ks x f2d clat clck c = ThreeAnswer.Refused r
 
-unfoldable pub threeOf : IonoState → Slot → ℕ → List Float → Float → Float → Circuit → ThreeAnswer
-threeOf t l ks f2d clat clck c =
+unfoldable pub threeWith : Finder → IonoState → Slot → ℕ → List Float → Float → Float → Circuit → ThreeAnswer
+threeWith find t l ks f2d clat clck c =
     let x = tangentsOf l (c .gcdkm) in
-    eThen (eLineOf t (x .fxe) (c .gcdkm) (c .amind)) t l ks x f2d clat clck c
+    eThen (eLineWith find t (x .fxe) (c .gcdkm) (c .amind)) find t l ks x f2d clat clck c
 
 -- the paper's number of each case, 0 for the three lines, and the lines, of +0 beside a refusal
 abbrev pub threeNumber : ThreeAnswer → ℕ
@@ -95,25 +96,31 @@ abbrev pub threeBy : ThreeAnswer → IonoState → IonoState → Slot → ℕ �
 threeBy (ThreeAnswer.Found m) s t l ks step = esBy step s t (l .fi0) m ks
 threeBy (ThreeAnswer.Refused r) s t l ks step = refusedDone s r
 
-unfoldable pub workedOf : IonoState → ℕ → EsStep → List Float → Float → Float → Circuit → Done
-workedOf s ks step f2d clat clck c =
+unfoldable pub workedWith : Finder → IonoState → ℕ → EsStep → List Float → Float → Float → Circuit → Done
+workedWith find s ks step f2d clat clck c =
     let t = lecdenOf s ks in
     let l = slotAt t ks in
-    threeBy (threeOf t l ks f2d clat clck c) s t l ks step
+    threeBy (threeWith find t l ks f2d clat clck c) s t l ks step
+
+abbrev pub workedOf : IonoState → ℕ → EsStep → List Float → Float → Float → Circuit → Done
+workedOf = workedWith gethpOf
 
 -- is the input in its domain, do the lists reach
-abbrev pub doneBy : Bool → Bool → IonoState → EsStep → List Float → List Float → List Float → Circuit → Done
-doneBy true true s step f2d clat clck c = let ks = controllingOf s in workedOf s ks step f2d (at clat ks) (at clck ks) c
-doneBy true false s step f2d clat clck c = refusedDone s Refusal.MufLists
-doneBy false reach s step f2d clat clck c = refusedDone s Refusal.MufInput
+abbrev pub doneBy : Bool → Bool → Finder → IonoState → EsStep → List Float → List Float → List Float → Circuit → Done
+doneBy true true find s step f2d clat clck c = let ks = controllingOf s in workedWith find s ks step f2d (at clat ks) (at clck ks) c
+doneBy true false find s step f2d clat clck c = refusedDone s Refusal.MufLists
+doneBy false reach find s step f2d clat clck c = refusedDone s Refusal.MufInput
 
 -- the whole call, the search of the Es rows given as its step
-unfoldable pub stepDoneOf : IonoState → EsStep → List Float → List Float → List Float → Circuit → Done
-stepDoneOf s step f2d clat clck c = doneBy (inDomain c) (listsReach (controllingOf s) (length f2d) (length clat) (length clck)) s step f2d clat clck c
+unfoldable pub stepDoneWith : Finder → IonoState → EsStep → List Float → List Float → List Float → Circuit → Done
+stepDoneWith find s step f2d clat clck c = doneBy (inDomain c) (listsReach (controllingOf s) (length f2d) (length clat) (length clck)) find s step f2d clat clck c
+
+abbrev pub stepDoneOf : IonoState → EsStep → List Float → List Float → List Float → Circuit → Done
+stepDoneOf = stepDoneWith gethpOf
 
 -- n rows of Es, each as `row` gives it
-unfoldable pub doneOf : IonoState → ℕ → (ℕ → EsRow) → List Float → List Float → List Float → Circuit → Done
-doneOf s n row f2d clat clck c = stepDoneOf s (esFrom row c n 0 startOf) f2d clat clck c
+unfoldable pub doneWith : Finder → IonoState → ℕ → (ℕ → EsRow) → List Float → List Float → List Float → Circuit → Done
+doneWith find s n row f2d clat clck c = stepDoneWith find s (esFrom row c n 0 startOf) f2d clat clck c
 
 -- the rows that there are, at most km
 abbrev pub rowsBy : Bool → ℕ → ℕ → ℕ
@@ -127,8 +134,11 @@ takenRows there km = rowsBy (ltb there km) there km
 unfoldable pub rowsOf : ℕ → ℕ → ℕ
 rowsOf numbers km = takenRows (numbers / 4) km
 
-unfoldable pub flatOf : IonoState → List Float → List Float → List Float → List Float → Circuit → Done
-flatOf s es f2d clat clck c = doneOf s (rowsOf (length es) (s .km)) (rowAt es) f2d clat clck c
+unfoldable pub flatWith : Finder → IonoState → List Float → List Float → List Float → List Float → Circuit → Done
+flatWith find s es f2d clat clck c = doneWith find s (rowsOf (length es) (s .km)) (rowAt es) f2d clat clck c
+
+abbrev pub flatOf : IonoState → List Float → List Float → List Float → List Float → Circuit → Done
+flatOf = flatWith gethpOf
 
 abbrev pub curmufOf : IonoState → List Float → List Float → List Float → List Float → Circuit → MufAnswer
 curmufOf s es f2d clat clck c = flatOf s es f2d clat clck c .answer

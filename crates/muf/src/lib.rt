@@ -3,9 +3,10 @@
 ghost use mathlib.Core.Path.{_≡_};
 ghost use Prim.Native.Nat.{_+_, _*_, _<_, _≤_};
 ghost use lib.ListN.{length};
+ghost use Rattle.heights.specs.Gethp.{gethpOf};
 ghost use Rattle.muf.specs.Sporadic.{rayOf, takenOf, esRowOf, startOf, stepNumber, stepValue, rowAt, esFrom, sigl4Of, esFoundOf, esLineOf};
 ghost use Rattle.muf.specs.Hour.{modeOf, hourOf, zeroHour, refusedOf};
-ghost use Rattle.muf.specs.Curmuf.{withinOf, inDomain, listsReach, threeOf, threeNumber, threeValue, takenRows, rowsOf, refusedDone, esBy, workedOf, stepDoneOf, flatOf, esAfterOf, curmufOf};
+ghost use Rattle.muf.specs.Curmuf.{withinOf, inDomain, listsReach, threeWith, threeNumber, threeValue, takenRows, rowsOf, refusedDone, esBy, workedOf, stepDoneOf, flatOf, esAfterOf, curmufOf};
 use hops::Hops;
 use layer_mufs::Circuit;
 use layer_mufs::LineAnswer;
@@ -456,7 +457,7 @@ fn three_lines(
     c: Circuit,
 ) -> ThreeAnswer
     requires { ⌜ ks < 3 ⌝ }
-    ensures { λ r. ⌜ r ≡ threeOf t l ks (now (f2d .entry)) clat clck c ⌝ }
+    ensures { λ r. ⌜ r ≡ threeWith gethpOf t l ks (now (f2d .entry)) clat clck c ⌝ }
 {
     let x = layer_mufs::tangent_frequencies(l, c.gcdkm);
     let e_answer = layer_mufs::e_line(t, x.fxe, c.gcdkm, c.amind);

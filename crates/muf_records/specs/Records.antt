@@ -7,9 +7,10 @@ use lib.Ieee.{Float, nan}
 use Rattle.layers.specs.State.{at}
 use Rattle.layers.specs.declared.IonoState.{IonoState}
 use Rattle.layers.specs.declared.EsParams.{EsParams}
+use Rattle.heights.specs.Gethp.{Finder, gethpOf}
 use Rattle.layer_mufs.specs.declared.Circuit.{Circuit}
 use Rattle.muf.specs.Sporadic.{nextBy, esRowOf}
-use Rattle.muf.specs.Curmuf.{takenRows, doneOf}
+use Rattle.muf.specs.Curmuf.{takenRows, doneWith}
 use Rattle.muf.specs.declared.EsRow.{EsRow}
 use Rattle.muf.specs.declared.EsStep.{EsStep}
 use Rattle.muf.specs.declared.MufAnswer.{MufAnswer}
@@ -25,8 +26,12 @@ rowOf e = record { fs0 = at (e .fs) 0; fs1 = at (e .fs) 1; fs2 = at (e .fs) 2; h
 abbrev pub recordAt : List EsParams → ℕ → EsRow
 recordAt es k = rowOf (getD es k noEs)
 
-unfoldable pub recordsDoneOf : IonoState → List EsParams → List Float → List Float → List Float → Circuit → Done
-recordsDoneOf s es f2d clat clck c = doneOf s (takenRows (length es) (s .km)) (recordAt es) f2d clat clck c
+-- `find` is the way of finding heights off the profile
+unfoldable pub recordsDoneWith : Finder → IonoState → List EsParams → List Float → List Float → List Float → Circuit → Done
+recordsDoneWith find s es f2d clat clck c = doneWith find s (takenRows (length es) (s .km)) (recordAt es) f2d clat clck c
+
+abbrev pub recordsDoneOf : IonoState → List EsParams → List Float → List Float → List Float → Circuit → Done
+recordsDoneOf = recordsDoneWith gethpOf
 
 -- row k's turn, where no row before it was refused
 unfoldable pub turnOf : EsStep → ℕ → EsParams → Circuit → EsStep

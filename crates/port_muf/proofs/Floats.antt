@@ -11,10 +11,11 @@ use lib.Ieee.{Float, binary32, ofBits}
 use Rattle.refusal.specs.declared.Refusal.{Refusal}
 use Rattle.layers.specs.State.{at}
 use Rattle.layers.specs.declared.IonoState.{IonoState}
+use Rattle.heights.specs.Gethp.{gethpOf}
 use Rattle.layer_mufs.specs.Controlling.{controllingOf}
 use Rattle.layer_mufs.specs.declared.Circuit.{Circuit}
 use Rattle.muf.specs.Sporadic.{rowAt, esFrom, startOf}
-use Rattle.muf.specs.Curmuf.{doneBy, doneOf, flatOf, inDomain, listsReach, refusedDone, rowsOf, stepDoneOf, workedOf}
+use Rattle.muf.specs.Curmuf.{doneBy, doneWith, flatWith, flatOf, inDomain, listsReach, refusedDone, rowsOf, stepDoneWith, workedOf}
 use Rattle.muf.specs.declared.Done.{Done}
 use Rattle.muf.specs.declared.EsStep.{EsStep}
 use Rattle.muf.proofs.Rows.{flat-below}
@@ -33,8 +34,8 @@ all-of w h = rw (take-all 576 w (le-of-eq h))
 
 module _ (s : IonoState) (es deciles clat clck : List ℕ) (c : Circuit) where
   -- the lists by the lengths of their words
-  by-lengths : flatOf s (floats es) (floats deciles) (floats clat) (floats clck) c ≡ doneBy (inDomain c) (listsReach (controllingOf s) (length deciles) (length clat) (length clck)) s (esFrom (rowAt (floats es)) c (rowsOf (length es) (s .km)) 0 startOf) (floats deciles) (floats clat) (floats clck) c
-  unfolding flatOf doneOf stepDoneOf
+  by-lengths : flatOf s (floats es) (floats deciles) (floats clat) (floats clck) c ≡ doneBy (inDomain c) (listsReach (controllingOf s) (length deciles) (length clat) (length clck)) gethpOf s (esFrom (rowAt (floats es)) c (rowsOf (length es) (s .km)) 0 startOf) (floats deciles) (floats clat) (floats clck) c
+  unfolding flatWith doneWith stepDoneWith
   by-lengths = rw (length-map es (ofBits binary32), length-map deciles (ofBits binary32), length-map clat (ofBits binary32), length-map clck (ofBits binary32))
 
   pub not-in-domain : inDomain c ≡ false → refusedDone s Refusal.MufInput ≡ flatOf s (floats es) (floats deciles) (floats clat) (floats clck) c

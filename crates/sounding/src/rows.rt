@@ -8,7 +8,7 @@ ghost use lib.ListN.{replicate};
 ghost use Rattle.scalar.specs.Literals.{f0};
 ghost use Rattle.heights.specs.Gethp.{gethpOf};
 ghost use Rattle.profile.specs.Rising.{risesOf};
-ghost use Rattle.sounding.specs.Genion.{HTE as Genion·HTE, HPE as Genion·HPE, rowsOf, allByProfile, trueByProfile, virtualByParabola, made, rowsBy, rowsAt};
+ghost use Rattle.sounding.specs.Genion.{HTE as Genion·HTE, HPE as Genion·HPE, rowsOf, allByProfile, trueByProfile, virtualByParabola, made, rowsBy, rowsWith};
 use ionogram::Ionogram;
 use layers::IonoState;
 
@@ -189,7 +189,7 @@ fn all_by_profile(s: IonoState) -> bool
 
 pub fn rows(s: IonoState, k: usize, fv: [f32; 30]) -> Ionogram
     requires { ⌜ k < 3 ⌝ }
-    ensures { λ r. ⌜ r ≡ rowsAt gethpOf s k fv ⌝ }
+    ensures { λ r. ⌜ r ≡ rowsWith gethpOf s k fv ⌝ }
 {
     let htr = s.htr;
     let rises = profile::rises_throughout(&htr);

@@ -11,12 +11,9 @@ returns-2 : tie.Need-returns-2
 unfolding cosAnswer
 returns-2 c = rw (c .before .if1 .left, c .if2 .taken)
 
-cos-requires : tie.Need-cos-requires
-cos-requires c κs = search needs
-
 returns-3 : tie.Need-returns-3
 unfolding cosAnswer
 returns-3 c = rw (c .before .before .if1 .left, c .before .if2 .left, ← c .cos .ensures)
 
 pub cos-or-refuse-spec : {M : Type 1} → statement M
-cos-or-refuse-spec = tie.close (tie.spec returns returns-2 cos-requires returns-3)
+cos-or-refuse-spec = tie.close (tie.spec returns returns-2 (λ c κs. search needs) returns-3)

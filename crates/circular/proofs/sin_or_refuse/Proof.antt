@@ -11,12 +11,9 @@ returns-2 : tie.Need-returns-2
 unfolding sinAnswer
 returns-2 c = rw (c .before .if1 .left, c .if2 .taken)
 
-sin-requires : tie.Need-sin-requires
-sin-requires c κs = search needs
-
 returns-3 : tie.Need-returns-3
 unfolding sinAnswer
 returns-3 c = rw (c .before .before .if1 .left, c .before .if2 .left, ← c .sin .ensures)
 
 pub sin-or-refuse-spec : {M : Type 1} → statement M
-sin-or-refuse-spec = tie.close (tie.spec returns returns-2 sin-requires returns-3)
+sin-or-refuse-spec = tie.close (tie.spec returns returns-2 (λ c κs. search needs) returns-3)

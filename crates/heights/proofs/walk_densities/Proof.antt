@@ -32,45 +32,12 @@ Inv-loop htr fnsq xts ht fr up h0 ysq₀ ih₀ k₀ ysq ih k = (k ≤ 40) × (ys
 abbrev μ-loop : tie.MeasureT-loop
 μ-loop htr fnsq xts ht fr up h0 ysq₀ ih₀ k₀ ysq ih k = 40 - k
 
-element-copy-out-h0 : tie.Need-element-copy-out-h0 Inv-loop μ-loop
-element-copy-out-h0 c = omega arith
-
 loop-holds : tie.Need-loop-holds Inv-loop μ-loop
 unfolding walkTable filled cursorBefore
 loop-holds c = (omega arith, refl, refl, refl, refl)
 
-ig-at-requires : tie.Need-ig-at-requires Inv-loop μ-loop
-ig-at-requires c κs = search needs
-
-ib-at-requires : tie.Need-ib-at-requires Inv-loop μ-loop
-ib-at-requires c κs = search needs
-
 height-requires : tie.Need-height-requires Inv-loop μ-loop
 height-requires c κs = (c .before .ig-at .ensures .0, c .before .before .before .before .before .pre)
-
-read-on-requires : tie.Need-read-on-requires Inv-loop μ-loop
-read-on-requires c κs = search needs
-
-cut-requires : tie.Need-cut-requires Inv-loop μ-loop
-cut-requires c κs = search needs
-
-mul-place : tie.Need-mul-place Inv-loop μ-loop
-mul-place c = omega arith
-
-add-place : tie.Need-add-place Inv-loop μ-loop
-add-place c = omega arith
-
-mul-ysq : tie.Need-mul-ysq Inv-loop μ-loop
-mul-ysq c = omega arith
-
-array-write-ysq : tie.Need-array-write-ysq Inv-loop μ-loop
-array-write-ysq c = omega arith
-
-add-k : tie.Need-add-k Inv-loop μ-loop
-add-k c = omega arith
-
-loop-less : tie.Need-loop-less Inv-loop μ-loop
-loop-less c = omega arith
 
 loop-again : tie.Need-loop-again Inv-loop μ-loop
 loop-again c =
@@ -91,21 +58,6 @@ returns c =
 pub walk-densities-spec : {M : Type 1} → statement M
 walk-densities-spec =
     tie.close
-    (tie.spec
-    Inv-loop
-    μ-loop
-    element-copy-out-h0
-    loop-holds
-    ig-at-requires
-    ib-at-requires
-    height-requires
-    read-on-requires
-    cut-requires
-    mul-place
-    add-place
-    mul-ysq
-    array-write-ysq
-    add-k
-    loop-less
-    loop-again
-    returns)
+    (tie.spec Inv-loop μ-loop (λ c. omega arith) loop-holds (λ c κs. search needs) (λ c κs. search needs)
+    height-requires (λ c κs. search needs) (λ c κs. search needs) (λ c. omega arith) (λ c. omega arith)
+    (λ c. omega arith) (λ c. omega arith) (λ c. omega arith) (λ c. omega arith) loop-again returns)

@@ -17,7 +17,7 @@ use Rattle.losses.specs.Alosfv.{alosfvOf}
 use Rattle.ionogram.specs.declared.Ionogram.{Ionogram}
 use Rattle.hour.specs.declared.SlotSheet.{SlotSheet}
 use Rattle.ionogram.specs.Fobby.{roomFor, cellsAfter, fobbyOutcome}
-use Rattle.hour.specs.Sheet.{slotSheetOf, sheetCellsOf}
+use Rattle.hour.specs.Sheet.{slotSheetWith, sheetCellsWith, slotSheetOf, sheetCellsOf}
 use Rattle.hour.proofs.slot_sheet.Statement.{statement}
 use Rattle.hour.proofs.slot_sheet.Tie as tie
 
@@ -25,56 +25,29 @@ use Rattle.hour.proofs.slot_sheet.Tie as tie
 in-turn : (s : IonoState) (k nang : ℕ) (layers : List LayerMuf) (cells : List ℤ) (o : Outcome) (t : IonoState) (ion losses : Ionogram) (after : List ℤ)
     → leb k 2 ≡ true → leb nang 40 ≡ true → leb (30 * nang) (length cells) ≡ true → t ≡ lecdenOf s k → ion ≡ genionOf t k → o ≡ fobbyOutcome nang cells → after ≡ cellsAfter ion nang cells → losses ≡ alosfvOf t k ion layers
     → (_≡_ {A = SlotSheet} (record { outcome = o; state = t; ion = losses }) (slotSheetOf s k nang layers cells)) × (after ≡ sheetCellsOf s k nang cells)
-unfolding slotSheetOf sheetCellsOf roomFor cellsAfter fobbyOutcome
+unfolding slotSheetWith sheetCellsWith roomFor cellsAfter fobbyOutcome
 in-turn s k nang layers cells o t ion losses after slot few room et ei eo ea el = (rw (eo, el, ei, et, slot, few, room), rw (ea, ei, et, slot, few, room))
 
-refused-requires : tie.Need-refused-requires
-refused-requires c κs = search needs
-
 returns : tie.Need-returns
-unfolding slotSheetOf sheetCellsOf
+unfolding slotSheetWith sheetCellsWith
 returns c =
     let high = lt-leb _ _ (c .before .if1 .taken) in
     (rw high (c .refused .ensures), rw high)
 
-refused-requires-2 : tie.Need-refused-requires-2
-refused-requires-2 c κs = search needs
-
 returns-2 : tie.Need-returns-2
-unfolding slotSheetOf sheetCellsOf roomFor
+unfolding slotSheetWith sheetCellsWith roomFor
 returns-2 c =
     let slot = le-leb _ _ (c .before .before .if1 .left) in
     let many = lt-leb _ _ (c .before .if2 .taken) in
     (rw (slot, many) (c .refused2 .ensures), rw (slot, many))
 
-mul-if3 : tie.Need-mul-if3
-mul-if3 c = search needs
-
-refused-requires-3 : tie.Need-refused-requires-3
-refused-requires-3 c κs = search needs
-
 returns-3 : tie.Need-returns-3
-unfolding slotSheetOf sheetCellsOf roomFor
+unfolding slotSheetWith sheetCellsWith roomFor
 returns-3 c =
     let slot = le-leb _ _ (c .before .before .before .if1 .left) in
     let few = le-leb _ _ (c .before .before .if2 .left) in
     let short = lt-leb _ _ (c .before .if3 .taken) in
     (rw (slot, few, short) (c .refused3 .ensures), rw (slot, few, short))
-
-lecden-slot-requires : tie.Need-lecden-slot-requires
-lecden-slot-requires c κs = search needs
-
-genion-slot-requires : tie.Need-genion-slot-requires
-genion-slot-requires c κs = search needs
-
-fobby-requires : tie.Need-fobby-requires
-fobby-requires c κs = search needs
-
-alosfv-slot-requires : tie.Need-alosfv-slot-requires
-alosfv-slot-requires c κs = search needs
-
-same-length : tie.Need-same-length
-same-length c = search needs
 
 returns-4 : tie.Need-returns-4
 returns-4 c =
@@ -92,17 +65,6 @@ returns-4 c =
 pub slot-sheet-spec : {M : Type 1} → statement M
 slot-sheet-spec =
     tie.close
-    (tie.spec
-    refused-requires
-    returns
-    refused-requires-2
-    returns-2
-    mul-if3
-    refused-requires-3
-    returns-3
-    lecden-slot-requires
-    genion-slot-requires
-    fobby-requires
-    alosfv-slot-requires
-    same-length
-    returns-4)
+    (tie.spec (λ c κs. search needs) returns (λ c κs. search needs) returns-2 (λ c. search needs)
+    (λ c κs. search needs) returns-3 (λ c κs. search needs) (λ c κs. search needs) (λ c κs. search needs)
+    (λ c κs. search needs) (λ c. search needs) returns-4)

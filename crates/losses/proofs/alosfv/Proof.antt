@@ -4,9 +4,6 @@ use borrow.Author.Needs.{needs}
 use Rattle.losses.proofs.alosfv.Statement.{statement}
 use Rattle.losses.proofs.alosfv.Tie as tie
 
-alosfv-slot-requires : tie.Need-alosfv-slot-requires
-alosfv-slot-requires c κs = search needs
-
 returns : tie.Need-returns
 unfolding alosfvAnswer
 returns c = rw (le-leb _ _ (c .before .if1 .taken), ← c .alosfv-slot .ensures)
@@ -16,4 +13,4 @@ unfolding alosfvAnswer
 returns-2 c = rw (lt-leb _ _ (c .if1 .left))
 
 pub alosfv-spec : {M : Type 1} → statement M
-alosfv-spec = tie.close (tie.spec alosfv-slot-requires returns returns-2)
+alosfv-spec = tie.close (tie.spec (λ c κs. search needs) returns returns-2)

@@ -7,15 +7,9 @@ returns : tie.Need-returns
 unfolding eLoss
 returns c = rw (c .if1 .taken)
 
-decayed-requires : tie.Need-decayed-requires
-decayed-requires c κs = search needs
-
-factor-requires : tie.Need-factor-requires
-factor-requires c κs = search needs
-
 returns-2 : tie.Need-returns-2
 unfolding eLoss
 returns-2 c = rw (c .before .before .if1 .left, ← c .before .decayed .ensures, ← c .factor .ensures)
 
 pub e-loss-spec : {M : Type 1} → statement M
-e-loss-spec = tie.close (tie.spec returns decayed-requires factor-requires returns-2)
+e-loss-spec = tie.close (tie.spec returns (λ c κs. search needs) (λ c κs. search needs) returns-2)

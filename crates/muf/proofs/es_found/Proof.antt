@@ -3,22 +3,11 @@ use borrow.Author.Needs.{needs}
 use Rattle.muf.proofs.es_found.Statement.{statement}
 use Rattle.muf.proofs.es_found.Tie as tie
 
-lower-spread-requires : tie.Need-lower-spread-requires
-lower-spread-requires c κs = search needs
-
-min-requires : tie.Need-min-requires
-min-requires c κs = search needs
-
-atan-requires : tie.Need-atan-requires
-atan-requires c κs = search needs
-
-line-requires : tie.Need-line-requires
-line-requires c κs = search needs
-
 returns : tie.Need-returns
 unfolding esFoundOf
 returns c = rw (c .before .before .before .before .before .before .before .before .before .before .struct-known .given .1, c .before .before .before .before .before .before .before .before .before .struct-known2 .given .1, c .before .before .before .before .before .before .before .before .struct-known3 .given .1, c .before .before .before .before .before .before .before .struct-known4 .given .1, ← c .before .before .before .before .before .before .lower-spread .ensures, ← c .before .before .before .before .before .min .ensures, c .before .before .before .before .struct-known5 .given .1, ← c .before .before .before .atan .ensures, c .before .before .struct-known6 .given .1, c .before .struct-known7 .given .1, ← c .line .ensures)
 
 pub es-found-spec : {M : Type 1} → statement M
 es-found-spec =
-    tie.close (tie.spec lower-spread-requires min-requires atan-requires line-requires returns)
+    tie.close
+    (tie.spec (λ c κs. search needs) (λ c κs. search needs) (λ c κs. search needs) (λ c κs. search needs) returns)

@@ -3,12 +3,6 @@ use borrow.Author.Needs.{needs}
 use Rattle.muf.proofs.in_domain.Statement.{statement}
 use Rattle.muf.proofs.in_domain.Tie as tie
 
-within-requires : tie.Need-within-requires
-within-requires c κs = search needs
-
-within-requires-2 : tie.Need-within-requires-2
-within-requires-2 c κs = search needs
-
 returns : tie.Need-returns
 unfolding inDomain
 returns c = rw (← c .before .before .before .before .before .within .ensures, c .before .before .before .before .if1 .taken, ← c .before .before .before .within2 .ensures, c .before .before .if2 .taken, c .before .struct-known .given .1, c .if3 .taken)
@@ -27,4 +21,5 @@ returns-4 c = rw (← c .before .within .ensures, c .if1 .left)
 
 pub in-domain-spec : {M : Type 1} → statement M
 in-domain-spec =
-    tie.close (tie.spec within-requires within-requires-2 returns returns-2 returns-3 returns-4)
+    tie.close
+    (tie.spec (λ c κs. search needs) (λ c κs. search needs) returns returns-2 returns-3 returns-4)

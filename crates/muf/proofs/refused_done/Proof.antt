@@ -3,12 +3,9 @@ use borrow.Author.Needs.{needs}
 use Rattle.muf.proofs.refused_done.Statement.{statement}
 use Rattle.muf.proofs.refused_done.Tie as tie
 
-refused-requires : tie.Need-refused-requires
-refused-requires c κs = search needs
-
 returns : tie.Need-returns
 unfolding refusedDone
 returns c = rw (← c .refused .ensures)
 
 pub refused-done-spec : {M : Type 1} → statement M
-refused-done-spec = tie.close (tie.spec refused-requires returns)
+refused-done-spec = tie.close (tie.spec (λ c κs. search needs) returns)

@@ -4,12 +4,9 @@ use borrow.Author.Needs.{needs}
 use Rattle.muf.proofs.row_count.Statement.{statement}
 use Rattle.muf.proofs.row_count.Tie as tie
 
-rows-taken-requires : tie.Need-rows-taken-requires
-rows-taken-requires c κs = search needs
-
 returns : tie.Need-returns
 unfolding rowsOf
 returns c = rw (← c .rows-taken .ensures)
 
 pub row-count-spec : {M : Type 1} → statement M
-row-count-spec = tie.close (tie.spec rows-taken-requires returns)
+row-count-spec = tie.close (tie.spec (λ c κs. search needs) returns)

@@ -5,19 +5,10 @@ use native.Mathlib.Omega.{arith}
 use mir.Facts.{fits-le, fits-lit}
 use Rattle.layer_mufs.proofs.Small.{controlling-small}
 use Rattle.muf.proofs.Lists.{lists-reach}
-use Rattle.muf.specs.Curmuf.{stepDoneOf}
+use Rattle.muf.specs.Curmuf.{stepDoneWith}
 use borrow.Author.Needs.{needs}
 use Rattle.muf.proofs.searched.Statement.{statement}
 use Rattle.muf.proofs.searched.Tie as tie
-
-in-domain-requires : tie.Need-in-domain-requires
-in-domain-requires c κs = search needs
-
-controlling-requires : tie.Need-controlling-requires
-controlling-requires c κs = search needs
-
-lists-reach-requires : tie.Need-lists-reach-requires
-lists-reach-requires c κs = search needs
 
 mul-lat : tie.Need-mul-lat
 mul-lat c =
@@ -40,37 +31,20 @@ worked-requires : tie.Need-worked-requires
 worked-requires c κs = let b = c .before .before .before .before .controlling in rw (b .ensures) (controlling-small _)
 
 returns : tie.Need-returns
-unfolding stepDoneOf
+unfolding stepDoneWith
 returns c = rw (← c .before .before .before .before .before .before .before .in-domain .ensures, c .before .before .before .before .before .before .if1 .taken, ← c .before .before .before .before .before .controlling .ensures, ← c .before .before .before .before .lists-reach .ensures, c .before .before .before .if2 .taken, ← c .before .before .before .before .before .controlling .ensures, ← c .worked .ensures)
 
-refused-done-requires : tie.Need-refused-done-requires
-refused-done-requires c κs = search needs
-
 returns-2 : tie.Need-returns-2
-unfolding stepDoneOf
+unfolding stepDoneWith
 returns-2 c = rw (← c .before .before .before .before .before .in-domain .ensures, c .before .before .before .before .if1 .taken, ← c .before .before .before .controlling .ensures, ← c .before .before .lists-reach .ensures, c .before .if2 .left, ← c .refused-done .ensures)
 
-refused-done-requires-2 : tie.Need-refused-done-requires-2
-refused-done-requires-2 c κs = search needs
-
 returns-3 : tie.Need-returns-3
-unfolding stepDoneOf
+unfolding stepDoneWith
 returns-3 c = rw (← c .before .before .in-domain .ensures, c .before .if1 .left, ← c .refused-done2 .ensures)
 
 pub searched-spec : {M : Type 1} → statement M
 searched-spec =
     tie.close
-    (tie.spec
-    in-domain-requires
-    controlling-requires
-    lists-reach-requires
-    mul-lat
-    shared-slice-read-lat
-    mul-clock
-    shared-slice-read-clock
-    worked-requires
-    returns
-    refused-done-requires
-    returns-2
-    refused-done-requires-2
+    (tie.spec (λ c κs. search needs) (λ c κs. search needs) (λ c κs. search needs) mul-lat shared-slice-read-lat
+    mul-clock shared-slice-read-clock worked-requires returns (λ c κs. search needs) returns-2 (λ c κs. search needs)
     returns-3)

@@ -56,7 +56,7 @@ use Rattle.layer_mufs.specs.declared.Circuit.{Circuit}
 use Rattle.layer_mufs.proofs.Circuit as Ci
 use Rattle.layer_mufs.proofs.Circuit.Laws as Ci′
 use Rattle.muf.specs.Sporadic.{esFrom, startOf}
-use Rattle.muf.specs.Curmuf.{takenRows, stepDoneOf, doneOf}
+use Rattle.muf.specs.Curmuf.{takenRows, stepDoneOf, doneWith}
 use Rattle.muf.specs.declared.EsStep.{EsStep}
 use Rattle.muf.proofs.EsStep as St
 use Rattle.muf.proofs.EsStep.Laws as St′
@@ -66,7 +66,7 @@ use Rattle.muf.proofs.Done.Laws as Do′
 use Rattle.muf.specs.declared.MufAnswer.{MufAnswer}
 use Rattle.muf.proofs.MufAnswer as An
 use Rattle.muf.proofs.MufAnswer.Laws as An′
-use Rattle.muf_records.specs.Records.{recordAt, recordsDoneOf, recordsBy}
+use Rattle.muf_records.specs.Records.{recordAt, recordsDoneWith, recordsDoneOf, recordsBy}
 use Rattle.muf_records.proofs.Rows.{records-below}
 use Rattle.muf_records.proofs.search as search′
 use Rattle.muf_records.proofs.search.Symbol as search-def
@@ -119,7 +119,7 @@ Worked s step f2d clat clck c r = r ≡ stepDoneOf s step f2d clat clck c
 
 -- so where the step is the search of the records
 of-records : (s : IonoState) (ys : List EsParams) (step : EsStep) (f2d clat clck : List Float) (c : Circuit) (r : Done) → step ≡ esFrom (recordAt ys) c (takenRows (length ys) (s .km)) 0 startOf → Worked s step f2d clat clck c r → r ≡ recordsDoneOf s ys f2d clat clck c
-unfolding recordsDoneOf doneOf
+unfolding recordsDoneWith doneWith
 of-records s ys step f2d clat clck c r e w = w ∙ ap (λ (z : EsStep). stepDoneOf s z f2d clat clck c) e
 
 module _ {M : Type 1} (𝓤 : URA M) (H : Heap 𝓤) (A : Atoms 𝓤) (mem″ : Memory → SProp 𝓤) (run : Routine → Fun 𝓤) where

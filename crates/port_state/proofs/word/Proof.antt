@@ -53,5 +53,4 @@ returns-2 c =
     rw (b ∙ e, less-neg (mag z), below-half (mag z) m) (word-neg z e)
 
 pub word-spec : {M : Type 1} → statement M
-word-spec =
-    tie.close (tie.spec cast-result returns sub-result cast-result-2 sub-result-2 returns-2)
+word-spec = tie.close (tie.spec cast-result returns sub-result cast-result-2 sub-result-2 returns-2)

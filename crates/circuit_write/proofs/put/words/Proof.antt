@@ -23,40 +23,10 @@ loop-holds : tie.Need-loop-holds Inv-loop μ-loop
 unfolding bytesOf
 loop-holds c = (omega arith, refl, refl)
 
-mul-word : tie.Need-mul-word Inv-loop μ-loop
-mul-word c = omega arith
-
-shared-slice-read-word : tie.Need-shared-slice-read-word Inv-loop μ-loop
-shared-slice-read-word c = omega arith
-
-mul-word-2 : tie.Need-mul-word-2 Inv-loop μ-loop
-mul-word-2 c = omega arith
-
-mul-word-3 : tie.Need-mul-word-3 Inv-loop μ-loop
-mul-word-3 c = omega arith
-
-add-word : tie.Need-add-word Inv-loop μ-loop
-add-word c = omega arith
-
-sub-word : tie.Need-sub-word Inv-loop μ-loop
-sub-word c = omega arith
-
-part-word-start : tie.Need-part-word-start Inv-loop μ-loop
-part-word-start c = omega arith
-
-part-word-end : tie.Need-part-word-end Inv-loop μ-loop
-part-word-end c = omega arith
-
 word-requires : tie.Need-word-requires Inv-loop μ-loop
 word-requires c κs =
     let l = c .before .before .before .loop in
     length-part (4 * l .i) 4 (l .out) (omega arith)
-
-add-i : tie.Need-add-i Inv-loop μ-loop
-add-i c = omega arith
-
-loop-less : tie.Need-loop-less Inv-loop μ-loop
-loop-less c = omega arith
 
 loop-again : tie.Need-loop-again Inv-loop μ-loop
 loop-again c =
@@ -87,21 +57,6 @@ returns c =
 pub words-spec : {M : Type 1} → statement M
 words-spec =
     tie.close
-    (tie.spec
-    Inv-loop
-    μ-loop
-    loop-holds
-    mul-word
-    shared-slice-read-word
-    mul-word-2
-    mul-word-3
-    add-word
-    sub-word
-    part-word-start
-    part-word-end
-    word-requires
-    add-i
-    loop-less
-    loop-again
-    same-length
-    returns)
+    (tie.spec Inv-loop μ-loop loop-holds (λ c. omega arith) (λ c. omega arith) (λ c. omega arith) (λ c. omega arith)
+    (λ c. omega arith) (λ c. omega arith) (λ c. omega arith) (λ c. omega arith) word-requires (λ c. omega arith)
+    (λ c. omega arith) loop-again same-length returns)

@@ -32,12 +32,6 @@ bounds-at c =
     let s = c .before in
     bounds (s .args .i) (s .args .x) (c .node-cosine .result) (s .args .e) ((s .args .x - c .node-cosine .result) * s .args .e) (s .pre .0, s .pre .1) (falls c) (s .pre .3) (product c)
 
-add-node-cosine : tie.Need-add-node-cosine
-add-node-cosine c = search needs
-
-node-cosine-requires : tie.Need-node-cosine-requires
-node-cosine-requires c κs = search needs
-
 sub-result : tie.Need-sub-result
 sub-result c = falls c .0
 
@@ -51,4 +45,6 @@ returns : tie.Need-returns
 returns c = let b = bounds-at c in (b .1, b .2, b .3)
 
 pub chord-spec : {M : Type 1} → statement M
-chord-spec = tie.close (tie.spec add-node-cosine node-cosine-requires sub-result mul-result sub-result-2 returns)
+chord-spec =
+    tie.close
+    (tie.spec (λ c. search needs) (λ c κs. search needs) sub-result mul-result sub-result-2 returns)

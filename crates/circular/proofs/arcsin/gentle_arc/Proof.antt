@@ -25,27 +25,6 @@ product c =
     let x = c .before .before .before in
     product-fits (x .node-cosine .result) (s .args .n) (subst (λ (x : ℕ). x < 2 ^ 32) (sym (x .node-cosine .ensures)) (node-slope (i s) (omega (arith, s .pre .1)) .0)) (omega (arith, s .pre .1))
 
-sub-i : tie.Need-sub-i
-sub-i c = search needs
-
-mul-y : tie.Need-mul-y
-mul-y c = search needs
-
-node-cosine-requires : tie.Need-node-cosine-requires
-node-cosine-requires c κs = search needs
-
-sub-chord : tie.Need-sub-chord
-sub-chord c = search needs
-
-chord-requires : tie.Need-chord-requires
-chord-requires c κs = search needs
-
-near-cosine-requires : tie.Need-near-cosine-requires
-near-cosine-requires c κs = search needs
-
-node-angle-requires : tie.Need-node-angle-requires
-node-angle-requires c κs = search needs
-
 mul-arc-sum : tie.Need-mul-arc-sum
 mul-arc-sum c = record { fits = product c }
 
@@ -73,4 +52,7 @@ returns c =
 
 pub gentle-arc-spec : {M : Type 1} → statement M
 gentle-arc-spec =
-    tie.close (tie.spec sub-i mul-y node-cosine-requires sub-chord chord-requires near-cosine-requires node-angle-requires mul-arc-sum mul-arc-sum-2 sub-arc-sum arc-sum-requires returns)
+    tie.close
+    (tie.spec (λ c. search needs) (λ c. search needs) (λ c κs. search needs) (λ c. search needs)
+    (λ c κs. search needs) (λ c κs. search needs) (λ c κs. search needs) mul-arc-sum mul-arc-sum-2 sub-arc-sum
+    arc-sum-requires returns)

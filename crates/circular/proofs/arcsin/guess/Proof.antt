@@ -41,17 +41,8 @@ above c = div-lt-iff-lt-mul (pow-pos (k c)) .0 (lt-suc-self (c .args .n / 2 ^ k 
 sub-k : tie.Need-sub-k
 sub-k c = let h = zeros c in omega arith
 
-power-requires : tie.Need-power-requires
-power-requires c κs = search needs
-
 sub-u : tie.Need-sub-u
 sub-u c = let e = c .power .ensures in let p = pow-pos (k (c .before)) in omega arith
-
-cast-u : tie.Need-cast-u
-cast-u c = search needs
-
-shr-u : tie.Need-shr-u
-shr-u c = search needs
 
 sub-u-2 : tie.Need-sub-u-2
 sub-u-2 c = let e = c .power .ensures in let q = quotient-lt (c .before) in omega arith
@@ -105,4 +96,6 @@ returns c = c .mean .ensures
 
 pub guess-spec : {M : Type 1} → statement M
 guess-spec =
-    tie.close (tie.spec sub-k power-requires sub-u cast-u shr-u sub-u-2 part-requires part-requires-2 add-part part-requires-3 sub-mean mean-requires returns)
+    tie.close
+    (tie.spec sub-k (λ c κs. search needs) sub-u (λ c. search needs) (λ c. search needs) sub-u-2 part-requires
+    part-requires-2 add-part part-requires-3 sub-mean mean-requires returns)

@@ -10,9 +10,6 @@ use Rattle.circular.proofs.AsinBits.{low-range}
 use Rattle.circular.proofs.arcsin.low_arc.Statement.{statement}
 use Rattle.circular.proofs.arcsin.low_arc.Tie as tie
 
-scaled-requires : tie.Need-scaled-requires
-scaled-requires c κs = search needs
-
 arc-sum-requires : tie.Need-arc-sum-requires
 arc-sum-requires c κs =
     let s = c .before in
@@ -22,4 +19,4 @@ returns : tie.Need-returns
 returns c = c .arc-sum .ensures ∙ ap (λ (x : ℕ). arcOf 0 x) (c .before .scaled .ensures)
 
 pub low-arc-spec : {M : Type 1} → statement M
-low-arc-spec = tie.close (tie.spec scaled-requires arc-sum-requires returns)
+low-arc-spec = tie.close (tie.spec (λ c κs. search needs) arc-sum-requires returns)

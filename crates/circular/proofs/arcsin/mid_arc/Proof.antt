@@ -5,17 +5,11 @@ use Rattle.circular.proofs.AsinBits.{gentle-is, steep-is}
 use Rattle.circular.proofs.arcsin.mid_arc.Statement.{statement}
 use Rattle.circular.proofs.arcsin.mid_arc.Tie as tie
 
-gentle-arc-requires : tie.Need-gentle-arc-requires
-gentle-arc-requires c κs = search needs
-
 returns : tie.Need-returns
 returns c = c .gentle-arc .ensures ∙ sym (gentle-is (c .before .before .args .n) (c .before .if1 .taken))
-
-steep-arc-requires : tie.Need-steep-arc-requires
-steep-arc-requires c κs = search needs
 
 returns-2 : tie.Need-returns-2
 returns-2 c = c .steep-arc .ensures ∙ sym (steep-is (c .before .before .args .n) (c .before .if1 .left))
 
 pub mid-arc-spec : {M : Type 1} → statement M
-mid-arc-spec = tie.close (tie.spec gentle-arc-requires returns steep-arc-requires returns-2)
+mid-arc-spec = tie.close (tie.spec (λ c κs. search needs) returns (λ c κs. search needs) returns-2)

@@ -20,20 +20,14 @@ above m n g e t l h = go (2 ^ 32 - g) (omega arith) (omega arith)
         let d : g + 2 * k ≡ 2 ^ 33 - g = omega arith in
         subst (λ (x : ℕ). m < g * x) d (omega (arith, e, q, f, ap (λ (x : ℕ). x * x) s))
 
-rest-of-square-requires : tie.Need-rest-of-square-requires
-rest-of-square-requires c κs = search needs
-
 mean-requires : tie.Need-mean-requires
 mean-requires c κs =
     let s = c .before in
     (s .pre .1, s .pre .2, above (c .rest-of-square .result) (s .args .n) (s .args .g) (c .rest-of-square .ensures .0) (s .pre .0) (s .pre .2) (s .pre .3))
-
-whole-root-requires : tie.Need-whole-root-requires
-whole-root-requires c κs = search needs
 
 returns : tie.Need-returns
 unfolding cosineOf
 returns c = c .whole-root .ensures ∙ ap root (c .before .before .rest-of-square .ensures .0)
 
 pub near-cosine-spec : {M : Type 1} → statement M
-near-cosine-spec = tie.close (tie.spec rest-of-square-requires mean-requires whole-root-requires returns)
+near-cosine-spec = tie.close (tie.spec (λ c κs. search needs) mean-requires (λ c κs. search needs) returns)

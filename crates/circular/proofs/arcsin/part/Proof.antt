@@ -21,11 +21,8 @@ mul-result c = let u = u-lt c in let h = c .pre .2 in go (c .args .u) (c .args .
     go : (u c : ℕ) → u * c ≤ (2 ^ 32 - 1) * (2 ^ 32 - 1) → Fits w64 (u * c)
     go u c h = omega arith
 
-shr-result : tie.Need-shr-result
-shr-result c = search needs
-
 returns : tie.Need-returns
 returns c = div-le-of-le-mul (2 ^ c .args .k) (mul-le-mul-right (c .args .c) (le-of-lt (c .pre .0)))
 
 pub part-spec : {M : Type 1} → statement M
-part-spec = tie.close (tie.spec mul-result shr-result returns)
+part-spec = tie.close (tie.spec mul-result (λ c. search needs) returns)

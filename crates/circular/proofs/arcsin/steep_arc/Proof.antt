@@ -31,14 +31,8 @@ placed c =
 product : (c : tie.After-cosine) → j c * 2 ^ 24 * c .before .args .n < 2 ^ 64
 product c = product-fits (j c * 2 ^ 24) (c .before .args .n) (let h = index c in omega arith) (c .before .pre .1)
 
-cosine-requires : tie.Need-cosine-requires
-cosine-requires c κs = search needs
-
 add-j : tie.Need-add-j
 add-j c = let h = small c in omega arith
-
-add-j-2 : tie.Need-add-j-2
-add-j-2 c = search needs
 
 node-cosine-requires : tie.Need-node-cosine-requires
 node-cosine-requires c κs = index c
@@ -78,4 +72,6 @@ returns c =
 
 pub steep-arc-spec : {M : Type 1} → statement M
 steep-arc-spec =
-    tie.close (tie.spec cosine-requires add-j add-j-2 node-cosine-requires node-angle-requires sub-arc-sum mul-arc-sum mul-arc-sum-2 mul-arc-sum-3 sub-arc-sum-2 arc-sum-requires returns)
+    tie.close
+    (tie.spec (λ c κs. search needs) add-j (λ c. search needs) node-cosine-requires node-angle-requires sub-arc-sum
+    mul-arc-sum mul-arc-sum-2 mul-arc-sum-3 sub-arc-sum-2 arc-sum-requires returns)

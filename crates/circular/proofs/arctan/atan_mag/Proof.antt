@@ -5,20 +5,11 @@ use borrow.Author.Needs.{needs}
 use Rattle.circular.proofs.arctan.atan_mag.Statement.{statement}
 use Rattle.circular.proofs.arctan.atan_mag.Tie as tie
 
-low-angle-requires : tie.Need-low-angle-requires
-low-angle-requires c κs = search needs
-
 returns : tie.Need-returns
 returns c = c .low-angle .ensures ∙ sym (low-is (c .before .before .args .a) (c .before .if1 .taken))
 
-mid-angle-requires : tie.Need-mid-angle-requires
-mid-angle-requires c κs = search needs
-
 returns-2 : tie.Need-returns-2
 returns-2 c = c .mid-angle .ensures ∙ sym (mid-is (c .before .before .before .args .a) (c .before .before .if1 .left) (c .before .if2 .taken))
-
-high-angle-requires : tie.Need-high-angle-requires
-high-angle-requires c κs = search needs
 
 returns-3 : tie.Need-returns-3
 returns-3 c = c .high-angle .ensures ∙ sym (high-is (c .before .before .before .args .a) (c .before .before .if1 .left) (c .before .if2 .left))
@@ -26,10 +17,4 @@ returns-3 c = c .high-angle .ensures ∙ sym (high-is (c .before .before .before
 pub atan-mag-spec : {M : Type 1} → statement M
 atan-mag-spec =
     tie.close
-    (tie.spec
-    low-angle-requires
-    returns
-    mid-angle-requires
-    returns-2
-    high-angle-requires
-    returns-3)
+    (tie.spec (λ c κs. search needs) returns (λ c κs. search needs) returns-2 (λ c κs. search needs) returns-3)

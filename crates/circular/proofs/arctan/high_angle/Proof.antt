@@ -80,21 +80,6 @@ den-least y n h = omega arith
 div-pos : (n : ℕ) → 2 ^ 16 * 2 ^ 8 ≤ n → 0 < n
 div-pos n h = omega arith
 
-add-n : tie.Need-add-n
-add-n c = search needs
-
-cast-n : tie.Need-cast-n
-cast-n c = search needs
-
-mul-n : tie.Need-mul-n
-mul-n c = search needs
-
-sub-power : tie.Need-sub-power
-sub-power c = search needs
-
-power-requires : tie.Need-power-requires
-power-requires c κs = search needs
-
 mul-i : tie.Need-mul-i
 mul-i c = let h = range c .1 in omega arith
 
@@ -149,4 +134,7 @@ returns c =
 
 pub high-angle-spec : {M : Type 1} → statement M
 high-angle-spec =
-    tie.close (tie.spec add-n cast-n mul-n sub-power power-requires mul-i add-i div-i add-j mul-quotient mul-quotient-2 sub-quotient mul-quotient-3 mul-quotient-4 add-quotient quotient-requires steep-angle-requires angle-sum-requires returns)
+    tie.close
+    (tie.spec (λ c. search needs) (λ c. search needs) (λ c. search needs) (λ c. search needs) (λ c κs. search needs)
+    mul-i add-i div-i add-j mul-quotient mul-quotient-2 sub-quotient mul-quotient-3 mul-quotient-4 add-quotient
+    quotient-requires steep-angle-requires angle-sum-requires returns)

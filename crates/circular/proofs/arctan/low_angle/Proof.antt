@@ -11,9 +11,6 @@ use borrow.Author.Needs.{needs}
 use Rattle.circular.proofs.arctan.low_angle.Statement.{statement}
 use Rattle.circular.proofs.arctan.low_angle.Tie as tie
 
-scaled-requires : tie.Need-scaled-requires
-scaled-requires c κs = search needs
-
 angle-sum-requires : tie.Need-angle-sum-requires
 angle-sum-requires c κs =
     let a = c .before .args .a in
@@ -23,4 +20,4 @@ returns : tie.Need-returns
 returns c = c .angle-sum .ensures ∙ ap (λ (x : ℕ). angleOf 0 x) (c .before .scaled .ensures)
 
 pub low-angle-spec : {M : Type 1} → statement M
-low-angle-spec = tie.close (tie.spec scaled-requires angle-sum-requires returns)
+low-angle-spec = tie.close (tie.spec (λ c κs. search needs) angle-sum-requires returns)

@@ -42,9 +42,6 @@ angle-of a b e h = omega arith
 less : (a b : ℕ) → a ≡ b → b ≤ 2 ^ 49 + 2 ^ 41 → a < 2 ^ 50
 less a b e h = omega arith
 
-scaled-requires : tie.Need-scaled-requires
-scaled-requires c κs = search needs
-
 mul-i : tie.Need-mul-i
 mul-i c = let h = range c .1 in omega arith
 
@@ -85,4 +82,7 @@ returns c =
     ∙ ap (λ (X : ℕ). gentleOf X (2 ^ 30) (2 ^ 20)) (c .before .before .before .scaled .ensures)
 
 pub mid-angle-spec : {M : Type 1} → statement M
-mid-angle-spec = tie.close (tie.spec scaled-requires mul-i sub-i mul-quotient mul-quotient-2 sub-quotient mul-quotient-3 add-quotient quotient-requires gentle-angle-requires angle-sum-requires returns)
+mid-angle-spec =
+    tie.close
+    (tie.spec (λ c κs. search needs) mul-i sub-i mul-quotient mul-quotient-2 sub-quotient mul-quotient-3 add-quotient
+    quotient-requires gentle-angle-requires angle-sum-requires returns)

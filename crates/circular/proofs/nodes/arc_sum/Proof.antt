@@ -10,9 +10,6 @@ use Rattle.circular.proofs.nodes.arc_sum.Tie as tie
 small : (c : tie.After-sixth) → c .sixth .result ≤ 2 ^ 38
 small c = subst (λ (x : ℕ). x ≤ 2 ^ 38) (sym (c .sixth .ensures)) (sixth-small (c .before .args .s) (c .before .pre .1))
 
-sixth-requires : tie.Need-sixth-requires
-sixth-requires c κs = search needs
-
 add-result : tie.Need-add-result
 add-result c = let h = small c in omega (arith, c .before .pre .1)
 
@@ -23,4 +20,4 @@ returns : tie.Need-returns
 returns c = ap (λ (x : ℕ). c .before .args .a + (c .before .args .s + x)) (c .sixth .ensures)
 
 pub arc-sum-spec : {M : Type 1} → statement M
-arc-sum-spec = tie.close (tie.spec sixth-requires add-result add-result-2 returns)
+arc-sum-spec = tie.close (tie.spec (λ c κs. search needs) add-result add-result-2 returns)

@@ -15,8 +15,5 @@ mul-result c = let f = sixth-fits (c .args .s / 2 ^ 24) (t-le c) .0 in omega ari
 mul-result-2 : tie.Need-mul-result-2
 mul-result-2 c = let f = sixth-fits (c .args .s / 2 ^ 24) (t-le c) .1 in omega arith
 
-returns : tie.Need-returns
-returns c = search needs
-
 pub sixth-spec : {M : Type 1} → statement M
-sixth-spec = tie.close (tie.spec mul-result mul-result-2 returns)
+sixth-spec = tie.close (tie.spec mul-result mul-result-2 (λ c. search needs))

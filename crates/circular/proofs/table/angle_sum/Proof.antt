@@ -12,9 +12,6 @@ use Rattle.circular.proofs.table.angle_sum.Tie as tie
 less : (r j q : ℕ) → r ≡ j → 4 * j ≤ q → r ≤ q
 less r j q e h = omega arith
 
-cube-requires : tie.Need-cube-requires
-cube-requires c κs = search needs
-
 sub-result : tie.Need-sub-result
 sub-result c = less (c .cube .result) (cubeOf (c .before .args .q)) (c .before .args .q) (c .cube .ensures) (cube-small (c .before .args .q) (le-of-lt (c .before .pre .1)))
 
@@ -25,4 +22,4 @@ returns : tie.Need-returns
 returns c = ap (λ (x : ℕ). c .before .args .a + (c .before .args .q - x)) (c .cube .ensures)
 
 pub angle-sum-spec : {M : Type 1} → statement M
-angle-sum-spec = tie.close (tie.spec cube-requires sub-result add-result returns)
+angle-sum-spec = tie.close (tie.spec (λ c κs. search needs) sub-result add-result returns)

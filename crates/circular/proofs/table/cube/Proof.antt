@@ -14,19 +14,10 @@ square q = ap (λ (y : ℕ). y / 2 ^ 64) (go q) ∙ mul-div-mul-right (q * q) (2
     go : (q : ℕ) → q * 256 * (q * 256) ≡ q * q * 2 ^ 16
     go q = omega arith
 
-mul-w : tie.Need-mul-w
-mul-w c = search needs
-
-high-product-requires : tie.Need-high-product-requires
-high-product-requires c κs = search needs
-
-high-product-requires-2 : tie.Need-high-product-requires-2
-high-product-requires-2 c κs = search needs
-
 returns : tie.Need-returns
 returns c =
     let q = c .before .before .args .q in
     ap (λ (x : ℕ). x / 3) (c .high-product2 .ensures ∙ ap (λ (x : ℕ). q * x / 2 ^ 64) (c .before .high-product .ensures ∙ square q))
 
 pub cube-spec : {M : Type 1} → statement M
-cube-spec = tie.close (tie.spec mul-w high-product-requires high-product-requires-2 returns)
+cube-spec = tie.close (tie.spec (λ c. search needs) (λ c κs. search needs) (λ c κs. search needs) returns)

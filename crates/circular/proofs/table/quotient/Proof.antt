@@ -31,27 +31,15 @@ is n d P = sym (ap (λ (x : ℕ). x / d) (go (n * 2 ^ 30 / d) (n * 2 ^ 30 % d) (
     go : (x y : ℕ) → x * d + y ≡ n * 2 ^ 30 → n * 2 ^ 56 ≡ x * 2 ^ 26 * d + y * 2 ^ 26
     go x y e = omega arith
 
-mul-m : tie.Need-mul-m
-mul-m c = search needs
-
-div-result : tie.Need-div-result
-div-result c = search needs
-
 mul-result : tie.Need-mul-result
 mul-result c =
     let h = high (c .args .n * 2 ^ 30) (c .args .d) (omega (arith, c .pre .0)) (c .pre .1) in
     omega arith
 
-rem-result : tie.Need-rem-result
-rem-result c = search needs
-
 mul-result-2 : tie.Need-mul-result-2
 mul-result-2 c =
     let h = low (c .args .n * 2 ^ 30) (c .args .d) (c .pre .1) in
     omega (arith, c .pre .2)
-
-div-result-2 : tie.Need-div-result-2
-div-result-2 c = search needs
 
 add-result : tie.Need-add-result
 add-result c =
@@ -64,4 +52,5 @@ returns c = is (c .args .n) (c .args .d) (lt-of-lt-of-le (lit< tt) (c .pre .1))
 pub quotient-spec : {M : Type 1} → statement M
 quotient-spec =
     tie.close
-    (tie.spec mul-m div-result mul-result rem-result mul-result-2 div-result-2 add-result returns)
+    (tie.spec (λ c. search needs) (λ c. search needs) mul-result (λ c. search needs) mul-result-2 (λ c. search needs)
+    add-result returns)

@@ -30,9 +30,6 @@ mul-x c = omega (arith, scaled-at c .1)
 sign-le : (c : tie.After-cos-sign) → c .cos-sign .result ≤ 1
 sign-le c = le-trans (le-of-eq (c .cos-sign .ensures)) (cos-sign-le (c .before .scaled .result * 2 ^ 26))
 
-cos-sign-requires : tie.Need-cos-sign-requires
-cos-sign-requires c κs = search needs
-
 mul-result : tie.Need-mul-result
 mul-result c = omega (arith, sign-le c)
 
@@ -64,4 +61,7 @@ returns-3 c =
     ∙ sym (large-bits cosine b (c .before .before .before .before .before .if1 .left) (c .before .before .before .before .if2 .left))
 
 pub cos-bits-spec : {M : Type 1} → statement M
-cos-bits-spec = tie.close (tie.spec returns returns-2 scaled-requires mul-x cos-sign-requires mul-result cos-fold-requires sine-at-requires add-result returns-3)
+cos-bits-spec =
+    tie.close
+    (tie.spec returns returns-2 scaled-requires mul-x (λ c κs. search needs) mul-result cos-fold-requires
+    sine-at-requires add-result returns-3)

@@ -8,17 +8,8 @@ use Rattle.circular.specs.SinCos.{halfTurn, threeQuarters}
 use Rattle.circular.proofs.waves.cos_fold.Statement.{statement}
 use Rattle.circular.proofs.waves.cos_fold.Tie as tie
 
-distance-requires : tie.Need-distance-requires
-distance-requires c κs = search needs
-
-sub-choose : tie.Need-sub-choose
-sub-choose c = search needs
-
-choose-requires : tie.Need-choose-requires
-choose-requires c κs = search needs
-
 returns : tie.Need-returns
 returns c = let x = c .before .before .args .x in c .choose .ensures ∙ ap (λ (d : ℕ). pick (leb x halfTurn) d (threeQuarters - x)) (c .before .distance .ensures)
 
 pub cos-fold-spec : {M : Type 1} → statement M
-cos-fold-spec = tie.close (tie.spec distance-requires sub-choose choose-requires returns)
+cos-fold-spec = tie.close (tie.spec (λ c κs. search needs) (λ c. search needs) (λ c κs. search needs) returns)

@@ -6,12 +6,6 @@ use Rattle.circular.proofs.Patterns.{chosen}
 use Rattle.circular.proofs.waves.distance.Statement.{statement}
 use Rattle.circular.proofs.waves.distance.Tie as tie
 
-choose-requires : tie.Need-choose-requires
-choose-requires c κs = search needs
-
-choose-requires-2 : tie.Need-choose-requires-2
-choose-requires-2 c κs = search needs
-
 sub-result : tie.Need-sub-result
 sub-result c = subst₂ (λ (u v : ℕ). u ≤ v) (sym (c .choose2 .ensures)) (sym (c .before .choose .ensures)) (chosen (c .before .before .args .x) (c .before .before .args .y) .0)
 
@@ -19,4 +13,4 @@ returns : tie.Need-returns
 returns c = ap₂ (λ (u v : ℕ). u - v) (c .before .choose .ensures) (c .choose2 .ensures) ∙ chosen (c .before .before .args .x) (c .before .before .args .y) .1
 
 pub distance-spec : {M : Type 1} → statement M
-distance-spec = tie.close (tie.spec choose-requires choose-requires-2 sub-result returns)
+distance-spec = tie.close (tie.spec (λ c κs. search needs) (λ c κs. search needs) sub-result returns)

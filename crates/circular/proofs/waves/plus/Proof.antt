@@ -17,9 +17,6 @@ second c = product-le (c .product2 .result) (c .before .before .args .w) (302995
 third : (c : tie.After-product3) → c .product3 .result ≤ 572662306 + c .before .product2 .result
 third c = product-le (c .product3 .result) (c .before .before .before .args .w) (572662306 + c .before .product2 .result) (c .before .before .before .pre) (c .product3 .ensures)
 
-product-requires : tie.Need-product-requires
-product-requires c κs = search needs
-
 add-product : tie.Need-add-product
 add-product c = omega (arith, first c)
 
@@ -41,4 +38,7 @@ returns c =
     ap (λ (x : ℕ). 4294967296 + x) (c .product3 .ensures ∙ ap (λ (x : ℕ). times w (572662306 + x)) (c .before .product2 .ensures ∙ ap (λ (x : ℕ). times w (3029959 + x)) (c .before .before .product .ensures)))
 
 pub plus-spec : {M : Type 1} → statement M
-plus-spec = tie.close (tie.spec product-requires add-product product-requires-2 add-product-2 product-requires-3 add-result returns)
+plus-spec =
+    tie.close
+    (tie.spec (λ c κs. search needs) add-product product-requires-2 add-product-2 product-requires-3 add-result
+    returns)

@@ -9,9 +9,6 @@ use Rattle.circular.proofs.Patterns.{times-lt, square-lt, taken-le, rat
 use Rattle.circular.proofs.waves.ratio.Statement.{statement}
 use Rattle.circular.proofs.waves.ratio.Tie as tie
 
-product-requires : tie.Need-product-requires
-product-requires c κs = search needs
-
 y-lt : (c : tie.After-product) → c .product .result < 2 ^ 32
 y-lt c = let q = square-lt (c .before .args .r) (c .before .pre) in subst (λ (x : ℕ). x < 2 ^ 32) (sym (c .product .ensures)) (times-lt (c .before .args .r / 2 ^ 30) (c .before .args .r / 2 ^ 30) q q)
 
@@ -48,4 +45,7 @@ unfolding ratioOf
 returns c = ap₂ (λ (x y : ℕ). x - y) (plus-is (c .before .before)) (minus-is c)
 
 pub ratio-spec : {M : Type 1} → statement M
-ratio-spec = tie.close (tie.spec product-requires product-requires-2 plus-requires minus-requires product-requires-3 sub-result returns)
+ratio-spec =
+    tie.close
+    (tie.spec (λ c κs. search needs) product-requires-2 plus-requires minus-requires product-requires-3 sub-result
+    returns)

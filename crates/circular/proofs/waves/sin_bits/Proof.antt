@@ -36,9 +36,6 @@ sin-sign-requires c κs = omega (arith, c .before .before .before .fits .b .fits
 mul-result : tie.Need-mul-result
 mul-result c = omega (arith, sign-le c)
 
-sin-fold-requires : tie.Need-sin-fold-requires
-sin-fold-requires c κs = search needs
-
 angle : (c : tie.After-sin-fold) → (0 < c .sin-fold .result) × (c .sin-fold .result < 2 ^ 62)
 angle c =
     let s = scaled-at (c .before .before) in
@@ -64,4 +61,7 @@ returns-3 c =
     ∙ sym (large-bits sine b (c .before .before .before .before .before .if1 .left) (c .before .before .before .before .if2 .left))
 
 pub sin-bits-spec : {M : Type 1} → statement M
-sin-bits-spec = tie.close (tie.spec returns returns-2 scaled-requires mul-x sin-sign-requires mul-result sin-fold-requires sine-at-requires add-result returns-3)
+sin-bits-spec =
+    tie.close
+    (tie.spec returns returns-2 scaled-requires mul-x sin-sign-requires mul-result (λ c κs. search needs)
+    sine-at-requires add-result returns-3)

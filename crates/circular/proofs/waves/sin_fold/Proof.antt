@@ -8,14 +8,8 @@ use Rattle.circular.specs.SinCos.{quarterTurn}
 use Rattle.circular.proofs.waves.sin_fold.Statement.{statement}
 use Rattle.circular.proofs.waves.sin_fold.Tie as tie
 
-distance-requires : tie.Need-distance-requires
-distance-requires c κs = search needs
-
-choose-requires : tie.Need-choose-requires
-choose-requires c κs = search needs
-
 returns : tie.Need-returns
 returns c = let x = c .before .before .args .x in c .choose .ensures ∙ ap (λ (d : ℕ). pick (leb x quarterTurn) x d) (c .before .distance .ensures)
 
 pub sin-fold-spec : {M : Type 1} → statement M
-sin-fold-spec = tie.close (tie.spec distance-requires choose-requires returns)
+sin-fold-spec = tie.close (tie.spec (λ c κs. search needs) (λ c κs. search needs) returns)

@@ -5,9 +5,6 @@ use Rattle.circular.proofs.Patterns.{sin-sign-kept, sin-sign-turned}
 use Rattle.circular.proofs.waves.sin_sign.Statement.{statement}
 use Rattle.circular.proofs.waves.sin_sign.Tie as tie
 
-sub-other : tie.Need-sub-other
-sub-other c = search needs
-
 returns : tie.Need-returns
 returns c = sym (sin-sign-kept (c .before .args .x) (c .before .args .t) (c .if1 .taken))
 
@@ -15,4 +12,4 @@ returns-2 : tie.Need-returns-2
 returns-2 c = sym (sin-sign-turned (c .before .args .x) (c .before .args .t) (c .if1 .left))
 
 pub sin-sign-spec : {M : Type 1} → statement M
-sin-sign-spec = tie.close (tie.spec sub-other returns returns-2)
+sin-sign-spec = tie.close (tie.spec (λ c. search needs) returns returns-2)

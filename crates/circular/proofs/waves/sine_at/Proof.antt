@@ -10,12 +10,6 @@ use Rattle.circular.proofs.Patterns.{top-of, Packed, packed}
 use Rattle.circular.proofs.waves.sine_at.Statement.{statement}
 use Rattle.circular.proofs.waves.sine_at.Tie as tie
 
-digits-requires : tie.Need-digits-requires
-digits-requires c κs = search needs
-
-ratio-requires : tie.Need-ratio-requires
-ratio-requires c κs = search needs
-
 is : (c : tie.After-ratio) → c .before .digits .result * c .ratio .result ≡ c .before .before .args .r * 2 ^ leadingZeros 64 (c .before .before .args .r) / 2 ^ 32 * ratioOf (c .before .before .args .r)
 is c = ap₂ (λ (x y : ℕ). x * y) (c .before .digits .ensures) (c .ratio .ensures)
 
@@ -48,4 +42,7 @@ unfolding sineAt
 returns c = ap (λ (x : ℕ). x - (leadingZeros 64 (c .before .before .before .args .r) + 5) * 2 ^ 23) (pack-is c)
 
 pub sine-at-spec : {M : Type 1} → statement M
-sine-at-spec = tie.close (tie.spec digits-requires ratio-requires mul-pack pack-requires add-result mul-result sub-result returns)
+sine-at-spec =
+    tie.close
+    (tie.spec (λ c κs. search needs) (λ c κs. search needs) mul-pack pack-requires add-result mul-result sub-result
+    returns)

@@ -3,15 +3,6 @@ use borrow.Author.Needs.{needs}
 use Rattle.ionogram.proofs.angles.count.Statement.{statement}
 use Rattle.ionogram.proofs.angles.count.Tie as tie
 
-sub-angle : tie.Need-sub-angle
-sub-angle c = search needs
-
-angle-requires : tie.Need-angle-requires
-angle-requires c κs = search needs
-
-raised-requires : tie.Need-raised-requires
-raised-requires c κs = search needs
-
 returns : tie.Need-returns
 unfolding countOf
 returns c = rw (c .before .before .before .if1 .taken, ← c .before .before .angle .ensures, c .before .if2 .taken, ← c .raised .ensures)
@@ -26,4 +17,5 @@ returns-3 c = rw (c .if1 .left)
 
 pub count-spec : {M : Type 1} → statement M
 count-spec =
-    tie.close (tie.spec sub-angle angle-requires raised-requires returns returns-2 returns-3)
+    tie.close
+    (tie.spec (λ c. search needs) (λ c κs. search needs) (λ c κs. search needs) returns returns-2 returns-3)

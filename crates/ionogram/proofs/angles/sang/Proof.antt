@@ -7,15 +7,9 @@ use Rattle.ionogram.proofs.Counts.{step-range, nangx-range}
 use Rattle.ionogram.proofs.angles.sang.Statement.{statement}
 use Rattle.ionogram.proofs.angles.sang.Tie as tie
 
-step-requires : tie.Need-step-requires
-step-requires c κs = search needs
-
 returns : tie.Need-returns
 unfolding sangOf
 returns c = rw (← c .before .step .ensures, c .if1 .taken)
-
-sub-nangx : tie.Need-sub-nangx
-sub-nangx c = search needs
 
 nangx-requires : tie.Need-nangx-requires
 nangx-requires c κs =
@@ -33,4 +27,5 @@ returns-2 c = rw (← c .before .before .before .step .ensures, ne-eqb _ _ (c .b
 
 pub sang-spec : {M : Type 1} → statement M
 sang-spec =
-    tie.close (tie.spec step-requires returns sub-nangx nangx-requires count-requires returns-2)
+    tie.close
+    (tie.spec (λ c κs. search needs) returns (λ c. search needs) nangx-requires count-requires returns-2)

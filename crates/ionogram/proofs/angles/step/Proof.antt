@@ -7,9 +7,6 @@ use Rattle.scalar.proofs.Casts.{castable}
 use Rattle.ionogram.proofs.angles.step.Statement.{statement}
 use Rattle.ionogram.proofs.angles.step.Tie as tie
 
-trunc-requires : tie.Need-trunc-requires
-trunc-requires c κs = search needs
-
 returns : tie.Need-returns
 unfolding stepOf
 returns c = rw (← c .before .trunc .ensures, rw (toZ-ofZ (sfits-of (c .before .trunc .ok))) at (c .if1 .taken))
@@ -29,4 +26,4 @@ unfolding stepOf
 returns-3 c = rw (← c .before .before .trunc .ensures, rw (toZ-ofZ (sfits-of (c .before .before .trunc .ok))) at (c .before .if1 .left), rw (toZ-ofZ (sfits-of (c .before .before .trunc .ok))) at (c .if2 .left), toZ-ofZ (sfits-of (c .before .before .trunc .ok)))
 
 pub step-spec : {M : Type 1} → statement M
-step-spec = tie.close (tie.spec trunc-requires returns returns-2 cast-result returns-3)
+step-spec = tie.close (tie.spec (λ c κs. search needs) returns returns-2 cast-result returns-3)

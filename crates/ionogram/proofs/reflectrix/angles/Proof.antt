@@ -20,23 +20,11 @@ loop-holds : tie.Need-loop-holds Inv-loop μ-loop
 unfolding anglesInto
 loop-holds c = (omega arith, refl)
 
-rcosd-requires : tie.Need-rcosd-requires Inv-loop μ-loop
-rcosd-requires c κs = omega arith
-
-mul-row : tie.Need-mul-row Inv-loop μ-loop
-mul-row c = omega arith
-
 row-requires : tie.Need-row-requires Inv-loop μ-loop
 row-requires c κs =
     let l = c .before .before .before .loop in
     let e : length (l .cells) ≡ length (c .before .before .before .before .args .cells .now) = ap length (l .inv .1) ∙ length-angles _ _ _ in
     omega arith
-
-add-ia : tie.Need-add-ia Inv-loop μ-loop
-add-ia c = omega arith
-
-loop-less : tie.Need-loop-less Inv-loop μ-loop
-loop-less c = omega arith
 
 loop-again : tie.Need-loop-again Inv-loop μ-loop
 unfolding anglesInto
@@ -53,15 +41,5 @@ returns c = c .before .loop .inv .1 ∙ ap (anglesInto _ _) (le-antisymm (c .bef
 pub angles-spec : {M : Type 1} → statement M
 angles-spec =
     tie.close
-    (tie.spec
-    Inv-loop
-    μ-loop
-    loop-holds
-    rcosd-requires
-    mul-row
-    row-requires
-    add-ia
-    loop-less
-    loop-again
-    same-length
-    returns)
+    (tie.spec Inv-loop μ-loop loop-holds (λ c κs. omega arith) (λ c. omega arith) row-requires (λ c. omega arith)
+    (λ c. omega arith) loop-again same-length returns)

@@ -9,21 +9,12 @@ returns : tie.Need-returns
 unfolding roomFor cellsAfter fobbyOutcome
 returns c = (rw (lt-leb _ _ (c .if1 .taken)), rw (lt-leb _ _ (c .if1 .taken)))
 
-mul-if2 : tie.Need-mul-if2
-mul-if2 c = search needs
-
 returns-2 : tie.Need-returns-2
 unfolding roomFor cellsAfter fobbyOutcome
 returns-2 c =
     let few = le-leb _ _ (c .before .if1 .left) in
     let short = lt-leb _ _ (c .if2 .taken) in
     (rw (few, short), rw (few, short))
-
-angles-requires : tie.Need-angles-requires
-angles-requires c κs = search needs
-
-same-length : tie.Need-same-length
-same-length c = search needs
 
 returns-3 : tie.Need-returns-3
 unfolding roomFor cellsAfter fobbyOutcome
@@ -33,4 +24,6 @@ returns-3 c =
     (rw (few, room), rw (few, room) (c .before .angles .ensures))
 
 pub fobby-spec : {M : Type 1} → statement M
-fobby-spec = tie.close (tie.spec returns mul-if2 returns-2 angles-requires same-length returns-3)
+fobby-spec =
+    tie.close
+    (tie.spec returns (λ c. search needs) returns-2 (λ c κs. search needs) (λ c. search needs) returns-3)

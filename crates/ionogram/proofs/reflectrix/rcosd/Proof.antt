@@ -3,15 +3,9 @@ use borrow.Author.Needs.{needs}
 use Rattle.ionogram.proofs.reflectrix.rcosd.Statement.{statement}
 use Rattle.ionogram.proofs.reflectrix.rcosd.Tie as tie
 
-angle-requires : tie.Need-angle-requires
-angle-requires c κs = search needs
-
-cos-requires : tie.Need-cos-requires
-cos-requires c κs = search needs
-
 returns : tie.Need-returns
 unfolding rcosdOf
 returns c = rw (← c .before .angle .ensures, ← c .cos .ensures)
 
 pub rcosd-spec : {M : Type 1} → statement M
-rcosd-spec = tie.close (tie.spec angle-requires cos-requires returns)
+rcosd-spec = tie.close (tie.spec (λ c κs. search needs) (λ c κs. search needs) returns)

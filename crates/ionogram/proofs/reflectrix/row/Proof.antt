@@ -22,21 +22,6 @@ loop-holds : tie.Need-loop-holds Inv-loop μ-loop
 unfolding rowInto
 loop-holds c = (omega arith, refl)
 
-mul-oblique : tie.Need-mul-oblique Inv-loop μ-loop
-mul-oblique c = omega arith
-
-element-copy-out-oblique : tie.Need-element-copy-out-oblique Inv-loop μ-loop
-element-copy-out-oblique c = omega arith
-
-mul-oblique-2 : tie.Need-mul-oblique-2 Inv-loop μ-loop
-mul-oblique-2 c = omega arith
-
-element-copy-out-oblique-2 : tie.Need-element-copy-out-oblique-2 Inv-loop μ-loop
-element-copy-out-oblique-2 c = omega arith
-
-oblique-requires : tie.Need-oblique-requires Inv-loop μ-loop
-oblique-requires c κs = search needs
-
 add-c : tie.Need-add-c Inv-loop μ-loop
 add-c c =
     let l = c .before .before .before .before .loop in
@@ -55,12 +40,6 @@ slice-set-from-c c =
     let e : length (l .cells) ≡ length (c .before .before .before .before .before .args .cells .now) = ap length (l .inv .1) ∙ length-row _ _ _ _ _ in
     omega arith
 
-add-ih : tie.Need-add-ih Inv-loop μ-loop
-add-ih c = omega arith
-
-loop-less : tie.Need-loop-less Inv-loop μ-loop
-loop-less c = omega arith
-
 loop-again : tie.Need-loop-again Inv-loop μ-loop
 unfolding rowInto cellOf
 loop-again c = (omega arith, rw (add-one _, ← c .before .before .before .before .loop .inv .1, toZ-ofZ (sfits-of (c .oblique .ok)), ← c .oblique .ensures))
@@ -74,20 +53,6 @@ returns c = c .before .loop .inv .1 ∙ ap (rowInto _ _ _ _) (le-antisymm (c .be
 pub row-spec : {M : Type 1} → statement M
 row-spec =
     tie.close
-    (tie.spec
-    Inv-loop
-    μ-loop
-    loop-holds
-    mul-oblique
-    element-copy-out-oblique
-    mul-oblique-2
-    element-copy-out-oblique-2
-    oblique-requires
-    add-c
-    mul-c
-    slice-set-from-c
-    add-ih
-    loop-less
-    loop-again
-    same-length
+    (tie.spec Inv-loop μ-loop loop-holds (λ c. omega arith) (λ c. omega arith) (λ c. omega arith) (λ c. omega arith)
+    (λ c κs. search needs) add-c mul-c slice-set-from-c (λ c. omega arith) (λ c. omega arith) loop-again same-length
     returns)

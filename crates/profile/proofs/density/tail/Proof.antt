@@ -8,12 +8,9 @@ returns : tie.Need-returns
 unfolding fndOf
 returns c = rw (c .if1 .taken)
 
-exp-requires : tie.Need-exp-requires
-exp-requires c κs = search needs
-
 returns-2 : tie.Need-returns-2
 unfolding fndOf
 returns-2 c = rw (c .before .before .before .if1 .left, ← c .exp .ensures)
 
 pub tail-spec : {M : Type 1} → statement M
-tail-spec = tie.close (tie.spec returns exp-requires returns-2)
+tail-spec = tie.close (tie.spec returns (λ c κs. search needs) returns-2)
