@@ -12,7 +12,7 @@ use Rattle.circular.specs.SinCos.{cosOf}
 use Rattle.circular.specs.Answers.{cosAnswer}
 use Rattle.circular.specs.declared.Answer.{Answer}
 use Rattle.layers.specs.State.{at}
-use Rattle.ionogram.specs.Angles.{ANG}
+use Rattle.reflectrix.specs.Angles.{ANG}
 use Rattle.angles.proofs.Angles.{Small, cos-answers}
 
 -- an angle of the list in radians, as in `rcosdOf`

@@ -28,11 +28,11 @@ use Rattle.layers.specs.declared.StateAnswer.{StateAnswer}
 use Rattle.layers.proofs.Counts.{three-at-most}
 use Rattle.layer_mufs.specs.Controlling.{compareEBy, compareE, controllingOf}
 use Rattle.layer_mufs.proofs.Small.{controlling-small}
-use Rattle.ionogram.specs.Angles.{ANG, NANGX, stepOf, raisedBy, raisedFrom, countBy, countOf, scanBy, sangOf}
-use Rattle.ionogram.specs.Fobby.{roomFor}
-use Rattle.ionogram.specs.declared.Scan.{Scan}
-use Rattle.ionogram.proofs.Counts.{step-range, nangx-range}
-use Rattle.hour.specs.Sheet.{slotSheetWith, slotSheetOf}
+use Rattle.reflectrix.specs.Angles.{ANG, NANGX, stepOf, raisedBy, raisedFrom, countBy, countOf, scanBy, sangOf}
+use Rattle.reflectrix.specs.Fobby.{roomFor}
+use Rattle.reflectrix.specs.declared.Scan.{Scan}
+use Rattle.reflectrix.proofs.Counts.{step-range, nangx-range}
+use Rattle.slot_sheet.specs.Sheet.{slotSheetWith, slotSheetOf}
 use Rattle.muf.specs.Curmuf.{listsReach}
 use Rattle.circuit_sheet.specs.CircuitSheet.{Circuit, paramsOf, columnOf, shapedOf, slotsOf}
 use Rattle.circuit_sheet.proofs.Sizes.{column-lent}

@@ -23,11 +23,11 @@ use Rattle.muf.specs.Hour.{zeroHour}
 use Rattle.muf.specs.Curmuf.{curmufOf}
 use Rattle.muf.specs.declared.MufHour.{MufHour}
 use Rattle.muf.specs.declared.MufAnswer.{MufAnswer}
-use Rattle.ionogram.specs.Angles.{sangOf}
-use Rattle.ionogram.specs.declared.Scan.{Scan}
-use Rattle.ionogram.specs.declared.Ionogram.{Ionogram}
+use Rattle.reflectrix.specs.Angles.{sangOf}
+use Rattle.reflectrix.specs.declared.Scan.{Scan}
+use Rattle.reflectrix.specs.declared.Ionogram.{Ionogram}
 use Rattle.sounding.specs.Genion.{noRows}
-use Rattle.hour.specs.Sheet.{slotSheetOf}
+use Rattle.slot_sheet.specs.Sheet.{slotSheetOf}
 use Rattle.circuit_sheet.specs.declared.Sheet.{Sheet}
 
 abbrev pub Circuit : Type 0

@@ -3,8 +3,8 @@ ghost use mathlib.Core.Path.{_≡_};
 ghost use Prim.Native.Nat.{_+_, _<_, _≤_};
 ghost use Rattle.circuit_sheet.specs.CircuitSheet.{threeAt, layersAt, paramsOf, esOf, columnOf, shapedOf, slotsOf, pathOf, mufOf, rowsOf, refusedOf, answeredOf, scannedOf, circuitSheetOf, sheetOf};
 ghost use Rattle.sounding.specs.Genion.{noRows};
-use ionogram::Ionogram;
-use ionogram::Scan;
+use reflectrix::Ionogram;
+use reflectrix::Scan;
 use layers::IonoState;
 use layers::LayerMuf;
 use layers::LayerParams;
@@ -145,7 +145,7 @@ fn slot_rows(s: IonoState, k: usize, nang: usize, lines: [LayerMuf; 4]) -> Ionog
 {
     if k < s.kfx {
         let mut cells = [0i32; 1200];
-        let a = hour::slot_sheet(s, k, nang, lines, &mut cells);
+        let a = slot_sheet::slot_sheet(s, k, nang, lines, &mut cells);
         return a.ion;
     }
     no_rows()
@@ -203,7 +203,7 @@ fn of_circuit(c: circuit::Circuit) -> Sheet
 {
     let gcdkm = scalar::number(c.gcdkm);
     let amind = scalar::number(c.amind);
-    let scan = ionogram::sang(gcdkm, amind);
+    let scan = reflectrix::sang(gcdkm, amind);
     match scan {
         Scan::Angles(nang) => scanned(c, nang),
         Scan::Refused(r) => refused(r),

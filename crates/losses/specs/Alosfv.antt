@@ -15,8 +15,8 @@ use Rattle.refusal.specs.declared.Outcome.{Outcome}
 use Rattle.layers.specs.State.{at}
 use Rattle.layers.specs.declared.IonoState.{IonoState}
 use Rattle.layers.specs.declared.LayerMuf.{LayerMuf}
-use Rattle.ionogram.specs.declared.Ionogram.{Ionogram}
-use Rattle.ionogram.specs.declared.IonogramAnswer.{IonogramAnswer}
+use Rattle.reflectrix.specs.declared.Ionogram.{Ionogram}
+use Rattle.reflectrix.specs.declared.IonogramAnswer.{IonogramAnswer}
 use Rattle.losses.specs.declared.Factors.{Factors}
 use Rattle.losses.specs.declared.Decay.{Decay}
 use Rattle.losses.specs.declared.Loss.{Loss}

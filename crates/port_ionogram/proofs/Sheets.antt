@@ -6,8 +6,8 @@ use lib.ListN.{length}
 use borrow.Author.Tests.{le-leb, lt-leb, le-ltb}
 use Rattle.refusal.specs.declared.Refusal.{Refusal}
 use Rattle.refusal.specs.declared.Outcome.{Outcome}
-use Rattle.ionogram.specs.Fobby.{fobbyOutcome, cellsAfter}
-use Rattle.hour.specs.Sheet.{slotSheetWith}
+use Rattle.reflectrix.specs.Fobby.{fobbyOutcome, cellsAfter}
+use Rattle.slot_sheet.specs.Sheet.{slotSheetWith}
 use Rattle.port_state.specs.State.{stateInto}
 use Rattle.port_state.specs.Ports.{Ported, refusedWith}
 use Rattle.port_ionogram.specs.Layouts.{cellsOf, cellsInto, ionogramOf, ionogramInto}

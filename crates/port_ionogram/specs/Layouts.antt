@@ -6,7 +6,7 @@ use lib.ListN.{length, take, drop}
 use lib.Ieee.{Float, binary32, ofBits}
 use Rattle.port_state.specs.Words.{word, floatsOf, floatsInto, signedOf, wordOf}
 use Rattle.layers.specs.declared.LayerMuf.{LayerMuf}
-use Rattle.ionogram.specs.declared.Ionogram.{Ionogram}
+use Rattle.reflectrix.specs.declared.Ionogram.{Ionogram}
 
 -- the first n words as cells
 unfoldable pub cellsOf : List ℕ → ℕ → List ℤ

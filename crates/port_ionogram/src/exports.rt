@@ -3,17 +3,17 @@ ghost use mathlib.Core.Path.{_≡_};
 ghost use Prim.Native.Nat.{_*_, _≤_};
 ghost use lib.ListN.{length};
 ghost use denote.Ref.{now};
-ghost use Rattle.ionogram.specs.Angles.{scanValue};
-ghost use Rattle.ionogram.specs.Fobby.{cellsAfter};
-ghost use Rattle.hour.specs.Sheet.{slotSheetOf, sheetCellsOf};
+ghost use Rattle.reflectrix.specs.Angles.{scanValue};
+ghost use Rattle.reflectrix.specs.Fobby.{cellsAfter};
+ghost use Rattle.slot_sheet.specs.Sheet.{slotSheetOf, sheetCellsOf};
 ghost use Rattle.port_state.specs.State.{stateInto};
 ghost use Rattle.port_ionogram.specs.Layouts.{cellsOf, cellsInto, ionogramInto};
 ghost use Rattle.port_ionogram.specs.Exports.{scanInto, rowsInto, portSang, portSelmod, portGenion, portFobby, portAlosfv, sheetOn, sheetCellsOn, portSheet};
 use super::layouts;
-use hour::SlotSheet;
-use ionogram::Ionogram;
-use ionogram::IonogramAnswer;
-use ionogram::Scan;
+use slot_sheet::SlotSheet;
+use reflectrix::Ionogram;
+use reflectrix::IonogramAnswer;
+use reflectrix::Scan;
 use layers::IonoState;
 use layers::LayerMuf;
 use refusal::Outcome;
@@ -22,9 +22,9 @@ fn scan_into(a: Scan, out: &mut [u32]) -> u32
     requires { ⌜ (1 ≤ length (now out)) × (scanValue a ≤ 40) ⌝ }
     ensures { λ r. ⌜ (r ≡ scanInto a (now (out .entry)) .number) × (now (out .exit) ≡ scanInto a (now (out .entry)) .words) ⌝ }
 {
-    let number = ionogram::scan_number(a);
+    let number = reflectrix::scan_number(a);
     if number == 0 {
-        let n = ionogram::scan_value(a);
+        let n = reflectrix::scan_value(a);
         out[0] = n as u32;
         return number;
     }
@@ -41,7 +41,7 @@ pub extern "C" fn port_sang(gcdkm: u32, amind: u32, out: &mut [u32]) -> u32
     }
     let km = scalar::number(gcdkm);
     let least = scalar::number(amind);
-    let a = ionogram::sang(km, least);
+    let a = reflectrix::sang(km, least);
     scan_into(a, out)
 }
 
@@ -57,7 +57,7 @@ pub extern "C" fn port_selmod(state: &[u32], out: &mut [u32]) -> u32
         return 1;
     }
     let s = port_state::state_of(state);
-    let k = ionogram::selmod(s);
+    let k = reflectrix::selmod(s);
     out[0] = k as u32;
     0
 }
@@ -120,7 +120,7 @@ fn fobby_by(ion: Ionogram, nang: usize, c: &mut [i32], cells: &mut [u32])
     ensures { λ _. ⌜ now (cells .exit) ≡ cellsInto (now (cells .entry)) (cellsAfter ion nang (cellsOf (now (cells .entry)) (30 * nang))) ⌝ }
 {
     layouts::cells_of(cells, c);
-    ionogram::fobby(ion, nang, c);
+    reflectrix::fobby(ion, nang, c);
     layouts::cells_into(c, cells);
 }
 
@@ -159,7 +159,7 @@ fn sheet_by(
     ensures { λ r. ⌜ (r ≡ slotSheetOf s k nang layers (cellsOf (now (cells .entry)) (30 * nang))) × (now (cells .exit) ≡ cellsInto (now (cells .entry)) (sheetCellsOf s k nang (cellsOf (now (cells .entry)) (30 * nang)))) ⌝ }
 {
     layouts::cells_of(cells, c);
-    let a = hour::slot_sheet(s, k, nang, layers, c);
+    let a = slot_sheet::slot_sheet(s, k, nang, layers, c);
     layouts::cells_into(c, cells);
     a
 }

@@ -5,7 +5,7 @@ ghost use lib.ListN.{length};
 ghost use denote.Ref.{now};
 ghost use Rattle.port_state.specs.Words.{floatsOf, floatsInto};
 ghost use Rattle.port_ionogram.specs.Layouts.{cellsOf, cellsInto, ionogramOf, ionogramInto, lineOf, linesOf};
-use ionogram::Ionogram;
+use reflectrix::Ionogram;
 use layers::LayerMuf;
 
 // As many cells as are lent.

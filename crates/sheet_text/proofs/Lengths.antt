@@ -11,7 +11,7 @@ use Rattle.lines.specs.Text.{space}
 use Rattle.lines.proofs.Sizes.{AtMost, _then_, word, line-feed, decimal, digits-below, field, hex, times}
 use Rattle.layers.specs.State.{at}
 use Rattle.muf.specs.declared.MufHour.{MufHour}
-use Rattle.ionogram.specs.declared.Ionogram.{Ionogram}
+use Rattle.reflectrix.specs.declared.Ionogram.{Ionogram}
 use Rattle.circuit_sheet.specs.declared.Sheet.{Sheet}
 use Rattle.sheet_text.specs.Call.{tenthsOf, point, cutText, callBy, callField}
 use Rattle.sheet_text.specs.SheetText.{bitsField, mufWord, callWord, slotWord, mufFields, natural, mufLine, callLine, rowFields, rowLine, slotLine, slotText, noIonogram, slotAt, answeredText}

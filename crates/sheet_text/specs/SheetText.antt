@@ -8,7 +8,7 @@ use Rattle.refusal.specs.declared.Outcome.{Outcome}
 use Rattle.lines.specs.Text.{space, lineFeed, decimalOf, hexOf, fieldOf, refusedText, joined}
 use Rattle.layers.specs.State.{at}
 use Rattle.muf.specs.declared.MufHour.{MufHour}
-use Rattle.ionogram.specs.declared.Ionogram.{Ionogram}
+use Rattle.reflectrix.specs.declared.Ionogram.{Ionogram}
 use Rattle.circuit_sheet.specs.declared.Sheet.{Sheet}
 use Rattle.circuit_sheet.specs.CircuitSheet.{sheetOf}
 use Rattle.sheet_text.specs.Call.{callField}

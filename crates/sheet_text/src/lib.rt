@@ -7,7 +7,7 @@ ghost use Rattle.io.specs.Counts.{Counts};
 ghost use Rattle.lines.specs.Text.{joined, Clipped, Put};
 ghost use Rattle.sheet_text.specs.SheetText.{bitsField, natural, mufFields, mufLine, callLine, rowFields, rowLine, slotLine, slotText, slotAt, answeredText, sheetText};
 use circuit_sheet::Sheet;
-use ionogram::Ionogram;
+use reflectrix::Ionogram;
 use muf::MufHour;
 use refusal::Outcome;
 

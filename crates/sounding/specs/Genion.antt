@@ -16,8 +16,8 @@ use Rattle.heights.specs.Xlin.{xlinOf}
 use Rattle.heights.specs.Bendy.{bendyOf, penOf}
 use Rattle.refusal.specs.declared.Refusal.{Refusal}
 use Rattle.refusal.specs.declared.Outcome.{Outcome}
-use Rattle.ionogram.specs.declared.Ionogram.{Ionogram}
-use Rattle.ionogram.specs.declared.IonogramAnswer.{IonogramAnswer}
+use Rattle.reflectrix.specs.declared.Ionogram.{Ionogram}
+use Rattle.reflectrix.specs.declared.IonogramAnswer.{IonogramAnswer}
 use Rattle.sounding.specs.Grid.{fvertOf}
 
 -- the first ten rows where the profile does not give them: true heights, then virtual ones, of an E parabola that peaks at 110 km and is 20 km in semi-thickness. The other rows are zero

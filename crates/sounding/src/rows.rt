@@ -9,7 +9,7 @@ ghost use Rattle.scalar.specs.Literals.{f0};
 ghost use Rattle.heights.specs.Gethp.{gethpOf};
 ghost use Rattle.profile.specs.Rising.{risesOf};
 ghost use Rattle.sounding.specs.Genion.{HTE as Genion·HTE, HPE as Genion·HPE, rowsOf, allByProfile, trueByProfile, virtualByParabola, made, rowsBy, rowsWith};
-use ionogram::Ionogram;
+use reflectrix::Ionogram;
 use layers::IonoState;
 
 const HTE: [f32; 30] = [

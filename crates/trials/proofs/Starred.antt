@@ -7,7 +7,7 @@ use Rattle.scalar.specs.Root.{sqrtOf}
 use Rattle.layers.specs.FromLayers.{fromLayersOf, countTaken, emptyOf, pointsSet, pointSet, rowSet}
 use Rattle.layers.specs.Ionset.{ionsetOf, assignedOf, slotsSettled, slotSettled, f1Settled, f2Settled, tooClose}
 use Rattle.deciles.specs.F2dis.{f2disOf, iccOf, timeBlockOf}
-use Rattle.ionogram.specs.Angles.{sangOf, stepOf, countOf, raisedFrom, ANG, NANGX}
+use Rattle.reflectrix.specs.Angles.{sangOf, stepOf, countOf, raisedFrom, ANG, NANGX}
 use Rattle.trials.specs.Starred.{Holds, starred, resultOf}
 
 pub starred-trials : Holds starred

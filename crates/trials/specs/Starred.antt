@@ -14,7 +14,7 @@ use Rattle.layers.specs.declared.LayerParams.{LayerParams}
 use Rattle.layers.specs.FromLayers.{fromLayersOf}
 use Rattle.layers.specs.Ionset.{ionsetOf}
 use Rattle.deciles.specs.F2dis.{iccOf, f2disOf, deviationNumber}
-use Rattle.ionogram.specs.Angles.{sangOf, scanNumber, scanValue}
+use Rattle.reflectrix.specs.Angles.{sangOf, scanNumber, scanValue}
 
 pub data Trial : Type 0 where
   -- `sang` at gcdkm and amind

@@ -3,8 +3,8 @@
 // specs/Starred.antt.
 ghost use Prim.Native.Nat.{_<_, _≤_};
 use circular::Answer;
-use hour::SlotSheet;
-use ionogram::Ionogram;
+use slot_sheet::SlotSheet;
+use reflectrix::Ionogram;
 use layer_mufs::Circuit;
 use layers::IonoState;
 use layers::LayerMuf;
@@ -52,7 +52,7 @@ fn no_layers() -> [LayerMuf; 4] {
 
 fn sheet_of(s: IonoState, nang: usize, cells: &mut [i32]) -> SlotSheet {
     let lines = no_layers();
-    hour::slot_sheet(s, 0, nang, lines, cells)
+    slot_sheet::slot_sheet(s, 0, nang, lines, cells)
 }
 
 // A sheet of so many angles into the first n cells.
@@ -206,7 +206,7 @@ fn slot_numbers() {
     );
     let mut cells = [0i32; 30];
     let lines = no_layers();
-    let x = hour::slot_sheet(s, 3, 41, lines, &mut cells);
+    let x = slot_sheet::slot_sheet(s, 3, 41, lines, &mut cells);
     say(b"sheet of slot 3, 41 angles: ", refused(x));
 }
 

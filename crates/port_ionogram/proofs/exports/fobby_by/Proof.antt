@@ -4,8 +4,8 @@ use mathlib.Core.List.{List}
 use Prim.Native.Nat.{ℕ, _*_}
 use lib.IntN.{ℤ}
 use lib.ListN.{length}
-use Rattle.ionogram.specs.Fobby.{cellsAfter}
-use Rattle.ionogram.specs.declared.Ionogram.{Ionogram}
+use Rattle.reflectrix.specs.Fobby.{cellsAfter}
+use Rattle.reflectrix.specs.declared.Ionogram.{Ionogram}
 use Rattle.port_ionogram.specs.Layouts.{cellsOf, cellsInto}
 use borrow.Author.Needs.{needs}
 use Rattle.port_ionogram.proofs.exports.fobby_by.Statement.{statement}

@@ -6,8 +6,8 @@ use lib.IntN.{ℤ}
 use lib.ListN.{length}
 use Rattle.layers.specs.declared.IonoState.{IonoState}
 use Rattle.layers.specs.declared.LayerMuf.{LayerMuf}
-use Rattle.hour.specs.Sheet.{slotSheetOf, sheetCellsOf}
-use Rattle.hour.specs.declared.SlotSheet.{SlotSheet}
+use Rattle.slot_sheet.specs.Sheet.{slotSheetOf, sheetCellsOf}
+use Rattle.slot_sheet.specs.declared.SlotSheet.{SlotSheet}
 use Rattle.port_ionogram.specs.Layouts.{cellsOf, cellsInto}
 use borrow.Author.Needs.{needs}
 use Rattle.port_ionogram.proofs.exports.sheet_by.Statement.{statement}

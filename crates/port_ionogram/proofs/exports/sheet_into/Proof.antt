@@ -6,8 +6,8 @@ use Prim.Native.Nat.{ℕ, _*_}
 use native.Mathlib.Omega.{arith}
 use Rattle.layers.specs.declared.IonoState.{IonoState}
 use Rattle.layers.specs.declared.LayerMuf.{LayerMuf}
-use Rattle.hour.specs.Sheet.{slotSheetOf, sheetCellsOf}
-use Rattle.hour.specs.declared.SlotSheet.{SlotSheet}
+use Rattle.slot_sheet.specs.Sheet.{slotSheetOf, sheetCellsOf}
+use Rattle.slot_sheet.specs.declared.SlotSheet.{SlotSheet}
 use Rattle.port_state.specs.State.{stateOf, stateInto}
 use Rattle.port_ionogram.specs.Layouts.{cellsOf, cellsInto, ionogramInto, linesOf}
 use Rattle.port_ionogram.specs.Exports.{sheetOn, sheetCellsOn}
