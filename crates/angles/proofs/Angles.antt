@@ -25,7 +25,8 @@ use Rattle.circular.specs.Atan.{atanBits, atanOf}
 use Rattle.circular.specs.Answers.{sinAnswer, cosAnswer}
 use Rattle.circular.specs.declared.Answer.{Answer}
 use Rattle.circular.proofs.Within.{atan-within}
-use Rattle.hops.specs.Geometry.{D2R, PIO2, RZ, hopRatioOf, hopsBy, hopsOf, psiOf, delOf}
+use Rattle.constants.specs.Constants.{D2R, PIO2, RZ}
+use Rattle.hops.specs.Geometry.{hopRatioOf, hopsBy, hopsOf, psiOf, delOf}
 use Rattle.hops.specs.declared.Hops.{Hops}
 use Rattle.angles.proofs.Keys.{Above, UpTo, From, Between, quotient, product, product-from, difference, finite-of, key-range}
 

@@ -7,9 +7,9 @@ use native.Mathlib.Nat.{add-zero}
 use lib.IntN.{ℤ, pos}
 use lib.Signed.{ltZ}
 use lib.Ieee.{Float}
-use Rattle.scalar.specs.F32.{_-f_, _≤f_, _>f_}
+use Rattle.scalar.specs.F32.{_-f_, _≤f_, _>f_, at}
 use Rattle.scalar.specs.Literals.{f0}
-use Rattle.layers.specs.State.{at}
+use Rattle.layers.specs.State.{profileOnly}
 use Rattle.layers.specs.declared.IonoState.{IonoState}
 use Rattle.layers.specs.declared.LayerMuf.{LayerMuf}
 use Rattle.profile.specs.Lecden.{slotAt}
@@ -18,14 +18,14 @@ use Rattle.heights.specs.Gethp.{Finder, gethpOf}
 use Rattle.heights.specs.Bendy.{bendyOf, penOf}
 use Rattle.heights.proofs.Finders.{FindAlike}
 use Rattle.reflectrix.specs.declared.Ionogram.{Ionogram}
-use Rattle.sounding.specs.Genion.{HTE, HPE, rowsOf, trueByProfile, virtualByParabola, virtualBy, made, rowsBy, fvertAt, allByProfile, rowsWith, genionWith}
+use Rattle.sounding.specs.Genion.{HTE, HPE, rowsOf, trueByProfile, virtualByParabola, virtualBy, made, rowsBy, fvertAt, rowsWith, genionWith}
 use Rattle.sounding.proofs.Ways.{rows-agree}
 use Rattle.losses.specs.Alosfv.{eRows, lineAt, aboveBy, aboveOf, notBelowZeros, withAfac, alosfvOf}
 use Rattle.losses.specs.declared.Factors.{Factors}
 use Rattle.losses.specs.declared.Decay.{Decay}
 use Rattle.hops.specs.Geometry.{geometryOf}
 use Rattle.layer_mufs.specs.Tangents.{tangentsOf}
-use Rattle.layer_mufs.specs.Lines.{byProfileOf, readWith, eHeightsBy, eHeightsWith, eLineBy, eLineWith, parabolicOf, f2HeightsBy, f2HeightsWith, f2LineBy, f2LineWith, f1OwnBy, f1OwnWith, f1LineBy, f1LineWith}
+use Rattle.layer_mufs.specs.Lines.{readWith, eHeightsBy, eHeightsWith, eLineBy, eLineWith, parabolicOf, f2HeightsBy, f2HeightsWith, f2LineBy, f2LineWith, f1OwnBy, f1OwnWith, f1LineBy, f1LineWith}
 use Rattle.layer_mufs.specs.declared.Circuit.{Circuit}
 use Rattle.layer_mufs.specs.declared.Tangents.{Tangents}
 use Rattle.layer_mufs.specs.declared.Pair.{Pair}
@@ -114,7 +114,7 @@ module _ (find other : Finder) (u v : IonoState) (k : ℕ) (a : Alike u v k) (fo
       ∙ ap (λ (htrue : List Float). made fv (rowsOf (λ f. virtualBy (at (v .fi) (3 * k + 1) >f f0) other v k f) fv 10 HPE 20) htrue) (rows-agree (λ f. trueByProfile u f) (λ f. trueByProfile v f) (true-same u v k a) fv 10 HTE 20)
 
   pub genion-same : genionWith find u k ≡ genionWith other v k
-  unfolding genionWith rowsWith allByProfile
+  unfolding genionWith rowsWith profileOnly
   genion-same =
       rows-same (ltZ (u .iedp) (pos 0)) (fvertAt u k) ∙ ap (λ (i : ℤ). rowsBy (ltZ i (pos 0)) other v k (fvertAt u k)) (a .iedp-same) ∙ ap (λ (fv : List Float). rowsBy (ltZ (v .iedp) (pos 0)) other v k fv) (fvert-same u v k a)
 
@@ -144,8 +144,8 @@ alosfv-same u v k a ion layers =
 
 -- ---- the layers' MUF lines
 
-shape-same : (u v : IonoState) (k : ℕ) → Alike u v k → byProfileOf u ≡ byProfileOf v
-unfolding byProfileOf
+shape-same : (u v : IonoState) (k : ℕ) → Alike u v k → profileOnly u ≡ profileOnly v
+unfolding profileOnly
 shape-same u v k a = rw (a .iedp-same)
 
 parabolic-same : (u v : IonoState) (k : ℕ) → Alike u v k → (l : Slot) (x : Tangents) → parabolicOf u l k x ≡ parabolicOf v l k x
@@ -164,7 +164,7 @@ module _ (find other : Finder) (u v : IonoState) (k : ℕ) (a : Alike u v k) (fo
   unfolding eLineWith eHeightsWith
   e-line-same fxe gcdkm amind =
       ap (λ (h : Pair). eLineBy (geometryOf gcdkm amind (h .hp) (h .ht) true) h fxe)
-      (e-heights-by (byProfileOf u) fxe ∙ ap (λ (b : Bool). eHeightsBy b other v fxe) (shape-same u v k a))
+      (e-heights-by (profileOnly u) fxe ∙ ap (λ (b : Bool). eHeightsBy b other v fxe) (shape-same u v k a))
 
   f2-heights-by : (b f1 : Bool) (l : Slot) (x : Tangents) → f2HeightsBy b f1 find u l k x ≡ f2HeightsBy b f1 other v l k x
   f2-heights-by true f1 l x = read-same (x .fx2)
@@ -175,7 +175,7 @@ module _ (find other : Finder) (u v : IonoState) (k : ℕ) (a : Alike u v k) (fo
   unfolding f2LineWith f2HeightsWith
   f2-line-same l x f2d clat clck c =
       ap (λ (h : Pair). f2LineBy (geometryOf (c .gcdkm) (c .amind) (h .hp) (h .ht) false) l h x f2d clat clck c)
-      (f2-heights-by (byProfileOf u) (l .fi1 >f f0) l x ∙ ap (λ (b : Bool). f2HeightsBy b (l .fi1 >f f0) other v l k x) (shape-same u v k a))
+      (f2-heights-by (profileOnly u) (l .fi1 >f f0) l x ∙ ap (λ (b : Bool). f2HeightsBy b (l .fi1 >f f0) other v l k x) (shape-same u v k a))
 
   f1-line-by : (b : Bool) (l : Slot) (fx1 : Float) (e : LayerMuf) (gcdkm amind : Float) → f1LineBy b find u l fx1 e gcdkm amind ≡ f1LineBy b other v l fx1 e gcdkm amind
   unfolding f1OwnWith

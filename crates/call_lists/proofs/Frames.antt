@@ -10,12 +10,11 @@ use lib.Dec.{T, leb, ltb, eqb}
 use lib.IntN.{ℤ}
 use lib.ListN.{length}
 use lib.Ieee.{Float}
-use Rattle.scalar.specs.F32.{_-f_, _≤f_, _<f_}
+use Rattle.scalar.specs.F32.{_-f_, _≤f_, _<f_, at}
 use Rattle.scalar.specs.Literals.{f0, f0·01}
 use Rattle.scalar.specs.Scalar.{absOf}
 use Rattle.refusal.specs.declared.Refusal.{Refusal}
 use Rattle.refusal.specs.declared.Outcome.{Outcome}
-use Rattle.layers.specs.State.{at}
 use Rattle.layers.specs.declared.IonoState.{IonoState}
 use Rattle.layers.specs.declared.LayerMuf.{LayerMuf}
 use Rattle.profile.specs.Lecden.{slotAt, lecdenOf}

@@ -6,11 +6,11 @@ use lib.Dec.{T, leb}
 use lib.ListN.{set, replicate}
 use lib.Ieee.{Float, binary32, ofBits, fits, isNan}
 use lib.Ieee.Fits.{nan-fits, add-fits, sub-fits, mul-fits, div-fits}
-use Rattle.scalar.specs.F32.{_+f_, _-f_, _*f_, _/f_, _<f_, _>f_, _≥f_}
+use Rattle.scalar.specs.F32.{_+f_, _-f_, _*f_, _/f_, _<f_, _>f_, _≥f_, at}
 use Rattle.scalar.specs.Literals.{f0, f0·001, f0·17, f0·25, f0·5, f0·85, f1, f2, f6, f10, f22, f32, f70}
 use Rattle.scalar.specs.Scalar.{orSecond, minOf, maxOf}
 use Rattle.scalar.specs.Root.{sqrtOf}
-use Rattle.layers.specs.State.{at, withKfx}
+use Rattle.layers.specs.State.{withKfx}
 use Rattle.layers.specs.FromLayers.{countTaken}
 use Rattle.layers.specs.Ionset.{layerFrom, twoSlots, threeSlots, assignedBy, assignedOf, tooClose, f1KeptBy, f1Settled, f2Settled, slotSettled, slotsSettled, ionsetBy, ionsetOf}
 use Rattle.layers.specs.Ionset as ionset

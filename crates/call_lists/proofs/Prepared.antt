@@ -8,7 +8,8 @@ use native.Mathlib.Nat.{suc-inj, suc-ne-zero}
 use native.Mathlib.Omega.{arith}
 use lib.ListN.{length, set}
 use lib.Ieee.{Float}
-use Rattle.layers.specs.State.{at, withProfile}
+use Rattle.scalar.specs.F32.{at}
+use Rattle.layers.specs.State.{withProfile}
 use Rattle.layers.specs.declared.IonoState.{IonoState}
 use Rattle.profile.specs.Lecden.{slotAt, slotWritten, tailOf, curvesOf, suppliedOf, lecdenBy, lecdenOf}
 use Rattle.profile.specs.F1.{valleyOf, f1Of, reshapedOf}

@@ -8,7 +8,7 @@ use Prim.Native.Nat.{ℕ, _<_, _≤_}
 use lib.Dec.{T, eqb}
 use lib.ListN.{length}
 use lib.Ieee.{Float}
-use Rattle.layers.specs.State.{at}
+use Rattle.scalar.specs.F32.{at}
 use Rattle.layers.specs.Ionset.{ionsetOf}
 use Rattle.layers.specs.FromLayers.{countTaken}
 use Rattle.layers.specs.declared.IonoState.{IonoState}

@@ -9,7 +9,7 @@ use lib.Dec.{leb, eqb}
 use lib.IntN.{pos}
 use lib.ListN.{getD, length, length-map, replicate, take}
 use lib.Ieee.{Float, binary32, ofBits}
-use Rattle.scalar.specs.F32.{_-f_, _<f_, _≤f_, _>f_, _≥f_}
+use Rattle.scalar.specs.F32.{_-f_, _<f_, _≤f_, _>f_, _≥f_, at}
 use Rattle.scalar.specs.Literals.{f0, f8·5, f10}
 use Rattle.refusal.specs.declared.Outcome.{Outcome}
 use Rattle.circuit.specs.declared.Chain.{Chain}
@@ -18,7 +18,6 @@ use Rattle.circuit.specs.Chain.{chainOf}
 use Rattle.circuit.specs.Read.{readOf, circuitOf, noCircuit}
 use Rattle.circuit.proofs.Followed.{fit64, Followed, followed, count-range, read-answered, read-refused, small}
 use Rattle.circuit.proofs.Lists.{length-read}
-use Rattle.layers.specs.State.{at}
 use Rattle.layers.specs.FromLayers.{countTaken, pointSet, pointsSet, emptyOf, fromLayersBy, fromLayersOf}
 use Rattle.layers.specs.Ionset.{layerFrom, twoSlots, threeSlots, assignedBy, assignedOf, tooClose, f1KeptBy, f1By, f1Settled, f2Settled, slotSettled, slotsSettled, ionsetBy, ionsetOf}
 use Rattle.layers.specs.declared.IonoState.{IonoState}

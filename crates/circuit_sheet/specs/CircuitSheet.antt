@@ -26,7 +26,7 @@ use Rattle.muf.specs.declared.MufAnswer.{MufAnswer}
 use Rattle.reflectrix.specs.Angles.{sangOf}
 use Rattle.reflectrix.specs.declared.Scan.{Scan}
 use Rattle.reflectrix.specs.declared.Ionogram.{Ionogram}
-use Rattle.sounding.specs.Genion.{noRows}
+use Rattle.reflectrix.specs.Rows.{noRows}
 use Rattle.slot_sheet.specs.Sheet.{slotSheetOf}
 use Rattle.circuit_sheet.specs.declared.Sheet.{Sheet}
 

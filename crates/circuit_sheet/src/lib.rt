@@ -2,14 +2,13 @@
 ghost use mathlib.Core.Path.{_≡_};
 ghost use Prim.Native.Nat.{_+_, _<_, _≤_};
 ghost use Rattle.circuit_sheet.specs.CircuitSheet.{threeAt, layersAt, paramsOf, esOf, columnOf, shapedOf, slotsOf, pathOf, mufOf, rowsOf, refusedOf, answeredOf, scannedOf, circuitSheetOf, sheetOf};
-ghost use Rattle.sounding.specs.Genion.{noRows};
-use reflectrix::Ionogram;
-use reflectrix::Scan;
 use layers::IonoState;
 use layers::LayerMuf;
 use layers::LayerParams;
 use muf::MufAnswer;
 use muf::MufHour;
+use reflectrix::Ionogram;
+use reflectrix::Scan;
 use refusal::Outcome;
 use refusal::Refusal;
 
@@ -128,17 +127,6 @@ fn circuit_muf(c: circuit::Circuit, s: IonoState) -> MufAnswer
     muf::curmuf(s, &mut es[..numbers], &f2d, &clat[..km], &clck[..km], path)
 }
 
-fn no_rows() -> Ionogram
-    ensures { λ r. ⌜ r ≡ noRows ⌝ }
-{
-    Ionogram {
-        fvert: [0.0; 30],
-        hprim: [0.0; 30],
-        htrue: [0.0; 30],
-        afac: [0.0; 30],
-    }
-}
-
 // The rows of slot k, with cells of its own.
 fn slot_rows(s: IonoState, k: usize, nang: usize, lines: [LayerMuf; 4]) -> Ionogram
     ensures { λ r. ⌜ r ≡ rowsOf s k nang lines ⌝ }
@@ -148,7 +136,7 @@ fn slot_rows(s: IonoState, k: usize, nang: usize, lines: [LayerMuf; 4]) -> Ionog
         let a = slot_sheet::slot_sheet(s, k, nang, lines, &mut cells);
         return a.ion;
     }
-    no_rows()
+    reflectrix::no_rows()
 }
 
 fn refused(r: Refusal) -> Sheet
@@ -156,7 +144,7 @@ fn refused(r: Refusal) -> Sheet
 {
     let m = muf::refused(layers::zero_state(), r);
     let hour = m.hour;
-    let none = no_rows();
+    let none = reflectrix::no_rows();
     Sheet {
         outcome: Outcome::Refused(r),
         hour,

@@ -8,7 +8,7 @@ use lib.Dec.{T, leb, leb→le}
 use lib.ListN.{getD}
 use Rattle.series.specs.Series.{full, num, class}
 use Rattle.circular.specs.Atan.{angles, steep}
-use Rattle.series.proofs.Entries as table
+use Rattle.cases.proofs.Entries as table
 use Rattle.series.proofs.Waves.{Enc4}
 use Rattle.series.proofs.Sharp.{portion, part, sharp}
 use lib.Ieee.Fits.{and-l, and-r}

@@ -9,7 +9,7 @@ use lib.Dec.{T, leb, leb→le, lit<}
 use lib.Ieee.Fits.{and-l, and-r}
 use lib.ListN.{getD}
 use Rattle.scalar.proofs.WholeRoot.{root-is, root-ge, root-lt}
-use Rattle.series.proofs.Entries as table
+use Rattle.cases.proofs.Entries as table
 use Rattle.circular.specs.Asin.{cosineOf, cosines, arcs, halfPi, sixthOf, arcOf}
 
 -- a node of the table: its cosine x and its sine y

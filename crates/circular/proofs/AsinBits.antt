@@ -8,7 +8,7 @@ use lib.Dec.{leb, ltb, lit≤, lit<}
 use lib.Pow.{pow-mono}
 use lib.ListN.{getD}
 use borrow.Author.Tests.{le-leb, lt-leb, le-ltb, lt-ltb}
-use Rattle.series.proofs.Cases.{split}
+use Rattle.cases.proofs.Cases.{split}
 use Rattle.fixed.specs.Fixed.{pick, pattern, digits, scaledOf}
 use Rattle.circular.specs.Asin.{cosineOf, cosines, arcs, halfPi, gentleArc, steepArc, midArc, lowArc, asinMag, asinBits}
 use Rattle.circular.proofs.Reduce.{dig-low, dig-high, within}

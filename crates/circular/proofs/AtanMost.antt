@@ -10,8 +10,8 @@ use lib.Dec.{T, leb, leb→le, eqb, eqb→eq, lit<, lit≤}
 use lib.Pow.{pow-mono}
 use lib.Count.{leadingZeros, leading-top}
 use lib.ListN.{getD}
-use Rattle.series.proofs.Cases.{split}
-use Rattle.series.proofs.Entries as table
+use Rattle.cases.proofs.Cases.{split}
+use Rattle.cases.proofs.Entries as table
 use Rattle.fixed.specs.Fixed.{digits, mant, pattern, scaledOf}
 use Rattle.fixed.proofs.Round.{rounded}
 use Rattle.circular.specs.Atan.{angles, steep, cubeOf, angleOf, gentleOf, steepOf, atanMag}

@@ -3,7 +3,7 @@ use mathlib.Core.Path.{_≡_, ap, subst}
 use Prim.Native.Nat.{ℕ, _+_, _*_, _^_, _≤_, _<_}
 use native.Mathlib.Nat.{le-trans, le-of-lt, le-dest, mul-le-mul, mul-le-mul-left, mul-le-mul-right, le-of-mul-le-mul-right, mul-pos}
 use native.Mathlib.Omega.{arith}
-use Rattle.series.proofs.Cases.{split}
+use Rattle.cases.proofs.Cases.{split}
 use Rattle.series.proofs.SmallAngle.{Parts}
 
 cubic-below : (w q : ℕ) → 3 * ((w + q) * (w * w)) ≤ 2 * ((w + q) * (w + q) * (w + q)) + w * w * w

@@ -11,7 +11,7 @@ use borrow.Author.Tests.{le-ltb, lt-ltb, le-leb, lt-leb}
 use Rattle.series.specs.Series.{Kind, sine, cosine}
 use Rattle.fixed.specs.Fixed.{pick, mant, pattern}
 use Rattle.fixed.proofs.Round.{rounded, pattern-lt}
-use Rattle.series.proofs.Cases.{split}
+use Rattle.cases.proofs.Cases.{split}
 use Rattle.circular.specs.SinCos.{times, added, taken, squareOf, ratioOf, sineAt, quarterTurn, halfTurn, threeQuarters, apart, sinFold, cosFold, sinSign, cosSign, waveAt, magOf, atSmall, waveBits}
 
 -- ---- the three cases of the definition

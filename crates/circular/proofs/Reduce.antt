@@ -11,7 +11,7 @@ use lib.ListN.{getD}
 use borrow.Author.Tests.{le-ltb, lt-ltb}
 use Rattle.fixed.specs.Fixed.{pick, digits}
 use Rattle.circular.specs.Atan.{angles, steep, angleOf, lowAngle, midAngle, highAngle, atanMag}
-use Rattle.series.proofs.Cases.{split}
+use Rattle.cases.proofs.Cases.{split}
 use Rattle.circular.proofs.Angles.{Entry, entry, angle, steep-angle}
 use Rattle.series.proofs.SmallAngle.{div-high}
 use Rattle.circular.proofs.Angle.{Reduced}

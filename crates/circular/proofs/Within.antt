@@ -15,7 +15,7 @@ use lib.Ieee.Scale.{overflow}
 use borrow.Author.Tests.{le-leb, le-ltb, lt-ltb}
 use Rattle.scalar.specs.F32.{_≤f_, _<f_, _>f_, negf}
 use Rattle.scalar.specs.Literals.{f4, f1·570796326}
-use Rattle.series.proofs.Cases.{split}
+use Rattle.cases.proofs.Cases.{split}
 use Rattle.fixed.specs.Fixed.{pattern}
 use Rattle.fixed.proofs.Values.{bits-255, value}
 use Rattle.fixed.proofs.Sizes.{Size, finite-value, size-lt, size-le}

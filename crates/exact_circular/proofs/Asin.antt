@@ -13,7 +13,7 @@ use lib.Ieee.Fits.{down-pos}
 use lib.Ieee.Bits.{ofBits-toBits, toBits-lt}
 use lib.Ieee.Exact.{HasValue}
 use Rattle.series.specs.Series.{full, num, class, Later, SinLe, SinGe}
-use Rattle.series.proofs.Cases.{split}
+use Rattle.cases.proofs.Cases.{split}
 use Rattle.series.proofs.Waves.{Enc4}
 use Rattle.series.proofs.Bounds.{cos-plus, cos-minus, sine-le, sine-ge, enc-scaled}
 use Rattle.fixed.specs.Fixed.{mant, pattern, digits}

@@ -7,7 +7,7 @@ use native.Mathlib.Omega.{arith}
 use lib.Dec.{lit≤, lit<}
 use lib.ListN.{getD}
 use Rattle.series.specs.Series.{full, num, class}
-use Rattle.series.proofs.Cases.{split}
+use Rattle.cases.proofs.Cases.{split}
 use Rattle.series.proofs.Sharp.{portion}
 use Rattle.fixed.specs.Fixed.{digits, scaledOf}
 use Rattle.scalar.specs.Root.{root}

@@ -9,7 +9,7 @@ use native.Mathlib.Omega.{arith}
 use lib.Dec.{lit≤}
 use lib.Pow.{pow-pos}
 use Rattle.series.specs.Series.{SinLe, SinGe}
-use Rattle.series.proofs.Cases.{split}
+use Rattle.cases.proofs.Cases.{split}
 use Rattle.circular.specs.Asin.{sixthOf, arcOf}
 use Rattle.circular.proofs.Angle.{Sizes, wide-le, wide-ok}
 use Rattle.circular.proofs.Angles.{Entry}

@@ -16,7 +16,7 @@ use Rattle.exact.specs.Unit.{steps}
 use Rattle.series.specs.Series.{Later, SinLe, SinGe, num, class}
 use Rattle.exact.specs.Near.{NearAtan}
 use Rattle.fixed.proofs.Round.{place, pattern-lt}
-use Rattle.series.proofs.Cases.{split}
+use Rattle.cases.proofs.Cases.{split}
 use Rattle.fixed.proofs.Values.{value, bits-255, v-small, ulps, packed-value, normal-value, sign-plus}
 use Rattle.exact.proofs.Unit.{steps-is}
 use Rattle.series.proofs.Bounds.{le-same, ge-same}

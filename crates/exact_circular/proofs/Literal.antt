@@ -12,7 +12,7 @@ use lib.Ieee.Fits.{down-pos}
 use lib.Ieee.Bits.{ofBits-toBits}
 use lib.Ieee.Exact.{HasValue}
 use Rattle.series.specs.Series.{Ksin, Kcos, sine, cosine}
-use Rattle.series.proofs.Cases.{split}
+use Rattle.cases.proofs.Cases.{split}
 use Rattle.fixed.proofs.Sizes.{finite-value, size-le}
 use Rattle.exact.specs.Unit.{steps}
 use Rattle.exact.specs.Near.{NearSin, NearCos}

@@ -7,7 +7,7 @@ use native.Mathlib.Omega.{arith}
 use lib.Dec.{T, eqb, eqb→eq}
 use lib.ListN.{getD}
 use Rattle.series.specs.Series.{full, num, class}
-use Rattle.series.proofs.Entries as table
+use Rattle.cases.proofs.Entries as table
 use Rattle.series.proofs.Sharp.{portion}
 use Rattle.circular.specs.Asin.{cosines, arcs, halfPi}
 use Rattle.circular.proofs.Angles.{good, Entry, entry}

@@ -29,7 +29,7 @@ use Rattle.series.proofs.WaveFraction.{same-limit, wider-limit, later}
 use Rattle.fixed.proofs.Values.{value, v-small, ulp-ge, ulps, bits-255, sign-plus}
 use Rattle.fixed.proofs.Sizes.{finite-value, size-lt}
 use Rattle.exact.proofs.Unit.{steps-is}
-use Rattle.series.proofs.Cases.{split}
+use Rattle.cases.proofs.Cases.{split}
 use Rattle.circular.proofs.Magnitude.{mag-le, mag-ge, grain}
 use Rattle.circular.proofs.Patterns.{top-of, packed, sine-at-lt, sin-direct, sin-below, sin-above, cos-below, cos-above, cos-beyond, small-bits, large-bits, outside-bits}
 

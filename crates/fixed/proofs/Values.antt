@@ -12,7 +12,7 @@ use lib.Ieee.Bits.{cond-no}
 use lib.Ieee.Exact.{HasValue, odd-sign}
 use borrow.Author.Tests.{le-leb, lt-leb}
 use lib.Count.{leadingZeros}
-use Rattle.series.proofs.Cases.{split}
+use Rattle.cases.proofs.Cases.{split}
 use Rattle.fixed.specs.Fixed.{digits, mant, pattern}
 use Rattle.fixed.proofs.Round.{rounded, place, pattern-lt}
 

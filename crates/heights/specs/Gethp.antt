@@ -4,13 +4,13 @@ use mathlib.Core.Bool.{Bool, true, false}
 use mathlib.Core.List.{List}
 use Prim.Native.Nat.{ℕ, zero, suc}
 use lib.Ieee.{Float}
-use Rattle.scalar.specs.F32.{_+f_, _-f_, _*f_, _/f_, _≤f_}
+use Rattle.scalar.specs.F32.{_+f_, _-f_, _*f_, _/f_, _≤f_, at}
 use Rattle.scalar.specs.Literals.{f0, f0·9999, f1}
 use Rattle.scalar.specs.Scalar.{minOf}
 use Rattle.scalar.specs.Root.{sqrtOf}
 use Rattle.layers.specs.declared.IonoState.{IonoState}
 use Rattle.profile.specs.Rising.{risesOf}
-use Rattle.readings.specs.Scan.{at, valueOf, profileInterpolateOf, readingOf}
+use Rattle.readings.specs.Scan.{valueOf, profileInterpolateOf, readingOf}
 use Rattle.readings.specs.Cursor.{countOf}
 use Rattle.readings.specs.declared.Reading.{Reading}
 use Rattle.heights.specs.Nodes.{wt, xnpl, twdiv, heightOf, heightAt}

@@ -5,10 +5,9 @@ use Prim.Native.Nat.{ℕ, zero, suc, _+_, _-_, _*_, _/_, _%_}
 use lib.Dec.{eqb}
 use lib.ListN.{set, replicate}
 use lib.Ieee.{Float}
-use Rattle.scalar.specs.F32.{_-f_, _*f_, _≤f_, _≥f_}
+use Rattle.scalar.specs.F32.{_-f_, _*f_, _≤f_, _≥f_, at}
 use Rattle.scalar.specs.Literals.{f0}
 use Rattle.profile.specs.Rising.{risesOf}
-use Rattle.readings.specs.Scan.{at}
 use Rattle.readings.specs.declared.Read.{Read}
 use Rattle.walk.specs.Walk.{cursorBefore, walkRead}
 use Rattle.heights.specs.Nodes.{igAt, ibAt, heightAt}

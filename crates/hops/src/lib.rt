@@ -2,14 +2,10 @@
 ghost use mathlib.Core.Path.{_≡_};
 ghost use Rattle.hops.specs.Geometry.{hopRatioOf, hopsOf, hopsNumber, hopsValue, psiOf, delOf, spheOf, secpOf, hopGeometryOf, geometryOf, geometryNumber, geometryValue};
 ghost use Rattle.hops.specs.Rounds.{sphOf, roundOf, settledOf, roundsOf};
+use constants::D2R;
+use constants::PIO2;
+use constants::RZ;
 use refusal::Refusal;
-
-// degrees to radians
-const D2R: f32 = 0.01745329251;
-// half pi
-const PIO2: f32 = 1.570796326;
-// the Earth's radius, km
-const RZ: f32 = 6370.0;
 
 // The number of hops, as the float that the geometry takes.
 pub enum Hops {

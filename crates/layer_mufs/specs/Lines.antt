@@ -3,12 +3,12 @@ use mathlib.Core.Bool.{Bool, true, false}
 use mathlib.Core.List.{List}
 use Prim.Native.Nat.{ℕ}
 use lib.IntN.{pos}
-use lib.Signed.{ltZ}
 use lib.Ieee.{Float}
 use Rattle.scalar.specs.F32.{_+f_, _-f_, _*f_, _≤f_, _>f_}
-use Rattle.scalar.specs.Literals.{f0, f0·01, f0·1, f0·9, f1, f1·1, f1·28, f2, f57·295779513, f104·25, f125·3}
+use Rattle.scalar.specs.Literals.{f0, f0·01, f0·1, f0·9, f1, f1·1, f1·28, f2, f104·25, f125·3}
 use Rattle.scalar.specs.Scalar.{maxOf, truncOf}
 use Rattle.scalar.specs.Root.{sqrtOf}
+use Rattle.constants.specs.Constants.{R2D}
 use Rattle.refusal.specs.Number.{numberOf}
 use Rattle.deciles.specs.F2dis.{f2disOf}
 use Rattle.deciles.specs.declared.Deviation.{Deviation}
@@ -19,6 +19,7 @@ use Rattle.hops.specs.declared.HopGeometry.{HopGeometry}
 use Rattle.hops.specs.declared.Round.{Round}
 use Rattle.heights.specs.Bendy.{bendyOf, penOf}
 use Rattle.heights.specs.Gethp.{Finder, gethpOf}
+use Rattle.layers.specs.State.{profileOnly}
 use Rattle.layers.specs.declared.IonoState.{IonoState}
 use Rattle.layers.specs.declared.LayerMuf.{LayerMuf}
 use Rattle.profile.specs.declared.Slot.{Slot}
@@ -27,9 +28,6 @@ use Rattle.layer_mufs.specs.declared.Tangents.{Tangents}
 use Rattle.layer_mufs.specs.declared.Pair.{Pair}
 use Rattle.layer_mufs.specs.declared.Deviations.{Deviations}
 use Rattle.layer_mufs.specs.declared.LineAnswer.{LineAnswer}
-
-abbrev pub R2D : Float
-R2D = f57·295779513
 
 unfoldable pub tenthOf : Float → Float
 tenthOf muf = maxOf (f0·1 *f muf) f0·01
@@ -52,9 +50,6 @@ abbrev pub lineValue : LineAnswer → LayerMuf
 lineValue (LineAnswer.Found m) = m
 lineValue (LineAnswer.Refused r) = zeroLine
 
-unfoldable pub byProfileOf : IonoState → Bool
-byProfileOf t = ltZ (t .iedp) (pos 0)
-
 abbrev pub readWith : Finder → IonoState → Float → Pair
 readWith find t fx = let h = find t fx in record { hp = h .hp; ht = h .ht }
 
@@ -65,7 +60,7 @@ eHeightsBy true find t fxe = readWith find t fxe
 eHeightsBy false find t fxe = record { hp = f125·3; ht = f104·25 }
 
 unfoldable pub eHeightsWith : Finder → IonoState → Float → Pair
-eHeightsWith find t fxe = eHeightsBy (byProfileOf t) find t fxe
+eHeightsWith find t fxe = eHeightsBy (profileOnly t) find t fxe
 
 unfoldable pub eFoundOf : HopGeometry → Pair → Float → LayerMuf
 eFoundOf g h fxe =
@@ -99,7 +94,7 @@ f2HeightsBy false true find t l ks x = readWith find t (x .fx2)
 f2HeightsBy false false find t l ks x = parabolicOf t l ks x
 
 unfoldable pub f2HeightsWith : Finder → IonoState → Slot → ℕ → Tangents → Pair
-f2HeightsWith find t l ks x = f2HeightsBy (byProfileOf t) (l .fi1 >f f0) find t l ks x
+f2HeightsWith find t l ks x = f2HeightsBy (profileOnly t) (l .fi1 >f f0) find t l ks x
 
 -- the rounds from the first pass on; they read neither angle nor height of their start
 unfoldable pub bentOf : Float → Float → Pair → HopGeometry → Round

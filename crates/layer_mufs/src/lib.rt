@@ -4,7 +4,8 @@ ghost use Prim.Native.Nat.{_<_};
 ghost use Rattle.heights.specs.Gethp.{gethpOf};
 ghost use Rattle.layer_mufs.specs.Controlling.{compareE, controllingOf};
 ghost use Rattle.layer_mufs.specs.Tangents.{xtOf, fx1Of, betaOf, f2TangentOf, tangentsOf};
-ghost use Rattle.layer_mufs.specs.Lines.{tenthOf, lineOf, zeroLine, lineNumber, lineValue, byProfileOf, eHeightsWith, eFoundOf, eLineOf, parabolicOf, f2HeightsWith, bentOf, deviationsNumber, lowerValue, upperValue, deviationsOf, f2BentOf, f2LineOf, f1FoundOf, f1OwnWith, f1LineOf};
+ghost use Rattle.layer_mufs.specs.Lines.{tenthOf, lineOf, zeroLine, lineNumber, lineValue, eHeightsWith, eFoundOf, eLineOf, parabolicOf, f2HeightsWith, bentOf, deviationsNumber, lowerValue, upperValue, deviationsOf, f2BentOf, f2LineOf, f1FoundOf, f1OwnWith, f1LineOf};
+use constants::R2D;
 use deciles::Deviation;
 use hops::Geometry;
 use hops::HopGeometry;
@@ -14,9 +15,6 @@ use layers::IonoState;
 use layers::LayerMuf;
 use profile::Slot;
 use refusal::Refusal;
-
-// radians to degrees
-const R2D: f32 = 57.295779513;
 
 // The numbers of a circuit: path length in radians and in kilometres, least takeoff angle in
 // degrees, sunspot number.
@@ -219,20 +217,12 @@ pub fn line_value(a: LineAnswer) -> LayerMuf
     }
 }
 
-// Whether the profile alone gives heights.
-fn by_profile(t: IonoState) -> bool
-    ensures { λ r. ⌜ r ≡ byProfileOf t ⌝ }
-{
-    let iedp = t.iedp;
-    iedp < 0
-}
-
 // Off the profile, or fixed: those of a parabola that peaks at 110 km and is 20 km in
 // semi-thickness.
 fn e_heights(t: IonoState, fxe: f32) -> Pair
     ensures { λ r. ⌜ r ≡ eHeightsWith gethpOf t fxe ⌝ }
 {
-    if by_profile(t) {
+    if layers::profile_only(t) {
         let h = heights::gethp(t, fxe);
         return Pair { hp: h.hp, ht: h.ht };
     }
@@ -283,7 +273,7 @@ fn f2_heights(t: IonoState, l: Slot, ks: usize, x: Tangents) -> Pair
     requires { ⌜ ks < 3 ⌝ }
     ensures { λ r. ⌜ r ≡ f2HeightsWith gethpOf t l ks x ⌝ }
 {
-    if by_profile(t) {
+    if layers::profile_only(t) {
         let h = heights::gethp(t, x.fx2);
         return Pair { hp: h.hp, ht: h.ht };
     }

@@ -6,9 +6,9 @@ use Prim.Native.Nat.{ℕ, zero, suc, _+_, _*_}
 use lib.Dec.{leb}
 use lib.ListN.{length, length-set}
 use lib.Ieee.{Float}
-use Rattle.scalar.specs.F32.{_>f_}
+use Rattle.scalar.specs.F32.{_>f_, at}
 use Rattle.scalar.specs.Literals.{f0}
-use Rattle.layers.specs.State.{at, withTables, withKfx}
+use Rattle.layers.specs.State.{withTables, withKfx}
 use Rattle.layers.specs.FromLayers.{countTaken}
 use Rattle.layers.specs.Ionset.{layerFrom, twoSlots, threeSlots, assignedBy, assignedOf, tooClose, f1KeptBy, f1By, f1Settled, f2Settled, slotSettled, slotsSettled, ionsetBy, ionsetOf}
 use Rattle.layers.specs.Kept.{Kept}

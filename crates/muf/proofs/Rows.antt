@@ -10,11 +10,10 @@ use lib.Dec.{ltb}
 use lib.ListN.{length}
 use lib.Ieee.{Float, ofBits, sub, add, neg, le, round}
 use borrow.Author.Tests.{ltb-false}
-use Rattle.scalar.specs.F32.{_-f_, _*f_, _>f_, _≥f_, _≤f_}
+use Rattle.scalar.specs.F32.{_-f_, _*f_, _>f_, _≥f_, _≤f_, at}
 use Rattle.scalar.specs.Literals.{f0, f1000}
 use Rattle.hops.specs.Geometry.{hopsOf}
 use Rattle.hops.specs.declared.Hops.{Hops}
-use Rattle.layers.specs.State.{at}
 use Rattle.layers.specs.declared.IonoState.{IonoState}
 use Rattle.layer_mufs.specs.Controlling.{controllingOf}
 use Rattle.profile.specs.Lecden.{slotAt, lecdenOf}

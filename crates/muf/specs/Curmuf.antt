@@ -5,12 +5,11 @@ use Prim.Native.Nat.{ℕ, _*_, _/_}
 use lib.Dec.{ltb, eqb}
 use lib.ListN.{length, set}
 use lib.Ieee.{Float}
-use Rattle.scalar.specs.F32.{_≤f_, _>f_}
+use Rattle.scalar.specs.F32.{_≤f_, _>f_, at}
 use Rattle.scalar.specs.Literals.{f0, f6·3, f90, f40100}
 use Rattle.refusal.specs.Number.{numberOf}
 use Rattle.refusal.specs.declared.Refusal.{Refusal}
 use Rattle.refusal.specs.declared.Outcome.{Outcome}
-use Rattle.layers.specs.State.{at}
 use Rattle.layers.specs.declared.IonoState.{IonoState}
 use Rattle.layers.specs.declared.LayerMuf.{LayerMuf}
 use Rattle.profile.specs.Lecden.{slotAt, lecdenOf}

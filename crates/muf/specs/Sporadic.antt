@@ -3,16 +3,16 @@ use mathlib.Core.Bool.{Bool, true, false}
 use mathlib.Core.List.{List}
 use Prim.Native.Nat.{ℕ, zero, suc, _+_, _*_}
 use lib.Ieee.{Float}
-use Rattle.scalar.specs.F32.{_+f_, _-f_, _*f_, _/f_, _≤f_, _<f_, _>f_, _≥f_}
+use Rattle.scalar.specs.F32.{_+f_, _-f_, _*f_, _/f_, _≤f_, _<f_, _>f_, _≥f_, at}
 use Rattle.scalar.specs.Literals.{f0, f0·1, f0·5, f1, f1·28, f2, f3·1, f1000}
 use Rattle.scalar.specs.Scalar.{minOf}
 use Rattle.scalar.specs.Root.{sqrtOf}
 use Rattle.circular.specs.SinCos.{sinOf, cosOf}
 use Rattle.circular.specs.Atan.{atanOf}
 use Rattle.refusal.specs.Number.{numberOf}
-use Rattle.hops.specs.Geometry.{RZ, hopsOf}
+use Rattle.constants.specs.Constants.{RZ}
+use Rattle.hops.specs.Geometry.{hopsOf}
 use Rattle.hops.specs.declared.Hops.{Hops}
-use Rattle.layers.specs.State.{at}
 use Rattle.layer_mufs.specs.Lines.{lineOf, zeroLine}
 use Rattle.layer_mufs.specs.declared.Circuit.{Circuit}
 use Rattle.muf.specs.declared.EsRow.{EsRow}

@@ -7,6 +7,7 @@ ghost use Rattle.heights.specs.Gethp.{gethpOf};
 ghost use Rattle.muf.specs.Sporadic.{rayOf, takenOf, esRowOf, startOf, stepNumber, stepValue, rowAt, esFrom, sigl4Of, esFoundOf, esLineOf};
 ghost use Rattle.muf.specs.Hour.{modeOf, hourOf, zeroHour, refusedOf};
 ghost use Rattle.muf.specs.Curmuf.{withinOf, inDomain, listsReach, threeWith, threeNumber, threeValue, takenRows, rowsOf, refusedDone, esBy, workedOf, stepDoneOf, flatOf, esAfterOf, curmufOf};
+use constants::RZ;
 use hops::Hops;
 use layer_mufs::Circuit;
 use layer_mufs::LineAnswer;
@@ -15,9 +16,6 @@ use layers::LayerMuf;
 use profile::Slot;
 use refusal::Outcome;
 use refusal::Refusal;
-
-// the Earth's radius, km
-const RZ: f32 = 6370.0;
 
 // One Es row: the three frequencies of an `EsParams`, in its order, and the height.
 pub struct EsRow {

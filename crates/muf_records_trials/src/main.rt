@@ -80,7 +80,7 @@ fn rows() -> [EsParams; 5] {
 
 fn circuit(gcdkm: f32) -> Circuit {
     Circuit {
-        gcd: gcdkm / 6370.0,
+        gcd: gcdkm / constants::RZ,
         gcdkm,
         amind: 3.0,
         ssn: 60.0,

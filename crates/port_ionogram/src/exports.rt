@@ -10,13 +10,13 @@ ghost use Rattle.port_state.specs.State.{stateInto};
 ghost use Rattle.port_ionogram.specs.Layouts.{cellsOf, cellsInto, ionogramInto};
 ghost use Rattle.port_ionogram.specs.Exports.{scanInto, rowsInto, portSang, portSelmod, portGenion, portFobby, portAlosfv, sheetOn, sheetCellsOn, portSheet};
 use super::layouts;
-use slot_sheet::SlotSheet;
+use layers::IonoState;
+use layers::LayerMuf;
 use reflectrix::Ionogram;
 use reflectrix::IonogramAnswer;
 use reflectrix::Scan;
-use layers::IonoState;
-use layers::LayerMuf;
 use refusal::Outcome;
+use slot_sheet::SlotSheet;
 
 fn scan_into(a: Scan, out: &mut [u32]) -> u32
     requires { ⌜ (1 ≤ length (now out)) × (scanValue a ≤ 40) ⌝ }

@@ -5,8 +5,8 @@ ghost use lib.ListN.{length};
 ghost use denote.Ref.{now};
 ghost use Rattle.port_state.specs.Words.{floatsOf, floatsInto};
 ghost use Rattle.port_ionogram.specs.Layouts.{cellsOf, cellsInto, ionogramOf, ionogramInto, lineOf, linesOf};
-use reflectrix::Ionogram;
 use layers::LayerMuf;
+use reflectrix::Ionogram;
 
 // As many cells as are lent.
 pub fn cells_of(w: &[u32], c: &mut [i32])

@@ -9,7 +9,7 @@ use lib.ListN.{length, getD, length-map}
 use lib.Seq.{take-all}
 use lib.Ieee.{Float, binary32, ofBits}
 use Rattle.refusal.specs.declared.Refusal.{Refusal}
-use Rattle.layers.specs.State.{at}
+use Rattle.scalar.specs.F32.{at}
 use Rattle.layers.specs.declared.IonoState.{IonoState}
 use Rattle.heights.specs.Gethp.{gethpOf}
 use Rattle.layer_mufs.specs.Controlling.{controllingOf}

@@ -4,9 +4,9 @@ use mathlib.Core.List.{List}
 use Prim.Native.Nat.{ℕ, zero, suc, _+_, _-_}
 use lib.Dec.{ltb}
 use lib.Ieee.{Float}
-use Rattle.scalar.specs.F32.{_-f_, _≤f_, _≥f_}
+use Rattle.scalar.specs.F32.{_-f_, _≤f_, _≥f_, at}
 use Rattle.scalar.specs.Literals.{f0}
-use Rattle.readings.specs.Scan.{at, lineOf}
+use Rattle.readings.specs.Scan.{lineOf}
 use Rattle.readings.specs.declared.Reading.{Reading}
 use Rattle.readings.specs.declared.Reading.the-variants.{Floor, Segment, Top}
 use Rattle.readings.specs.declared.Read.{Read}

@@ -3,18 +3,13 @@
 use mathlib.Core.Bool.{Bool, true, false}
 use mathlib.Core.List.{List}
 use Prim.Native.Nat.{ℕ, zero, suc, _+_}
-use lib.ListN.{getD}
-use lib.Ieee.{Float, nan}
-use Rattle.scalar.specs.F32.{_+f_, _-f_, _*f_, _/f_, _<f_, _≤f_, _>f_, _≥f_, _==f_}
+use lib.Ieee.{Float}
+use Rattle.scalar.specs.F32.{at, _+f_, _-f_, _*f_, _/f_, _<f_, _≤f_, _>f_, _≥f_, _==f_}
 use Rattle.scalar.specs.Literals.{f0}
 use Rattle.readings.specs.declared.Hit.{Hit}
 use Rattle.readings.specs.declared.Hit.the-variants.{At, Miss}
 use Rattle.readings.specs.declared.Reading.{Reading}
 use Rattle.readings.specs.declared.Reading.the-variants.{Floor, Segment, Top}
-
--- l[i]
-abbrev pub at : List Float → ℕ → Float
-at l i = getD l i nan
 
 -- the number that a reading carries
 unfoldable pub valueOf : Reading → Float

@@ -12,7 +12,7 @@ use lib.Signed.{ltZ}
 use Rattle.scalar.specs.F32.{_+f_, _/f_}
 use Rattle.scalar.specs.Literals.{f1, f2000}
 use Rattle.scalar.specs.Scalar.{truncOf}
-use Rattle.series.proofs.Entries.{entry}
+use Rattle.cases.proofs.Entries.{entry}
 use Rattle.scalar.proofs.Casts.{between}
 use Rattle.reflectrix.specs.Angles.{NANGX, stepBy, stepOf}
 

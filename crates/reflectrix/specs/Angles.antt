@@ -7,10 +7,9 @@ use lib.IntN.{ℤ, pos, natAbs}
 use lib.Signed.{ltZ}
 use lib.ListN.{getD}
 use lib.Ieee.{Float}
-use Rattle.scalar.specs.F32.{_+f_, _-f_, _/f_, _<f_, _>f_, _≥f_}
+use Rattle.scalar.specs.F32.{_+f_, _-f_, _/f_, _<f_, _>f_, _≥f_, at}
 use Rattle.scalar.specs.Literals.{f0, f0·5, f1, f2, f3, f4, f5, f6, f8, f8·5, f10, f12, f14, f16, f18, f20, f22, f24, f26, f28, f30, f32, f34, f36, f38, f40, f42, f44, f46, f48, f50, f52, f54, f56, f60, f65, f70, f75, f80, f85, f89·99, f2000}
 use Rattle.scalar.specs.Scalar.{truncOf}
-use Rattle.layers.specs.State.{at}
 use Rattle.refusal.specs.declared.Refusal.{Refusal}
 use Rattle.refusal.specs.Number.{numberOf}
 use Rattle.reflectrix.specs.declared.Scan.{Scan}

@@ -6,12 +6,12 @@ use lib.Dec.{leb}
 use lib.IntN.{ℤ}
 use lib.ListN.{length, set}
 use lib.Ieee.{Float}
-use Rattle.scalar.specs.F32.{_+f_, _-f_, _*f_, _/f_}
-use Rattle.scalar.specs.Literals.{f0·000001, f0·01745329251, f1, f1000, f6370}
+use Rattle.scalar.specs.F32.{_+f_, _-f_, _*f_, _/f_, at}
+use Rattle.scalar.specs.Literals.{f0·000001, f1, f1000}
 use Rattle.scalar.specs.Scalar.{maxOf, truncOf}
 use Rattle.scalar.specs.Root.{sqrtOf}
+use Rattle.constants.specs.Constants.{D2R, RZ}
 use Rattle.circular.specs.SinCos.{cosOf}
-use Rattle.layers.specs.State.{at}
 use Rattle.refusal.specs.declared.Refusal.{Refusal}
 use Rattle.refusal.specs.declared.Outcome.{Outcome}
 use Rattle.reflectrix.specs.Angles.{ANG}
@@ -19,13 +19,13 @@ use Rattle.reflectrix.specs.declared.Ionogram.{Ionogram}
 
 unfoldable pub rcosdOf : ℕ → Float
 rcosdOf ia =
-    let del = at ANG ia *f f0·01745329251 in
-    f6370 *f cosOf del
+    let del = at ANG ia *f D2R in
+    RZ *f cosOf del
 
 -- in kHz, of the row's vertical frequency and true height
 unfoldable pub obliqueOf : Float → Float → Float → ℤ
 obliqueOf fvv htrue rcosd =
-    let sphe = rcosd /f (f6370 +f htrue) in
+    let sphe = rcosd /f (RZ +f htrue) in
     let sqcos = maxOf (f1 -f sphe *f sphe) f0·000001 in
     let cphe = sqrtOf sqcos in
     let freq = fvv /f cphe in

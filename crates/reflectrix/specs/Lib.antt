@@ -1,3 +1,4 @@
+pub mod Rows
 pub mod Angles
 pub mod Selmod
 pub mod Fobby

@@ -2,7 +2,7 @@
 ghost use mathlib.Core.Path.{_≡_};
 ghost use Prim.Native.Nat.{_+_, _-_, _<_, _≤_};
 ghost use lib.ListN.{getD};
-ghost use Rattle.layers.specs.State.{at};
+ghost use Rattle.scalar.specs.F32.{at};
 ghost use Rattle.reflectrix.specs.Angles.{ANG as Angles·ANG, NANGX as Angles·NANGX, stepOf, raisedFrom, countOf, sangOf, scanNumber, scanValue};
 use crate::Scan;
 use refusal::Refusal;

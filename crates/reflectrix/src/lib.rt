@@ -4,6 +4,8 @@ mod angles;
 mod control;
 mod reflectrix;
 
+ghost use mathlib.Core.Path.{_≡_};
+ghost use Rattle.reflectrix.specs.Rows.{noRows};
 pub use angles::sang;
 pub use angles::scan_number;
 pub use angles::scan_value;
@@ -22,6 +24,18 @@ pub struct Ionogram {
     pub htrue: [f32; 30],
     // the factor of its deviative loss
     pub afac: [f32; 30],
+}
+
+// Every number +0: what stands beside a refusal.
+pub fn no_rows() -> Ionogram
+    ensures { λ r. ⌜ r ≡ noRows ⌝ }
+{
+    Ionogram {
+        fvert: [0.0; 30],
+        hprim: [0.0; 30],
+        htrue: [0.0; 30],
+        afac: [0.0; 30],
+    }
 }
 
 pub struct IonogramAnswer {

@@ -6,6 +6,8 @@ ghost use lib.ListN.{length};
 ghost use Rattle.reflectrix.specs.Fobby.{rcosdOf, obliqueOf, rowInto, anglesInto, cellsAfter, fobbyOutcome};
 use super::angles::angle;
 use crate::Ionogram;
+use constants::D2R;
+use constants::RZ;
 use refusal::Outcome;
 use refusal::Refusal;
 
@@ -13,8 +15,8 @@ fn rcosd(ia: usize) -> f32
     requires { ⌜ ia < 40 ⌝ }
     ensures { λ r. ⌜ r ≡ rcosdOf ia ⌝ }
 {
-    let del = angle(ia) * 0.01745329251;
-    6370.0 * circular::cos(del)
+    let del = angle(ia) * D2R;
+    RZ * circular::cos(del)
 }
 
 // In kHz, of a row's vertical frequency and true height. By numbers: an ionogram handed down for each
@@ -22,7 +24,7 @@ fn rcosd(ia: usize) -> f32
 fn oblique(fvv: f32, htrue: f32, rcosd: f32) -> i32
     ensures { λ r. ⌜ r ≡ obliqueOf fvv htrue rcosd ⌝ }
 {
-    let sphe = rcosd / (6370.0 + htrue);
+    let sphe = rcosd / (RZ + htrue);
     let sqcos = scalar::max(1.0 - sphe * sphe, 0.000001);
     let cphe = scalar::sqrt(sqcos);
     let freq = fvv / cphe;

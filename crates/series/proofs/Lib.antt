@@ -1,5 +1,3 @@
-pub mod Cases
-pub mod Entries
 pub mod Cauchy
 pub mod Addition
 pub mod Fractions
@@ -17,4 +15,3 @@ pub mod SineSign
 pub mod Bounds
 pub mod Pythagoras
 pub mod Circle
-pub mod Arms

@@ -5,11 +5,10 @@ use Prim.Native.Nat.{ℕ, _+_, _/_, _%_, _≤_, _<_}
 use native.Mathlib.Omega.{arith}
 use lib.ListN.{getD}
 use lib.Ieee.{Float, binary32, toBits}
-use Rattle.scalar.specs.F32.{_≤f_, _<f_}
+use Rattle.scalar.specs.F32.{_≤f_, _<f_, at}
 use Rattle.scalar.specs.Literals.{f0, f1000}
 use Rattle.lines.specs.Text.{space}
 use Rattle.lines.proofs.Sizes.{AtMost, _then_, word, line-feed, decimal, digits-below, field, hex, times}
-use Rattle.layers.specs.State.{at}
 use Rattle.muf.specs.declared.MufHour.{MufHour}
 use Rattle.reflectrix.specs.declared.Ionogram.{Ionogram}
 use Rattle.circuit_sheet.specs.declared.Sheet.{Sheet}

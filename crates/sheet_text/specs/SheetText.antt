@@ -6,7 +6,7 @@ use lib.ListN.{getD}
 use lib.Ieee.{Float, binary32, toBits}
 use Rattle.refusal.specs.declared.Outcome.{Outcome}
 use Rattle.lines.specs.Text.{space, lineFeed, decimalOf, hexOf, fieldOf, refusedText, joined}
-use Rattle.layers.specs.State.{at}
+use Rattle.scalar.specs.F32.{at}
 use Rattle.muf.specs.declared.MufHour.{MufHour}
 use Rattle.reflectrix.specs.declared.Ionogram.{Ionogram}
 use Rattle.circuit_sheet.specs.declared.Sheet.{Sheet}

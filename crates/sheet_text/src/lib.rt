@@ -7,8 +7,8 @@ ghost use Rattle.io.specs.Counts.{Counts};
 ghost use Rattle.lines.specs.Text.{joined, Clipped, Put};
 ghost use Rattle.sheet_text.specs.SheetText.{bitsField, natural, mufFields, mufLine, callLine, rowFields, rowLine, slotLine, slotText, slotAt, answeredText, sheetText};
 use circuit_sheet::Sheet;
-use reflectrix::Ionogram;
 use muf::MufHour;
+use reflectrix::Ionogram;
 use refusal::Outcome;
 
 // A field after another: one space, then the digits of the number's bits.

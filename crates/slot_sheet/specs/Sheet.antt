@@ -12,7 +12,8 @@ use Rattle.profile.specs.Lecden.{lecdenOf}
 use Rattle.heights.specs.Gethp.{Finder, gethpOf}
 use Rattle.reflectrix.specs.Fobby.{anglesInto, roomFor}
 use Rattle.losses.specs.Alosfv.{alosfvOf}
-use Rattle.sounding.specs.Genion.{noRows, genionWith}
+use Rattle.reflectrix.specs.Rows.{noRows}
+use Rattle.sounding.specs.Genion.{genionWith}
 use Rattle.slot_sheet.specs.declared.SlotSheet.{SlotSheet}
 
 abbrev pub refusedSheet : IonoState → Refusal → SlotSheet

@@ -1,9 +1,9 @@
 // The slot sheet: a slot's profile, its ionogram, its reflectrix and its loss factors in one call.
 ghost use mathlib.Core.Path.{_≡_};
 ghost use Rattle.slot_sheet.specs.Sheet.{refusedSheet, slotSheetOf, sheetCellsOf};
-use reflectrix::Ionogram;
 use layers::IonoState;
 use layers::LayerMuf;
+use reflectrix::Ionogram;
 use refusal::Outcome;
 use refusal::Refusal;
 
@@ -21,12 +21,7 @@ fn refused(s: IonoState, r: Refusal) -> SlotSheet
     SlotSheet {
         outcome: Outcome::Refused(r),
         state: s,
-        ion: Ionogram {
-            fvert: [0.0; 30],
-            hprim: [0.0; 30],
-            htrue: [0.0; 30],
-            afac: [0.0; 30],
-        },
+        ion: reflectrix::no_rows(),
     }
 }
 

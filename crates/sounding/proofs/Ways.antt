@@ -4,13 +4,13 @@ use mathlib.Core.List.{List}
 use mathlib.Core.Path.{_≡_, refl}
 use Prim.Native.Nat.{ℕ, zero, suc, _+_, _*_}
 use lib.Ieee.{Float}
-use Rattle.scalar.specs.F32.{_>f_}
+use Rattle.scalar.specs.F32.{_>f_, at}
 use Rattle.scalar.specs.Literals.{f0}
-use Rattle.layers.specs.State.{at}
+use Rattle.layers.specs.State.{profileOnly}
 use Rattle.layers.specs.declared.IonoState.{IonoState}
 use Rattle.heights.specs.Gethp.{Finder, gethpOf, gethpScanOf}
 use Rattle.heights.proofs.Finders.{Agree, scans-agree}
-use Rattle.sounding.specs.Genion.{rowsOf, virtualBy, rowsBy, allByProfile, rowsWith, fvertAt, genionWith, genionOf}
+use Rattle.sounding.specs.Genion.{rowsOf, virtualBy, rowsBy, rowsWith, fvertAt, genionWith, genionOf}
 
 -- rows by two functions that agree at every frequency
 pub rows-agree : (row other : Float → Float) → ((f : Float) → row f ≡ other f) → (fv : List Float) (first : ℕ) (out : List Float) (n : ℕ) → rowsOf row fv first out n ≡ rowsOf other fv first out n
@@ -31,7 +31,7 @@ module _ (find other : Finder) (s : IonoState) (agree : Agree find other s) wher
 
   pub genion-agrees : (k : ℕ) → genionWith find s k ≡ genionWith other s k
   unfolding genionWith rowsWith
-  genion-agrees k = by-shape (allByProfile s) k (fvertAt s k)
+  genion-agrees k = by-shape (profileOnly s) k (fvertAt s k)
 
 -- forty scans in place of each walk: the same heights, so the same rows
 pub genion-scan : (s : IonoState) (k : ℕ) → genionWith gethpScanOf s k ≡ genionOf s k

@@ -5,11 +5,10 @@ use Prim.Native.Nat.{ℕ, zero, suc}
 use lib.IntN.{ℤ, pos}
 use lib.ListN.{replicate}
 use lib.Ieee.{Float, nan}
-use Rattle.scalar.specs.F32.{negf}
+use Rattle.scalar.specs.F32.{negf, at}
 use Rattle.scalar.specs.Literals.{f0, f1, f10, f50, decimal}
 use Rattle.scalar.specs.Scalar.{truncOf}
 use Rattle.scalar.specs.Root.{sqrtOf}
-use Rattle.layers.specs.State.{at}
 use Rattle.layers.specs.declared.LayerParams.{LayerParams}
 use Rattle.layers.specs.FromLayers.{fromLayersOf}
 use Rattle.layers.specs.Ionset.{ionsetOf}

@@ -3,12 +3,12 @@
 // specs/Starred.antt.
 ghost use Prim.Native.Nat.{_<_, _≤_};
 use circular::Answer;
-use slot_sheet::SlotSheet;
-use reflectrix::Ionogram;
 use layer_mufs::Circuit;
 use layers::IonoState;
 use layers::LayerMuf;
 use layers::LayerParams;
+use reflectrix::Ionogram;
+use slot_sheet::SlotSheet;
 
 fn say(what: &[u8], n: u64) {
     io::write_all(1, what);

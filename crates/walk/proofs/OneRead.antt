@@ -10,11 +10,11 @@ use native.Mathlib.Omega.{arith}
 use lib.Dec.{T, ltb, lt→ltb, not-T}
 use lib.Ieee.{Float, nan, inf, fin, binary32, lt, le, fits, sub}
 use lib.Ieee.Fits.{and-l, and-i}
-use Rattle.scalar.specs.F32.{_-f_}
+use Rattle.scalar.specs.F32.{_-f_, at}
 use Rattle.scalar.specs.Literals.{f0}
 use Rattle.order.proofs.Tests.{nought-is, sub-lt, sub-le, sameInf, le-real, lt-real}
 use Rattle.order.proofs.Chains.{lt→le, le-lt, lt-le, lt-not-le, not-le-lt}
-use Rattle.readings.specs.Scan.{at, lineOf, hitIf, risingBy, segmentBy, segmentOf, orOn, scanFrom, readingBy, readingOf}
+use Rattle.readings.specs.Scan.{lineOf, hitIf, risingBy, segmentBy, segmentOf, orOn, scanFrom, readingBy, readingOf}
 use Rattle.readings.specs.Cursor.{countOf, stoppedBy, stoppedAt, readOnBy, readOnOf}
 use Rattle.readings.specs.declared.Hit.{Hit}
 use Rattle.readings.specs.declared.Hit.the-variants.{At, Miss}

@@ -4,9 +4,9 @@ use mathlib.Core.List.{List}
 use Prim.Native.Nat.{ℕ}
 use borrow.Author.Needs.{needs}
 use lib.Ieee.{Float}
-use Rattle.scalar.specs.F32.{_+f_, _-f_, _*f_, _≤f_}
+use Rattle.scalar.specs.F32.{_+f_, _-f_, _*f_, _≤f_, at}
 use Rattle.scalar.specs.Literals.{f0}
-use Rattle.readings.specs.Scan.{at, profileInterpolateOf}
+use Rattle.readings.specs.Scan.{profileInterpolateOf}
 use Rattle.heights.specs.Nodes.{xnpl, twdiv}
 use Rattle.heights.specs.Gethp.{hpOf}
 use Rattle.heights.specs.Walk.{flat, tableBy, cursorReadBy, gethpReadOf}

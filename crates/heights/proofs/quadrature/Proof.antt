@@ -7,8 +7,7 @@ use native.Mathlib.Numerals.{add-one}
 use native.Mathlib.Omega.{arith}
 use borrow.Author.Needs.{needs}
 use lib.Ieee.{Float}
-use Rattle.scalar.specs.F32.{_+f_, _*f_}
-use Rattle.readings.specs.Scan.{at}
+use Rattle.scalar.specs.F32.{_+f_, _*f_, at}
 use Rattle.heights.specs.Nodes.{wt}
 use Rattle.heights.specs.Gethp.{mupOf, hpOf}
 use Rattle.heights.specs.Walk.{flat}

@@ -8,7 +8,8 @@ use native.Mathlib.Omega.{arith}
 use borrow.Author.Needs.{needs}
 use lib.ListN.{set}
 use lib.Ieee.{Float}
-use Rattle.readings.specs.Scan.{at, readingOf}
+use Rattle.scalar.specs.F32.{at}
+use Rattle.readings.specs.Scan.{readingOf}
 use Rattle.readings.specs.declared.Reading.{Reading}
 use Rattle.heights.specs.Nodes.{heightOf}
 use Rattle.heights.specs.Gethp.{cutOf, ysqOf}

@@ -9,9 +9,8 @@ use native.Mathlib.Omega.{arith}
 use borrow.Author.Needs.{needs}
 use lib.ListN.{set}
 use lib.Ieee.{Float}
-use Rattle.scalar.specs.F32.{_≥f_}
+use Rattle.scalar.specs.F32.{_≥f_, at}
 use Rattle.scalar.specs.Literals.{f0}
-use Rattle.readings.specs.Scan.{at}
 use Rattle.readings.specs.Cursor.{readOnOf}
 use Rattle.readings.specs.declared.Read.{Read}
 use Rattle.walk.specs.Walk.{cursorBefore}

@@ -5,15 +5,15 @@ use Rattle.layer_mufs.proofs.f2_heights.Tie as tie
 
 returns : tie.Need-returns
 unfolding f2HeightsWith
-returns c = rw (← c .before .before .by-profile .ensures, c .before .if1 .taken, ← c .gethp .ensures)
+returns c = rw (← c .before .before .profile-only .ensures, c .before .if1 .taken, ← c .gethp .ensures)
 
 returns-2 : tie.Need-returns-2
 unfolding f2HeightsWith
-returns-2 c = rw (← c .before .before .before .before .by-profile .ensures, c .before .before .before .if1 .left, c .before .before .struct-known .given .1, c .before .if2 .taken, ← c .gethp2 .ensures)
+returns-2 c = rw (← c .before .before .before .before .profile-only .ensures, c .before .before .before .if1 .left, c .before .before .struct-known .given .1, c .before .if2 .taken, ← c .gethp2 .ensures)
 
 returns-3 : tie.Need-returns-3
 unfolding f2HeightsWith
-returns-3 c = rw (← c .before .before .before .before .by-profile .ensures, c .before .before .before .if1 .left, c .before .before .struct-known .given .1, c .before .if2 .left, ← c .parabolic .ensures)
+returns-3 c = rw (← c .before .before .before .before .profile-only .ensures, c .before .before .before .if1 .left, c .before .before .struct-known .given .1, c .before .if2 .left, ← c .parabolic .ensures)
 
 pub f2-heights-spec : {M : Type 1} → statement M
 f2-heights-spec =

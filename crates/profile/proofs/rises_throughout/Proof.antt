@@ -6,7 +6,7 @@ use Prim.Native.Nat.{_≤_, _<_, _+_, _-_, ℕ, suc}
 use native.Mathlib.Nat.{le-antisymm}
 use native.Mathlib.Omega.{arith}
 use lib.Ieee.{Float, lt}
-use Rattle.layers.specs.State.{at}
+use Rattle.scalar.specs.F32.{at}
 use Rattle.profile.specs.Rising.{risesFrom}
 use Rattle.profile.proofs.rises_throughout.Statement.{statement}
 use Rattle.profile.proofs.rises_throughout.Tie as tie

@@ -4,7 +4,7 @@ use mathlib.Core.List.{List}
 use Prim.Native.Nat.{_≤_, _<_, _+_, _-_, ℕ, suc}
 use native.Mathlib.Omega.{arith}
 use lib.Ieee.{Float, le}
-use Rattle.readings.specs.Scan.{at}
+use Rattle.scalar.specs.F32.{at}
 use Rattle.readings.specs.Cursor.{onBy, climbFrom, climbOf}
 use Rattle.readings.proofs.climb.Statement.{statement}
 use Rattle.readings.proofs.climb.Tie as tie

@@ -6,7 +6,8 @@ use native.Mathlib.Nat.{le-antisymm}
 use native.Mathlib.Omega.{arith}
 use borrow.Author.Needs.{needs}
 use lib.Ieee.{Float}
-use Rattle.readings.specs.Scan.{at, segmentOf, orOn, scanFrom, scanOf}
+use Rattle.scalar.specs.F32.{at}
+use Rattle.readings.specs.Scan.{segmentOf, orOn, scanFrom, scanOf}
 use Rattle.readings.specs.declared.Reading.the-variants.{Top}
 use Rattle.readings.proofs.scan.Statement.{statement}
 use Rattle.readings.proofs.scan.Tie as tie

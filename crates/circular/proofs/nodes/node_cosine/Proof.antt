@@ -4,7 +4,7 @@ use Prim.Native.Nat.{ℕ, _<_, _≤_}
 use native.Mathlib.Omega.{arith}
 use lib.ListN.{getD}
 use Rattle.circular.specs.Asin.{cosines}
-use Rattle.series.proofs.Arms.{Others, from-up}
+use Rattle.cases.proofs.Arms.{Others, from-up}
 use Rattle.circular.proofs.nodes.node_cosine.Statement.{statement}
 use Rattle.circular.proofs.nodes.node_cosine.Tie as tie
 

@@ -4,7 +4,7 @@ use Prim.Native.Nat.{ℕ, _<_, _≤_}
 use native.Mathlib.Omega.{arith}
 use lib.ListN.{getD}
 use Rattle.circular.specs.Atan.{angles}
-use Rattle.series.proofs.Arms.{Others, from-up}
+use Rattle.cases.proofs.Arms.{Others, from-up}
 use Rattle.circular.proofs.table.gentle_angle.Statement.{statement}
 use Rattle.circular.proofs.table.gentle_angle.Tie as tie
 

@@ -5,7 +5,7 @@ use native.Mathlib.Omega.{arith}
 use mathlib.Core.Bool.{Bool}
 use lib.Dec.{ltb}
 use borrow.Author.Tests.{lt-ltb, le-ltb}
-use Rattle.series.proofs.Cases.{split}
+use Rattle.cases.proofs.Cases.{split}
 use Rattle.fixed.specs.Fixed.{pick}
 use Rattle.exponential.specs.Exp.{rounded, lowered}
 use Rattle.exponential.proofs.ExpCases.{lowered-normal, lowered-subnormal}

@@ -4,7 +4,7 @@ use Prim.Native.Nat.{ℕ, _<_, _≤_}
 use native.Mathlib.Omega.{arith}
 use lib.ListN.{getD}
 use Rattle.exponential.specs.Tables.{sixteenths}
-use Rattle.series.proofs.Arms.{Others, from-up}
+use Rattle.cases.proofs.Arms.{Others, from-up}
 use Rattle.exponential.proofs.exponent.sixteenth.Statement.{statement}
 use Rattle.exponential.proofs.exponent.sixteenth.Tie as tie
 

@@ -5,7 +5,7 @@ use native.Mathlib.Omega.{arith}
 use native.Mathlib.Nat.{le-trans, le-of-eq, lt-of-lt-of-le, mod-eq-of-lt}
 use lib.Dec.{lit≤}
 use lib.Count.{leadingZeros}
-use Rattle.series.proofs.Cases.{split}
+use Rattle.cases.proofs.Cases.{split}
 use Rattle.exponential.specs.Ln.{below}
 use Rattle.exponential.proofs.LnCases.{ln-zero, ln-none, ln-inf, ln-1, ln-up, ln-down, ln-deep, Shifted, shifted}
 use borrow.Author.Needs.{needs}

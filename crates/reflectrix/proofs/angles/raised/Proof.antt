@@ -4,9 +4,8 @@ use Prim.Native.Nat.{ℕ, suc, _+_, _-_, _≤_, _<_}
 use native.Mathlib.Nat.{le-antisymm}
 use native.Mathlib.Omega.{arith}
 use lib.Ieee.{Float}
-use Rattle.scalar.specs.F32.{_-f_, _≥f_}
+use Rattle.scalar.specs.F32.{_-f_, _≥f_, at}
 use Rattle.scalar.specs.Literals.{f0, f8·5}
-use Rattle.layers.specs.State.{at}
 use Rattle.reflectrix.specs.Angles.{ANG, raisedBy, raisedFrom}
 use Rattle.reflectrix.proofs.angles.raised.Statement.{statement}
 use Rattle.reflectrix.proofs.angles.raised.Tie as tie

@@ -8,7 +8,7 @@ use native.Mathlib.Omega.{arith}
 use lib.ListN.{replicate, set}
 use lib.Ieee.{Float}
 use Rattle.scalar.specs.Literals.{f0}
-use Rattle.layers.specs.State.{at}
+use Rattle.scalar.specs.F32.{at}
 use Rattle.heights.specs.Gethp.{gethpOf}
 use Rattle.heights.proofs.Owned.{field-held}
 use Rattle.heights.proofs.Walks.{gethp-read-so}

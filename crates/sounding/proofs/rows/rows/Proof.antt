@@ -5,11 +5,11 @@ use Rattle.sounding.proofs.rows.rows.Tie as tie
 
 returns : tie.Need-returns
 unfolding rowsWith
-returns c = rw (← c .before .before .before .before .before .all-by-profile .ensures, c .before .before .before .before .if1 .taken, ← c .before .before .before .by-profile .ensures .0, ← c .before .before .before .by-profile .ensures .1, ← c .make .ensures)
+returns c = rw (← c .before .before .before .before .before .profile-only .ensures, c .before .before .before .before .if1 .taken, ← c .before .before .before .by-profile .ensures .0, ← c .before .before .before .by-profile .ensures .1, ← c .make .ensures)
 
 returns-2 : tie.Need-returns-2
 unfolding rowsWith
-returns-2 c = rw (← c .before .before .all-by-profile .ensures, c .before .if1 .left, ← c .by-table .ensures)
+returns-2 c = rw (← c .before .before .profile-only .ensures, c .before .if1 .left, ← c .by-table .ensures)
 
 pub rows-spec : {M : Type 1} → statement M
 rows-spec =
