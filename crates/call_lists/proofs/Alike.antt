@@ -26,11 +26,11 @@ use Rattle.losses.specs.declared.Decay.{Decay}
 use Rattle.hops.specs.Geometry.{geometryOf}
 use Rattle.layer_mufs.specs.Tangents.{tangentsOf}
 use Rattle.layer_mufs.specs.Lines.{readWith, eHeightsBy, eHeightsWith, eLineBy, eLineWith, parabolicOf, f2HeightsBy, f2HeightsWith, f2LineBy, f2LineWith, f1OwnBy, f1OwnWith, f1LineBy, f1LineWith}
-use Rattle.layer_mufs.specs.declared.Circuit.{Circuit}
+use Rattle.layer_mufs.specs.declared.PathNumbers.{PathNumbers}
 use Rattle.layer_mufs.specs.declared.Tangents.{Tangents}
-use Rattle.layer_mufs.specs.declared.Pair.{Pair}
+use Rattle.layer_mufs.specs.declared.HeightPair.{HeightPair}
 use Rattle.layer_mufs.specs.declared.LineAnswer.{LineAnswer}
-use Rattle.muf.specs.Curmuf.{f1Then, f2Then, eThen, threeWith}
+use Rattle.muf.specs.Curmuf.{f1Then, f2Then, eThen, regularWith}
 
 pub record Alike (u v : IonoState) (k : ℕ) : Type 0 where
   pub fi-same : u .fi ≡ v .fi
@@ -163,7 +163,7 @@ module _ (find other : Finder) (u v : IonoState) (k : ℕ) (a : Alike u v k) (fo
   e-line-same : (fxe gcdkm amind : Float) → eLineWith find u fxe gcdkm amind ≡ eLineWith other v fxe gcdkm amind
   unfolding eLineWith eHeightsWith
   e-line-same fxe gcdkm amind =
-      ap (λ (h : Pair). eLineBy (geometryOf gcdkm amind (h .hp) (h .ht) true) h fxe)
+      ap (λ (h : HeightPair). eLineBy (geometryOf gcdkm amind (h .hp) (h .ht) true) h fxe)
       (e-heights-by (profileOnly u) fxe ∙ ap (λ (b : Bool). eHeightsBy b other v fxe) (shape-same u v k a))
 
   f2-heights-by : (b f1 : Bool) (l : Slot) (x : Tangents) → f2HeightsBy b f1 find u l k x ≡ f2HeightsBy b f1 other v l k x
@@ -171,32 +171,32 @@ module _ (find other : Finder) (u v : IonoState) (k : ℕ) (a : Alike u v k) (fo
   f2-heights-by false true l x = read-same (x .fx2)
   f2-heights-by false false l x = parabolic-same u v k a l x
 
-  f2-line-same : (l : Slot) (x : Tangents) (f2d : List Float) (clat clck : Float) (c : Circuit) → f2LineWith find u l k x f2d clat clck c ≡ f2LineWith other v l k x f2d clat clck c
+  f2-line-same : (l : Slot) (x : Tangents) (f2d : List Float) (clat clck : Float) (c : PathNumbers) → f2LineWith find u l k x f2d clat clck c ≡ f2LineWith other v l k x f2d clat clck c
   unfolding f2LineWith f2HeightsWith
   f2-line-same l x f2d clat clck c =
-      ap (λ (h : Pair). f2LineBy (geometryOf (c .gcdkm) (c .amind) (h .hp) (h .ht) false) l h x f2d clat clck c)
+      ap (λ (h : HeightPair). f2LineBy (geometryOf (c .gcdkm) (c .amind) (h .hp) (h .ht) false) l h x f2d clat clck c)
       (f2-heights-by (profileOnly u) (l .fi1 >f f0) l x ∙ ap (λ (b : Bool). f2HeightsBy b (l .fi1 >f f0) other v l k x) (shape-same u v k a))
 
   f1-line-by : (b : Bool) (l : Slot) (fx1 : Float) (e : LayerMuf) (gcdkm amind : Float) → f1LineBy b find u l fx1 e gcdkm amind ≡ f1LineBy b other v l fx1 e gcdkm amind
   unfolding f1OwnWith
   f1-line-by true l fx1 e gcdkm amind = refl
-  f1-line-by false l fx1 e gcdkm amind = ap (λ (h : Pair). f1OwnBy (geometryOf gcdkm amind (h .hp) (h .ht) true) h (l .fi1) fx1) (read-same fx1)
+  f1-line-by false l fx1 e gcdkm amind = ap (λ (h : HeightPair). f1OwnBy (geometryOf gcdkm amind (h .hp) (h .ht) true) h (l .fi1) fx1) (read-same fx1)
 
   f1-line-same : (l : Slot) (fx1 : Float) (e : LayerMuf) (gcdkm amind : Float) → f1LineWith find u l fx1 e gcdkm amind ≡ f1LineWith other v l fx1 e gcdkm amind
   unfolding f1LineWith
   f1-line-same l fx1 e gcdkm amind = f1-line-by (l .fi1 ≤f f0) l fx1 e gcdkm amind
 
-  f2-then : (y : LineAnswer) (l : Slot) (x : Tangents) (c : Circuit) (e : LayerMuf) → f2Then y find u l x c e ≡ f2Then y other v l x c e
+  f2-then : (y : LineAnswer) (l : Slot) (x : Tangents) (c : PathNumbers) (e : LayerMuf) → f2Then y find u l x c e ≡ f2Then y other v l x c e
   f2-then (LineAnswer.Found f2) l x c e = ap (λ (z : LineAnswer). f1Then z e f2) (f1-line-same l (x .fx1) e (c .gcdkm) (c .amind))
   f2-then (LineAnswer.Refused r) l x c e = refl
 
-  e-then : (y : LineAnswer) (l : Slot) (x : Tangents) (f2d : List Float) (clat clck : Float) (c : Circuit) → eThen y find u l k x f2d clat clck c ≡ eThen y other v l k x f2d clat clck c
+  e-then : (y : LineAnswer) (l : Slot) (x : Tangents) (f2d : List Float) (clat clck : Float) (c : PathNumbers) → eThen y find u l k x f2d clat clck c ≡ eThen y other v l k x f2d clat clck c
   e-then (LineAnswer.Found e) l x f2d clat clck c =
       ap (λ (y : LineAnswer). f2Then y find u l x c e) (f2-line-same l x f2d clat clck c) ∙ f2-then (f2LineWith other v l k x f2d clat clck c) l x c e
   e-then (LineAnswer.Refused r) l x f2d clat clck c = refl
 
-  pub three-same : (l : Slot) (f2d : List Float) (clat clck : Float) (c : Circuit) → threeWith find u l k f2d clat clck c ≡ threeWith other v l k f2d clat clck c
-  unfolding threeWith
+  pub three-same : (l : Slot) (f2d : List Float) (clat clck : Float) (c : PathNumbers) → regularWith find u l k f2d clat clck c ≡ regularWith other v l k f2d clat clck c
+  unfolding regularWith
   three-same l f2d clat clck c =
       let x = tangentsOf l (c .gcdkm) in
       ap (λ (y : LineAnswer). eThen y find u l k x f2d clat clck c) (e-line-same (x .fxe) (c .gcdkm) (c .amind)) ∙ e-then (eLineWith other v (x .fxe) (c .gcdkm) (c .amind)) l x f2d clat clck c

@@ -27,19 +27,19 @@ use Rattle.reflectrix.specs.declared.Ionogram.{Ionogram}
 use Rattle.losses.specs.Alosfv.{alosfvOf}
 use Rattle.sounding.specs.Genion.{genionWith}
 use Rattle.layer_mufs.specs.Controlling.{compareE, farBy, slotBy, controllingOf}
-use Rattle.layer_mufs.specs.declared.Circuit.{Circuit}
+use Rattle.layer_mufs.specs.declared.PathNumbers.{PathNumbers}
 use Rattle.layer_mufs.proofs.Small.{controlling-small}
 use Rattle.muf.specs.Hour.{refusedOf}
 use Rattle.muf.specs.Sporadic.{startOf, rowAt, esFrom}
-use Rattle.muf.specs.Curmuf.{inDomain, listsReach, threeWith, refusedDone, esBy, threeBy, workedWith, doneBy, stepDoneWith, doneWith, rowsBy, rowsOf, flatWith}
+use Rattle.muf.specs.Curmuf.{inDomain, listsReach, regularWith, refusedRowsKept, esBy, regularBy, mufAtSlotWith, mufFromSearchBy, mufFromSearchWith, mufOfRowsWith, takenRowsBy, rowCountOf, flatWith}
 use Rattle.muf.specs.declared.EsRow.{EsRow}
 use Rattle.muf.specs.declared.EsStep.{EsStep}
-use Rattle.muf.specs.declared.Three.{Three}
-use Rattle.muf.specs.declared.ThreeAnswer.{ThreeAnswer}
+use Rattle.muf.specs.declared.RegularLines.{RegularLines}
+use Rattle.muf.specs.declared.RegularAnswer.{RegularAnswer}
 use Rattle.muf.specs.declared.MufHour.{MufHour}
-use Rattle.muf.specs.declared.Done.{Done}
+use Rattle.muf.specs.declared.AnswerAndRow.{AnswerAndRow}
 use Rattle.slot_sheet.specs.Sheet.{sheetBy, cellsBy, slotSheetWith, sheetCellsWith}
-use Rattle.muf_records.specs.Records.{recordAt, recordsDoneWith}
+use Rattle.muf_records.specs.Records.{recordAt, recordsAnswerWith}
 use Rattle.call_lists.specs.Calls.{EsRows, flat, records, mufWith, esAfter, Call, aMuf, aSheet, ofMuf, answerWith, answerOf, afterWith, afterOf, isAnswered, answered, pickIf, pick}
 use Rattle.call_lists.specs.Lists.{SameProfile}
 use Rattle.call_lists.proofs.Alike.{Alike, gethp-same, genion-same, alosfv-same, three-same}
@@ -79,35 +79,35 @@ record Seen : Type 0 where
   ksx : ℕ
   lower : Float
 
-abbrev seenOf : Done → Seen
+abbrev seenOf : AnswerAndRow → Seen
 seenOf d = record { outcome = d .answer .outcome; hour = d .answer .hour; rewrites = d .rewrites; ksx = d .ksx; lower = d .lower }
 
 -- the same is seen of d and e, and d leaves t, or t with slot k prepared where e is answered
-abbrev Follows : Done → Done → IonoState → ℕ → Type 0
+abbrev Follows : AnswerAndRow → AnswerAndRow → IonoState → ℕ → Type 0
 Follows d e t k = (seenOf d ≡ seenOf e) × (d .answer .state ≡ preparedIf (isAnswered (e .answer .outcome)) t k)
 
-refused-follows : (s t : IonoState) (k : ℕ) (r : Refusal) → Follows (refusedDone t r) (refusedDone s r) t k
-unfolding refusedDone refusedOf
+refused-follows : (s t : IonoState) (k : ℕ) (r : Refusal) → Follows (refusedRowsKept t r) (refusedRowsKept s r) t k
+unfolding refusedRowsKept refusedOf
 refused-follows s t k r = (refl, refl)
 
-es-follows : (x : EsStep) (s t : IonoState) (fe : Float) (m : Three) (k : ℕ) → Follows (esBy x t (lecdenOf t k) fe m k) (esBy x s (lecdenOf s k) fe m k) t k
+es-follows : (x : EsStep) (s t : IonoState) (fe : Float) (m : RegularLines) (k : ℕ) → Follows (esBy x t (lecdenOf t k) fe m k) (esBy x s (lecdenOf s k) fe m k) t k
 es-follows (EsStep.Next a) s t fe m k = (refl, refl)
 es-follows (EsStep.Refused r) s t fe m k = refused-follows s t k r
 
-three-follows : (x : ThreeAnswer) (s t : IonoState) (l : Slot) (k : ℕ) (step : EsStep) → Follows (threeBy x t (lecdenOf t k) l k step) (threeBy x s (lecdenOf s k) l k step) t k
-three-follows (ThreeAnswer.Found m) s t l k step = es-follows step s t (l .fi0) m k
-three-follows (ThreeAnswer.Refused r) s t l k step = refused-follows s t k r
+three-follows : (x : RegularAnswer) (s t : IonoState) (l : Slot) (k : ℕ) (step : EsStep) → Follows (regularBy x t (lecdenOf t k) l k step) (regularBy x s (lecdenOf s k) l k step) t k
+three-follows (RegularAnswer.Found m) s t l k step = es-follows step s t (l .fi0) m k
+three-follows (RegularAnswer.Refused r) s t l k step = refused-follows s t k r
 
-worked-follows : (find : Finder) (s t : IonoState) (k : ℕ) (step : EsStep) (f2d : List Float) (clat clck : Float) (c : Circuit) → AgreesOn find t → Alike (lecdenOf t k) (lecdenOf s k) k → Follows (workedWith find t k step f2d clat clck c) (workedWith gethpOf s k step f2d clat clck c) t k
-unfolding workedWith
-worked-follows find s t k step f2d clat clck c agree a =
+slot-follows : (find : Finder) (s t : IonoState) (k : ℕ) (step : EsStep) (f2d : List Float) (clat clck : Float) (c : PathNumbers) → AgreesOn find t → Alike (lecdenOf t k) (lecdenOf s k) k → Follows (mufAtSlotWith find t k step f2d clat clck c) (mufAtSlotWith gethpOf s k step f2d clat clck c) t k
+unfolding mufAtSlotWith
+slot-follows find s t k step f2d clat clck c agree a =
     let l = slotAt (lecdenOf s k) k in
-    let three = threeWith gethpOf (lecdenOf s k) l k f2d clat clck c in
-    let whole : ThreeAnswer → Slot → Done = λ x m. threeBy x t (lecdenOf t k) m k step in
-    let e : whole (threeWith find (lecdenOf t k) (slotAt (lecdenOf t k) k) k f2d clat clck c) (slotAt (lecdenOf t k) k) ≡ whole three l =
-    ap (λ (m : Slot). whole (threeWith find (lecdenOf t k) m k f2d clat clck c) m) (a .slot-same)
-    ∙ ap (λ (x : ThreeAnswer). whole x l) (three-same find gethpOf (lecdenOf t k) (lecdenOf s k) k a (found-alike find s t k agree a) l f2d clat clck c) in
-    subst (λ (d : Done). Follows d (threeBy three s (lecdenOf s k) l k step) t k) (sym e) (three-follows three s t l k step)
+    let three = regularWith gethpOf (lecdenOf s k) l k f2d clat clck c in
+    let whole : RegularAnswer → Slot → AnswerAndRow = λ x m. regularBy x t (lecdenOf t k) m k step in
+    let e : whole (regularWith find (lecdenOf t k) (slotAt (lecdenOf t k) k) k f2d clat clck c) (slotAt (lecdenOf t k) k) ≡ whole three l =
+    ap (λ (m : Slot). whole (regularWith find (lecdenOf t k) m k f2d clat clck c) m) (a .slot-same)
+    ∙ ap (λ (x : RegularAnswer). whole x l) (three-same find gethpOf (lecdenOf t k) (lecdenOf s k) k a (found-alike find s t k agree a) l f2d clat clck c) in
+    subst (λ (d : AnswerAndRow). Follows d (regularBy three s (lecdenOf s k) l k step) t k) (sym e) (three-follows three s t l k step)
 
 -- the controlling slot is chosen by the critical frequencies and kfx
 compare-same : (s t : IonoState) (kr : ℕ) → t .fi ≡ s .fi → compareE t kr ≡ compareE s kr
@@ -139,53 +139,53 @@ deciles-right : (n k lats clocks : ℕ) → (eqb n 576 && ltb k lats && ltb k cl
 deciles-right n k lats clocks e = first-of (eqb n 576) (ltb k lats) (first-of (eqb n 576 && ltb k lats) (ltb k clocks) e)
 
 -- by domain, deciles and reach: where lecden is reached at all, the MUF has picked the slot
-done-by : (d r : Bool) (find : Finder) (s t : IonoState) (step : EsStep) (f2d clat clck : List Float) (c : Circuit) → AgreesOn find t → Common s t → (d ≡ true → r ≡ true → slotAt t (controllingOf s) ≡ slotAt s (controllingOf s)) → Follows (doneBy d r find t step f2d clat clck c) (doneBy d r gethpOf s step f2d clat clck c) t (controllingOf s)
+done-by : (d r : Bool) (find : Finder) (s t : IonoState) (step : EsStep) (f2d clat clck : List Float) (c : PathNumbers) → AgreesOn find t → Common s t → (d ≡ true → r ≡ true → slotAt t (controllingOf s) ≡ slotAt s (controllingOf s)) → Follows (mufFromSearchBy d r find t step f2d clat clck c) (mufFromSearchBy d r gethpOf s step f2d clat clck c) t (controllingOf s)
 done-by true true find s t step f2d clat clck c agree g fresh =
     let k = controllingOf s in
-    subst (λ (j : ℕ). Follows (workedWith find t j step f2d (at clat j) (at clck j) c) (workedWith gethpOf s k step f2d (at clat k) (at clck k) c) t k) (sym (controlling-same s t g))
-    (worked-follows find s t k step f2d (at clat k) (at clck k) c agree (lecden-alike s t k g (fresh refl refl)))
+    subst (λ (j : ℕ). Follows (mufAtSlotWith find t j step f2d (at clat j) (at clck j) c) (mufAtSlotWith gethpOf s k step f2d (at clat k) (at clck k) c) t k) (sym (controlling-same s t g))
+    (slot-follows find s t k step f2d (at clat k) (at clck k) c agree (lecden-alike s t k g (fresh refl refl)))
 done-by true false find s t step f2d clat clck c agree g fresh = refused-follows s t (controllingOf s) Refusal.MufLists
 done-by false r find s t step f2d clat clck c agree g fresh = refused-follows s t (controllingOf s) Refusal.MufInput
 
 picked : (d e : Bool) (k : ℕ) → d ≡ true → e ≡ true → pickIf (d && e) k ≡ some k
 picked d e k hd he = rw (hd, he)
 
-done-follows : (find : Finder) (s t : IonoState) (n : ℕ) (row : ℕ → EsRow) (f2d clat clck : List Float) (c : Circuit) → AgreesOn find t → Common s t → ((k : ℕ) → pickIf (inDomain c && eqb (length f2d) 576) (controllingOf s) ≡ some k → slotAt t k ≡ slotAt s k) → Follows (doneWith find t n row f2d clat clck c) (doneWith gethpOf s n row f2d clat clck c) t (controllingOf s)
-unfolding doneWith stepDoneWith listsReach
+done-follows : (find : Finder) (s t : IonoState) (n : ℕ) (row : ℕ → EsRow) (f2d clat clck : List Float) (c : PathNumbers) → AgreesOn find t → Common s t → ((k : ℕ) → pickIf (inDomain c && eqb (length f2d) 576) (controllingOf s) ≡ some k → slotAt t k ≡ slotAt s k) → Follows (mufOfRowsWith find t n row f2d clat clck c) (mufOfRowsWith gethpOf s n row f2d clat clck c) t (controllingOf s)
+unfolding mufOfRowsWith mufFromSearchWith listsReach
 done-follows find s t n row f2d clat clck c agree g fresh =
     let step = esFrom row c n 0 startOf in
     let reach : ℕ → Bool = λ k. eqb (length f2d) 576 && ltb k (length clat) && ltb k (length clck) in
-    subst (λ (k : ℕ). Follows (doneBy (inDomain c) (reach k) find t step f2d clat clck c) (doneBy (inDomain c) (reach (controllingOf s)) gethpOf s step f2d clat clck c) t (controllingOf s)) (sym (controlling-same s t g))
+    subst (λ (k : ℕ). Follows (mufFromSearchBy (inDomain c) (reach k) find t step f2d clat clck c) (mufFromSearchBy (inDomain c) (reach (controllingOf s)) gethpOf s step f2d clat clck c) t (controllingOf s)) (sym (controlling-same s t g))
     (done-by (inDomain c) (reach (controllingOf s)) find s t step f2d clat clck c agree g (λ hd hr. fresh (controllingOf s) (picked (inDomain c) (eqb (length f2d) 576) (controllingOf s) hd (deciles-right (length f2d) (controllingOf s) (length clat) (length clck) hr))))
 
-muf-follows : (es : EsRows) (find : Finder) (s t : IonoState) (f2d clat clck : List Float) (c : Circuit) → AgreesOn find t → Common s t → FreshFor s t (aMuf es f2d clat clck c) → Follows (mufWith find t es f2d clat clck c) (mufWith gethpOf s es f2d clat clck c) t (controllingOf s)
-unfolding mufWith flatWith recordsDoneWith pick
+muf-follows : (es : EsRows) (find : Finder) (s t : IonoState) (f2d clat clck : List Float) (c : PathNumbers) → AgreesOn find t → Common s t → FreshFor s t (aMuf es f2d clat clck c) → Follows (mufWith find t es f2d clat clck c) (mufWith gethpOf s es f2d clat clck c) t (controllingOf s)
+unfolding mufWith flatWith recordsAnswerWith pick
 muf-follows (flat es) find s t f2d clat clck c agree g fresh =
-    subst (λ (m : ℕ). Follows (doneWith find t (rowsOf (length es) m) (rowAt es) f2d clat clck c) (doneWith gethpOf s (rowsOf (length es) (s .km)) (rowAt es) f2d clat clck c) t (controllingOf s)) (sym (g .km-common))
-    (done-follows find s t (rowsOf (length es) (s .km)) (rowAt es) f2d clat clck c agree g fresh)
+    subst (λ (m : ℕ). Follows (mufOfRowsWith find t (rowCountOf (length es) m) (rowAt es) f2d clat clck c) (mufOfRowsWith gethpOf s (rowCountOf (length es) (s .km)) (rowAt es) f2d clat clck c) t (controllingOf s)) (sym (g .km-common))
+    (done-follows find s t (rowCountOf (length es) (s .km)) (rowAt es) f2d clat clck c agree g fresh)
 muf-follows (records es) find s t f2d clat clck c agree g fresh =
-    let count : ℕ → ℕ = λ m. rowsBy (ltb (length es) m) (length es) m in
-    subst (λ (m : ℕ). Follows (doneWith find t (count m) (recordAt es) f2d clat clck c) (doneWith gethpOf s (count (s .km)) (recordAt es) f2d clat clck c) t (controllingOf s)) (sym (g .km-common))
+    let count : ℕ → ℕ = λ m. takenRowsBy (ltb (length es) m) (length es) m in
+    subst (λ (m : ℕ). Follows (mufOfRowsWith find t (count m) (recordAt es) f2d clat clck c) (mufOfRowsWith gethpOf s (count (s .km)) (recordAt es) f2d clat clck c) t (controllingOf s)) (sym (g .km-common))
     (done-follows find s t (count (s .km)) (recordAt es) f2d clat clck c agree g fresh)
 
 -- where it is refused 9, or 10 for its deciles, it is not answered: so an answered MUF has picked its slot
-answered-by : (d r : Bool) (s : IonoState) (step : EsStep) (f2d clat clck : List Float) (c : Circuit) → isAnswered (doneBy d r gethpOf s step f2d clat clck c .answer .outcome) ≡ true → (d ≡ true) × (r ≡ true)
-unfolding refusedDone refusedOf
+answered-by : (d r : Bool) (s : IonoState) (step : EsStep) (f2d clat clck : List Float) (c : PathNumbers) → isAnswered (mufFromSearchBy d r gethpOf s step f2d clat clck c .answer .outcome) ≡ true → (d ≡ true) × (r ≡ true)
+unfolding refusedRowsKept refusedOf
 answered-by true true s step f2d clat clck c e = (refl, refl)
 answered-by true false s step f2d clat clck c e = absurd (not-both e)
 answered-by false r s step f2d clat clck c e = absurd (not-both e)
 
-done-picked : (s : IonoState) (n : ℕ) (row : ℕ → EsRow) (f2d clat clck : List Float) (c : Circuit) → isAnswered (doneWith gethpOf s n row f2d clat clck c .answer .outcome) ≡ true → pickIf (inDomain c && eqb (length f2d) 576) (controllingOf s) ≡ some (controllingOf s)
-unfolding doneWith stepDoneWith listsReach
+done-picked : (s : IonoState) (n : ℕ) (row : ℕ → EsRow) (f2d clat clck : List Float) (c : PathNumbers) → isAnswered (mufOfRowsWith gethpOf s n row f2d clat clck c .answer .outcome) ≡ true → pickIf (inDomain c && eqb (length f2d) 576) (controllingOf s) ≡ some (controllingOf s)
+unfolding mufOfRowsWith mufFromSearchWith listsReach
 done-picked s n row f2d clat clck c e =
     let k = controllingOf s in
     let h = answered-by (inDomain c) (eqb (length f2d) 576 && ltb k (length clat) && ltb k (length clck)) s (esFrom row c n 0 startOf) f2d clat clck c e in
     picked (inDomain c) (eqb (length f2d) 576) k (h .0) (deciles-right (length f2d) k (length clat) (length clck) (h .1))
 
-muf-picked : (es : EsRows) (s : IonoState) (f2d clat clck : List Float) (c : Circuit) → answered s (aMuf es f2d clat clck c) ≡ true → pick s (aMuf es f2d clat clck c) ≡ some (controllingOf s)
-unfolding answered answerWith pick mufWith flatWith recordsDoneWith
-muf-picked (flat es) s f2d clat clck c e = done-picked s (rowsOf (length es) (s .km)) (rowAt es) f2d clat clck c e
-muf-picked (records es) s f2d clat clck c e = done-picked s (rowsBy (ltb (length es) (s .km)) (length es) (s .km)) (recordAt es) f2d clat clck c e
+muf-picked : (es : EsRows) (s : IonoState) (f2d clat clck : List Float) (c : PathNumbers) → answered s (aMuf es f2d clat clck c) ≡ true → pick s (aMuf es f2d clat clck c) ≡ some (controllingOf s)
+unfolding answered answerWith pick mufWith flatWith recordsAnswerWith
+muf-picked (flat es) s f2d clat clck c e = done-picked s (rowCountOf (length es) (s .km)) (rowAt es) f2d clat clck c e
+muf-picked (records es) s f2d clat clck c e = done-picked s (takenRowsBy (ltb (length es) (s .km)) (length es) (s .km)) (recordAt es) f2d clat clck c e
 
 -- ---- the slot sheet
 

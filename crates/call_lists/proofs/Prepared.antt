@@ -16,7 +16,7 @@ use Rattle.profile.specs.F1.{valleyOf, f1Of, reshapedOf}
 use Rattle.profile.specs.Grid.{heightsOf}
 use Rattle.profile.specs.Density.{densityOf}
 use Rattle.profile.specs.Rising.{risesOf}
-use Rattle.profile.specs.Kept.{Kept}
+use Rattle.profile.specs.LecdenKept.{LecdenKept}
 use Rattle.profile.specs.declared.Slot.{Slot}
 use Rattle.profile.proofs.Keeps.{lecden-keeps, lecden-supplied}
 use Rattle.call_lists.proofs.Alike.{Alike, yi0-same, yi1-same, yi2-same, hi0-same, hi1-same, hi2-same, fsec-same}
@@ -123,7 +123,7 @@ middle-apart k j h e = h (omega arith)
 last-apart : (k j : ℕ) → 3 * k + 2 ≢ 3 * j + 1
 last-apart k j e = absurd (omega arith)
 
-slot-kept : (t r : IonoState) (j k : ℕ) → Kept t r j → k ≢ j → slotAt r k ≡ slotAt t k
+slot-kept : (t r : IonoState) (j k : ℕ) → LecdenKept t r j → k ≢ j → slotAt r k ≡ slotAt t k
 unfolding slotAt
 slot-kept t r j k p h =
     let y = p .yi-kept .same in

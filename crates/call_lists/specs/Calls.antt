@@ -14,11 +14,11 @@ use Rattle.layers.specs.declared.EsParams.{EsParams}
 use Rattle.heights.specs.Gethp.{Finder, gethpOf}
 use Rattle.reflectrix.specs.declared.Ionogram.{Ionogram}
 use Rattle.layer_mufs.specs.Controlling.{controllingOf}
-use Rattle.layer_mufs.specs.declared.Circuit.{Circuit}
+use Rattle.layer_mufs.specs.declared.PathNumbers.{PathNumbers}
 use Rattle.muf.specs.Curmuf.{inDomain, flatWith, rewrittenBy}
 use Rattle.muf.specs.declared.MufHour.{MufHour}
-use Rattle.muf.specs.declared.Done.{Done}
-use Rattle.muf_records.specs.Records.{recordsDoneWith, recordsBy}
+use Rattle.muf.specs.declared.AnswerAndRow.{AnswerAndRow}
+use Rattle.muf_records.specs.Records.{recordsAnswerWith, recordsBy}
 use Rattle.slot_sheet.specs.Sheet.{slotSheetWith, sheetCellsWith}
 
 -- ---- the Es rows lent to a circuit MUF: flat, four numbers a row, or records
@@ -27,9 +27,9 @@ pub data EsRows : Type 0 where
   flat : List Float → EsRows
   records : List EsParams → EsRows
 
-unfoldable pub mufWith : Finder → IonoState → EsRows → List Float → List Float → List Float → Circuit → Done
+unfoldable pub mufWith : Finder → IonoState → EsRows → List Float → List Float → List Float → PathNumbers → AnswerAndRow
 mufWith find s (flat es) f2d clat clck c = flatWith find s es f2d clat clck c
-mufWith find s (records es) f2d clat clck c = recordsDoneWith find s es f2d clat clck c
+mufWith find s (records es) f2d clat clck c = recordsAnswerWith find s es f2d clat clck c
 
 -- only the controlling row's lower decile is rewritten
 unfoldable pub esAfter : EsRows → Bool → ℕ → Float → EsRows
@@ -39,7 +39,7 @@ esAfter (records es) rewrites ksx lower = records (recordsBy rewrites es ksx low
 -- ---- calls and answers
 
 pub data Call : Type 0 where
-  aMuf : EsRows → List Float → List Float → List Float → Circuit → Call
+  aMuf : EsRows → List Float → List Float → List Float → PathNumbers → Call
   -- any slot number, any angle count, any layer table, any cells
   aSheet : ℕ → ℕ → List LayerMuf → List ℤ → Call
 

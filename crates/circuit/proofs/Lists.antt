@@ -47,8 +47,8 @@ words-on r l o i h e =
     rw (e, drop-cons l i 0, add-one, set-at (wordsOf r i) (getD l i 0) (drop (suc i) l) (wordAt r (4 + 4 * i)) i (length-words r i), append-assoc)
 
 -- a list filled to its end
-pub filled : (w l : List ℕ) (i : ℕ) → length l ≤ i → w ++ drop i l ≡ w
-filled w l i h = rw (drop-of-length-le l h, append-nil)
+pub filled-up : (w l : List ℕ) (i : ℕ) → length l ≤ i → w ++ drop i l ≡ w
+filled-up w l i h = rw (drop-of-length-le l h, append-nil)
 
 -- a record that is not the one looked for
 pub member-on : (n : ℕ) (l : List ℕ) (i : ℕ) → i < length l → (n ≡ getD l i 0 → ⊥) → member n (drop i l) ≡ member n (drop (i + 1) l)

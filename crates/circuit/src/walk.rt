@@ -81,7 +81,7 @@ fn step(o: Form, file: &[u8], order: &[usize], at: usize) -> Step
 }
 
 // Whether the record that a step came to is the one that may stand where `left` more may follow.
-fn landed(o: Form, r: &[u8], left: usize) -> bool
+fn may_stand(o: Form, r: &[u8], left: usize) -> bool
     requires { ⌜ Fit o × (length (now r) ≡ o .size) ⌝ }
     ensures { λ b. ⌜ b ≡ soundBy o (leb 48 left) (now (r .entry)) ⌝ }
 {
@@ -133,7 +133,7 @@ fn walk(o: Form, file: &[u8], km: usize) -> Chain
                     return refused(Refusal::ChainRecord);
                 }
                 left = left - 1;
-                if !landed(o, &file[size * next..size * next + size], left) {
+                if !may_stand(o, &file[size * next..size * next + size], left) {
                     return refused(Refusal::ChainRecord);
                 }
                 order[count] = next;

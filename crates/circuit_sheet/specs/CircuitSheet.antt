@@ -18,7 +18,7 @@ use Rattle.layers.specs.Ionset.{ionsetOf}
 use Rattle.layers.specs.declared.IonoState.{IonoState}
 use Rattle.layers.specs.declared.LayerParams.{LayerParams}
 use Rattle.layers.specs.declared.LayerMuf.{LayerMuf}
-use Rattle.layer_mufs.specs.declared.Circuit as path
+use Rattle.layer_mufs.specs.declared.PathNumbers as path
 use Rattle.muf.specs.Hour.{zeroHour}
 use Rattle.muf.specs.Curmuf.{curmufOf}
 use Rattle.muf.specs.declared.MufHour.{MufHour}
@@ -70,7 +70,7 @@ slotsOf c =
     let s = fromLayersOf (paramsOf (c .points)) (c .km) .state in
     ionsetOf (shapedOf s (c .shape)) .state
 
-unfoldable pub pathOf : Circuit → path.Circuit
+unfoldable pub pathOf : Circuit → path.PathNumbers
 pathOf c =
     record { gcd = ofBits binary32 (c .gcd); gcdkm = ofBits binary32 (c .gcdkm); amind = ofBits binary32 (c .amind); ssn = ofBits binary32 (c .ssn) }
 
@@ -85,12 +85,12 @@ mufOf c s =
     (pathOf c)
 
 -- The rows of a slot below kfx; each sheet has its own cells, thirty for each of 40 angles, so that none is refused.
-abbrev pub rowsBy : Bool → IonoState → ℕ → ℕ → List LayerMuf → Ionogram
-rowsBy true s k nang lines = slotSheetOf s k nang lines (replicate 1200 (pos 0)) .ion
-rowsBy false s k nang lines = noRows
+abbrev pub slotRowsBy : Bool → IonoState → ℕ → ℕ → List LayerMuf → Ionogram
+slotRowsBy true s k nang lines = slotSheetOf s k nang lines (replicate 1200 (pos 0)) .ion
+slotRowsBy false s k nang lines = noRows
 
-unfoldable pub rowsOf : IonoState → ℕ → ℕ → List LayerMuf → Ionogram
-rowsOf s k nang lines = rowsBy (ltb k (s .kfx)) s k nang lines
+unfoldable pub slotRowsOf : IonoState → ℕ → ℕ → List LayerMuf → Ionogram
+slotRowsOf s k nang lines = slotRowsBy (ltb k (s .kfx)) s k nang lines
 
 unfoldable pub refusedOf : Refusal → Sheet
 refusedOf r = record { outcome = Outcome.Refused r; hour = zeroHour; slots = 0; rows = noRows ∷ noRows ∷ noRows ∷ [] }
@@ -102,7 +102,7 @@ answeredOf s nang h =
       outcome = Outcome.Answered;
       hour = h;
       slots = s .kfx;
-      rows = rowsOf s 0 nang (h .layers) ∷ rowsOf s 1 nang (h .layers) ∷ rowsOf s 2 nang (h .layers) ∷ [];
+      rows = slotRowsOf s 0 nang (h .layers) ∷ slotRowsOf s 1 nang (h .layers) ∷ slotRowsOf s 2 nang (h .layers) ∷ [];
     }
 
 abbrev pub mufThen : Outcome → IonoState → ℕ → MufHour → Sheet

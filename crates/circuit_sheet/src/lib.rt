@@ -1,7 +1,7 @@
 // The sheet of a circuit file: the hour's MUF, and the thirty rows of each slot.
 ghost use mathlib.Core.Path.{_≡_};
 ghost use Prim.Native.Nat.{_+_, _<_, _≤_};
-ghost use Rattle.circuit_sheet.specs.CircuitSheet.{threeAt, layersAt, paramsOf, esOf, columnOf, shapedOf, slotsOf, pathOf, mufOf, rowsOf, refusedOf, answeredOf, scannedOf, circuitSheetOf, sheetOf};
+ghost use Rattle.circuit_sheet.specs.CircuitSheet.{threeAt, layersAt, paramsOf, esOf, columnOf, shapedOf, slotsOf, pathOf, mufOf, slotRowsOf, refusedOf, answeredOf, scannedOf, circuitSheetOf, sheetOf};
 use layers::IonoState;
 use layers::LayerMuf;
 use layers::LayerParams;
@@ -101,10 +101,10 @@ fn slots(c: circuit::Circuit) -> IonoState
     set.state
 }
 
-fn path(c: circuit::Circuit) -> layer_mufs::Circuit
+fn path(c: circuit::Circuit) -> layer_mufs::PathNumbers
     ensures { λ r. ⌜ r ≡ pathOf c ⌝ }
 {
-    layer_mufs::Circuit {
+    layer_mufs::PathNumbers {
         gcd: scalar::number(c.gcd),
         gcdkm: scalar::number(c.gcdkm),
         amind: scalar::number(c.amind),
@@ -129,7 +129,7 @@ fn circuit_muf(c: circuit::Circuit, s: IonoState) -> MufAnswer
 
 // The rows of slot k, with cells of its own.
 fn slot_rows(s: IonoState, k: usize, nang: usize, lines: [LayerMuf; 4]) -> Ionogram
-    ensures { λ r. ⌜ r ≡ rowsOf s k nang lines ⌝ }
+    ensures { λ r. ⌜ r ≡ slotRowsOf s k nang lines ⌝ }
 {
     if k < s.kfx {
         let mut cells = [0i32; 1200];

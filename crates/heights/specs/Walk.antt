@@ -54,9 +54,9 @@ unfoldable pub gethpWalkOf : Finder
 gethpWalkOf s fxx = gethpReadOf (risesOf (s .htr)) (s .htr) (s .fnsq) fxx
 
 -- ---- the densities in a flat table, ysq[ig][ib] at 2 * ig + ib: after n reads, each put at its place
-unfoldable pub filled : (ℕ → ℕ) → (ℕ → Float) → ℕ → List Float
-filled place density zero = replicate 40 f0
-filled place density (suc n) = set (filled place density n) (place n) (density n)
+unfoldable pub placed : (ℕ → ℕ) → (ℕ → Float) → ℕ → List Float
+placed place density zero = replicate 40 f0
+placed place density (suc n) = set (placed place density n) (place n) (density n)
 
 abbrev pub placeAt : Bool → ℕ → ℕ
 placeAt up k = 2 * igAt k + ibAt up k
@@ -65,10 +65,10 @@ abbrev pub flat : List Float → ℕ → ℕ → Float
 flat ysq ig ib = at ysq (2 * ig + ib)
 
 unfoldable pub walkTable : List Float → List Float → Float → Float → ℕ → List Float
-walkTable htr fnsq ht fr n = filled (placeAt (ht ≥f f0)) (λ k. cutOf (readAt htr fnsq ht k .reading) fr) n
+walkTable htr fnsq ht fr n = placed (placeAt (ht ≥f f0)) (λ k. cutOf (readAt htr fnsq ht k .reading) fr) n
 
 unfoldable pub scanTable : List Float → List Float → Float → Float → ℕ → List Float
-scanTable htr fnsq ht fr n = filled (λ k. k) (λ k. ysqOf htr fnsq ht fr (k / 2) (k % 2)) n
+scanTable htr fnsq ht fr n = placed (λ k. k) (λ k. ysqOf htr fnsq ht fr (k / 2) (k % 2)) n
 
 abbrev pub tableBy : Bool → List Float → List Float → Float → Float → List Float
 tableBy true htr fnsq ht fr = walkTable htr fnsq ht fr 40

@@ -23,9 +23,9 @@ use Rattle.layers.specs.State.{profileOnly}
 use Rattle.layers.specs.declared.IonoState.{IonoState}
 use Rattle.layers.specs.declared.LayerMuf.{LayerMuf}
 use Rattle.profile.specs.declared.Slot.{Slot}
-use Rattle.layer_mufs.specs.declared.Circuit.{Circuit}
+use Rattle.layer_mufs.specs.declared.PathNumbers.{PathNumbers}
 use Rattle.layer_mufs.specs.declared.Tangents.{Tangents}
-use Rattle.layer_mufs.specs.declared.Pair.{Pair}
+use Rattle.layer_mufs.specs.declared.HeightPair.{HeightPair}
 use Rattle.layer_mufs.specs.declared.Deviations.{Deviations}
 use Rattle.layer_mufs.specs.declared.LineAnswer.{LineAnswer}
 
@@ -33,8 +33,8 @@ unfoldable pub tenthOf : Float → Float
 tenthOf muf = maxOf (f0·1 *f muf) f0·01
 
 -- all four lines of the hour have this form
-unfoldable pub lineOf : Float → Float → Float → Float → Float → Float → Float → Float → LayerMuf
-lineOf sigl sigu del hp ht fv xhops muf =
+unfoldable pub layerLineOf : Float → Float → Float → Float → Float → Float → Float → Float → LayerMuf
+layerLineOf sigl sigu del hp ht fv xhops muf =
     record { sigl = sigl; sigu = sigu; delmuf = del *f R2D; hpmuf = hp; htmuf = ht; fvmuf = fv; afmuf = f0; nhopmf = truncOf xhops; yfot = muf -f f1·28 *f sigl; ymuf = muf; yhpf = muf +f f1·28 *f sigu }
 
 -- a line of +0
@@ -50,25 +50,25 @@ abbrev pub lineValue : LineAnswer → LayerMuf
 lineValue (LineAnswer.Found m) = m
 lineValue (LineAnswer.Refused r) = zeroLine
 
-abbrev pub readWith : Finder → IonoState → Float → Pair
+abbrev pub readWith : Finder → IonoState → Float → HeightPair
 readWith find t fx = let h = find t fx in record { hp = h .hp; ht = h .ht }
 
 -- the E layer
 
-abbrev pub eHeightsBy : Bool → Finder → IonoState → Float → Pair
+abbrev pub eHeightsBy : Bool → Finder → IonoState → Float → HeightPair
 eHeightsBy true find t fxe = readWith find t fxe
 eHeightsBy false find t fxe = record { hp = f125·3; ht = f104·25 }
 
-unfoldable pub eHeightsWith : Finder → IonoState → Float → Pair
+unfoldable pub eHeightsWith : Finder → IonoState → Float → HeightPair
 eHeightsWith find t fxe = eHeightsBy (profileOnly t) find t fxe
 
-unfoldable pub eFoundOf : HopGeometry → Pair → Float → LayerMuf
+unfoldable pub eFoundOf : HopGeometry → HeightPair → Float → LayerMuf
 eFoundOf g h fxe =
     let emuf = fxe *f g .secp in
     let sig = tenthOf emuf in
-    lineOf sig sig (g .del) (h .hp) (h .ht) fxe (g .xhops) emuf
+    layerLineOf sig sig (g .del) (h .hp) (h .ht) fxe (g .xhops) emuf
 
-abbrev pub eLineBy : Geometry → Pair → Float → LineAnswer
+abbrev pub eLineBy : Geometry → HeightPair → Float → LineAnswer
 eLineBy (Geometry.Found g) h fxe = LineAnswer.Found (eFoundOf g h fxe)
 eLineBy (Geometry.Refused r) h fxe = LineAnswer.Refused r
 
@@ -80,7 +80,7 @@ eLineOf = eLineWith gethpOf
 
 -- the F2 layer
 
-unfoldable pub parabolicOf : IonoState → Slot → ℕ → Tangents → Pair
+unfoldable pub parabolicOf : IonoState → Slot → ℕ → Tangents → HeightPair
 parabolicOf t l ks x =
     record {
       hp = l .hi2 -f l .yi2 +f bendyOf t 2 ks (x .fx2) +f (penOf t 0 ks (x .fx2) -f f2 *f l .yi0);
@@ -88,16 +88,16 @@ parabolicOf t l ks x =
     }
 
 -- iedp < 0, fi1 > 0: a NaN counts as no F1 here
-abbrev pub f2HeightsBy : Bool → Bool → Finder → IonoState → Slot → ℕ → Tangents → Pair
+abbrev pub f2HeightsBy : Bool → Bool → Finder → IonoState → Slot → ℕ → Tangents → HeightPair
 f2HeightsBy true f1 find t l ks x = readWith find t (x .fx2)
 f2HeightsBy false true find t l ks x = readWith find t (x .fx2)
 f2HeightsBy false false find t l ks x = parabolicOf t l ks x
 
-unfoldable pub f2HeightsWith : Finder → IonoState → Slot → ℕ → Tangents → Pair
+unfoldable pub f2HeightsWith : Finder → IonoState → Slot → ℕ → Tangents → HeightPair
 f2HeightsWith find t l ks x = f2HeightsBy (profileOnly t) (l .fi1 >f f0) find t l ks x
 
 -- the rounds from the first pass on; they read neither angle nor height of their start
-unfoldable pub bentOf : Float → Float → Pair → HopGeometry → Round
+unfoldable pub bentOf : Float → Float → HeightPair → HopGeometry → Round
 bentOf fc fx h g =
     roundsOf (record { fc = fc; fx = fx; hp = h .hp; ht = h .ht; psi = g .psi; cpsi = g .cpsi; spsi = g .spsi }) 5
     (record { sphe = g .sphe; fob = fx *f g .secp; del = g .del; hp = h .hp })
@@ -127,33 +127,33 @@ unfoldable pub deviationsOf : List Float → Float → Float → Float → Float
 deviationsOf f2d f2muf ssn clat clck = let freq_low = f0·9 *f f2muf in lowBy (f2disOf f2d f2muf ssn clat freq_low clck) f2d f2muf ssn clat clck
 
 abbrev pub f2BentBy : Deviations → Round → Float → Float → Float → LineAnswer
-f2BentBy (Deviations.Both sigl3 sigu3) b ht2 fx2 xhops = LineAnswer.Found (lineOf sigl3 sigu3 (b .del) (b .hp) ht2 fx2 xhops (b .fob))
+f2BentBy (Deviations.Both sigl3 sigu3) b ht2 fx2 xhops = LineAnswer.Found (layerLineOf sigl3 sigu3 (b .del) (b .hp) ht2 fx2 xhops (b .fob))
 f2BentBy (Deviations.Refused r) b ht2 fx2 xhops = LineAnswer.Refused r
 
 unfoldable pub f2BentOf : List Float → Round → Float → Float → Float → Float → Float → Float → LineAnswer
 f2BentOf f2d b ht2 fx2 xhops ssn clat clck = f2BentBy (deviationsOf f2d (b .fob) ssn clat clck) b ht2 fx2 xhops
 
-abbrev pub f2LineBy : Geometry → Slot → Pair → Tangents → List Float → Float → Float → Circuit → LineAnswer
+abbrev pub f2LineBy : Geometry → Slot → HeightPair → Tangents → List Float → Float → Float → PathNumbers → LineAnswer
 f2LineBy (Geometry.Found g) l h x f2d clat clck c = f2BentOf f2d (bentOf (l .fi2) (x .fx2) h g) (h .ht) (x .fx2) (g .xhops) (c .ssn) clat clck
 f2LineBy (Geometry.Refused r) l h x f2d clat clck c = LineAnswer.Refused r
 
-unfoldable pub f2LineWith : Finder → IonoState → Slot → ℕ → Tangents → List Float → Float → Float → Circuit → LineAnswer
+unfoldable pub f2LineWith : Finder → IonoState → Slot → ℕ → Tangents → List Float → Float → Float → PathNumbers → LineAnswer
 f2LineWith find t l ks x f2d clat clck c =
     let h = f2HeightsWith find t l ks x in
     f2LineBy (geometryOf (c .gcdkm) (c .amind) (h .hp) (h .ht) false) l h x f2d clat clck c
 
-abbrev pub f2LineOf : IonoState → Slot → ℕ → Tangents → List Float → Float → Float → Circuit → LineAnswer
+abbrev pub f2LineOf : IonoState → Slot → ℕ → Tangents → List Float → Float → Float → PathNumbers → LineAnswer
 f2LineOf = f2LineWith gethpOf
 
 -- the F1 layer
 
-unfoldable pub f1FoundOf : HopGeometry → Pair → Float → Float → LayerMuf
+unfoldable pub f1FoundOf : HopGeometry → HeightPair → Float → Float → LayerMuf
 f1FoundOf g h fc fx1 =
     let b = bentOf fc fx1 h g in
     let sig = tenthOf (b .fob) in
-    lineOf sig sig (b .del) (b .hp) (h .ht) fx1 (g .xhops) (b .fob)
+    layerLineOf sig sig (b .del) (b .hp) (h .ht) fx1 (g .xhops) (b .fob)
 
-abbrev pub f1OwnBy : Geometry → Pair → Float → Float → LineAnswer
+abbrev pub f1OwnBy : Geometry → HeightPair → Float → Float → LineAnswer
 f1OwnBy (Geometry.Found g) h fc fx1 = LineAnswer.Found (f1FoundOf g h fc fx1)
 f1OwnBy (Geometry.Refused r) h fc fx1 = LineAnswer.Refused r
 

@@ -1,4 +1,4 @@
 pub mod State
 pub mod FromLayers
 pub mod Ionset
-pub mod Kept
+pub mod IonsetKept

@@ -13,8 +13,8 @@ use Rattle.refusal.specs.Number.{numberOf}
 use Rattle.constants.specs.Constants.{RZ}
 use Rattle.hops.specs.Geometry.{hopsOf}
 use Rattle.hops.specs.declared.Hops.{Hops}
-use Rattle.layer_mufs.specs.Lines.{lineOf, zeroLine}
-use Rattle.layer_mufs.specs.declared.Circuit.{Circuit}
+use Rattle.layer_mufs.specs.Lines.{layerLineOf, zeroLine}
+use Rattle.layer_mufs.specs.declared.PathNumbers.{PathNumbers}
 use Rattle.muf.specs.declared.EsRow.{EsRow}
 use Rattle.muf.specs.declared.EsRay.{EsRay}
 use Rattle.muf.specs.declared.EsSearch.{EsSearch}
@@ -40,16 +40,16 @@ takenBy false a k row ray hop esd =
 unfoldable pub takenOf : EsSearch → ℕ → EsRow → EsRay → Float → EsSearch
 takenOf a k row ray hop = let esd = row .fs1 *f ray .secp in takenBy (a .esmuf -f esd >f f0) a k row ray hop esd
 
-abbrev pub hopBy : Hops → EsSearch → ℕ → EsRow → Circuit → EsStep
+abbrev pub hopBy : Hops → EsSearch → ℕ → EsRow → PathNumbers → EsStep
 hopBy (Hops.Count hop) a k row c = EsStep.Next (takenOf a k row (rayOf (row .hs) hop (c .gcd)) hop)
 hopBy (Hops.Refused r) a k row c = EsStep.Refused r
 
 -- fs[1] <= 0: the row is passed over
-abbrev pub rowBy : Bool → EsSearch → ℕ → EsRow → Circuit → EsStep
+abbrev pub rowBy : Bool → EsSearch → ℕ → EsRow → PathNumbers → EsStep
 rowBy true a k row c = EsStep.Next a
 rowBy false a k row c = hopBy (hopsOf (c .gcdkm) (c .amind) (row .hs)) a k row c
 
-unfoldable pub esRowOf : EsSearch → ℕ → EsRow → Circuit → EsStep
+unfoldable pub esRowOf : EsSearch → ℕ → EsRow → PathNumbers → EsStep
 esRowOf a k row c = rowBy (row .fs1 ≤f f0) a k row c
 
 unfoldable pub startOf : EsSearch
@@ -76,7 +76,7 @@ nextBy (EsStep.Next b) rest = rest b
 nextBy (EsStep.Refused r) rest = EsStep.Refused r
 
 -- n rows from row k on, in order
-unfoldable pub esFrom : (ℕ → EsRow) → Circuit → ℕ → ℕ → EsSearch → EsStep
+unfoldable pub esFrom : (ℕ → EsRow) → PathNumbers → ℕ → ℕ → EsSearch → EsStep
 esFrom row c zero k a = EsStep.Next a
 esFrom row c (suc n) k a = nextBy (esRowOf a k (row k) c) (λ b. esFrom row c n (k + 1) b)
 
@@ -99,7 +99,7 @@ esFoundOf a fe =
     let xes = fe -f a .fs0 in
     let sigl4 = minOf (sigl4Of xes sigb sigu4) sigz in
     record {
-      line = lineOf (sigl4 *f a .secpx) (sigu4 *f a .secpx) (atanOf (a .tdelx)) (a .hs) (a .hs) (a .fs1) (a .hop) (a .esmuf);
+      line = layerLineOf (sigl4 *f a .secpx) (sigu4 *f a .secpx) (atanOf (a .tdelx)) (a .hs) (a .hs) (a .fs1) (a .hop) (a .esmuf);
       rewrites = true;
       lower = a .fs1 -f f1·28 *f sigl4;
     }

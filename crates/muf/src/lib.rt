@@ -6,11 +6,11 @@ ghost use lib.ListN.{length};
 ghost use Rattle.heights.specs.Gethp.{gethpOf};
 ghost use Rattle.muf.specs.Sporadic.{rayOf, takenOf, esRowOf, startOf, stepNumber, stepValue, rowAt, esFrom, sigl4Of, esFoundOf, esLineOf};
 ghost use Rattle.muf.specs.Hour.{modeOf, hourOf, zeroHour, refusedOf};
-ghost use Rattle.muf.specs.Curmuf.{withinOf, inDomain, listsReach, threeWith, threeNumber, threeValue, takenRows, rowsOf, refusedDone, esBy, workedOf, stepDoneOf, flatOf, esAfterOf, curmufOf};
+ghost use Rattle.muf.specs.Curmuf.{withinOf, inDomain, listsReach, regularWith, regularNumber, regularValue, takenRows, rowCountOf, refusedRowsKept, esBy, mufAtSlotOf, mufFromSearchOf, flatOf, esAfterOf, curmufOf};
 use constants::RZ;
 use hops::Hops;
-use layer_mufs::Circuit;
 use layer_mufs::LineAnswer;
+use layer_mufs::PathNumbers;
 use layers::IonoState;
 use layers::LayerMuf;
 use profile::Slot;
@@ -58,14 +58,14 @@ pub struct EsLine {
 }
 
 // The lines of the regular layers.
-pub struct Three {
+pub struct RegularLines {
     pub e: LayerMuf,
     pub f1: LayerMuf,
     pub f2: LayerMuf,
 }
 
-pub enum ThreeAnswer {
-    Found(Three),
+pub enum RegularAnswer {
+    Found(RegularLines),
     Refused(Refusal),
 }
 
@@ -144,7 +144,7 @@ fn es_taken(a: EsSearch, k: usize, row: EsRow, ray: EsRay, hop: f32) -> EsSearch
 }
 
 // One row's turn: passed over where its median is at most 0.
-pub fn es_row(a: EsSearch, k: usize, row: EsRow, c: Circuit) -> EsStep
+pub fn es_row(a: EsSearch, k: usize, row: EsRow, c: PathNumbers) -> EsStep
     ensures { λ r. ⌜ r ≡ esRowOf a k row c ⌝ }
 {
     if row.fs1 <= 0.0 {
@@ -225,7 +225,7 @@ fn flat_row(es: &[f32], k: usize) -> EsRow
 }
 
 // The first n rows, in order.
-fn es_rows(es: &[f32], n: usize, c: Circuit) -> EsStep
+fn es_rows(es: &[f32], n: usize, c: PathNumbers) -> EsStep
     requires { ⌜ 4 * n ≤ length (now es) ⌝ }
     ensures { λ r. ⌜ r ≡ esFrom (rowAt (now (es .entry))) c n 0 startOf ⌝ }
 {
@@ -303,7 +303,7 @@ fn es_line(a: EsSearch, fe: f32) -> EsLine
     es_found(a, fe)
 }
 
-fn by_layer(m: Three, allmuf: f32) -> Mode
+fn by_layer(m: RegularLines, allmuf: f32) -> Mode
     ensures { λ r. ⌜ r ≡ modeOf m allmuf ⌝ }
 {
     let e = m.e;
@@ -327,7 +327,7 @@ fn by_layer(m: Three, allmuf: f32) -> Mode
     }
 }
 
-fn hour(m: Three, es: LayerMuf, ks: usize) -> MufHour
+fn hour(m: RegularLines, es: LayerMuf, ks: usize) -> MufHour
     ensures { λ r. ⌜ r ≡ hourOf m es ks ⌝ }
 {
     let e = m.e;
@@ -393,7 +393,7 @@ fn within(x: f32, top: f32) -> bool
     false
 }
 
-pub fn in_domain(c: Circuit) -> bool
+pub fn in_domain(c: PathNumbers) -> bool
     ensures { λ r. ⌜ r ≡ inDomain c ⌝ }
 {
     if within(c.gcdkm, 40100.0) {
@@ -422,56 +422,56 @@ pub fn lists_reach(ks: usize, deciles: usize, lats: usize, clocks: usize) -> boo
 }
 
 // 0 for the three lines, else the refusal's number.
-pub fn three_number(a: ThreeAnswer) -> u32
-    ensures { λ n. ⌜ n ≡ threeNumber a ⌝ }
+pub fn regular_number(a: RegularAnswer) -> u32
+    ensures { λ n. ⌜ n ≡ regularNumber a ⌝ }
 {
     match a {
-        ThreeAnswer::Found(_) => 0,
-        ThreeAnswer::Refused(r) => refusal::number(r),
+        RegularAnswer::Found(_) => 0,
+        RegularAnswer::Refused(r) => refusal::number(r),
     }
 }
 
 // The lines, of +0 beside a refusal.
-pub fn three_value(a: ThreeAnswer) -> Three
-    ensures { λ m. ⌜ m ≡ threeValue a ⌝ }
+pub fn regular_value(a: RegularAnswer) -> RegularLines
+    ensures { λ m. ⌜ m ≡ regularValue a ⌝ }
 {
     match a {
-        ThreeAnswer::Found(m) => m,
-        ThreeAnswer::Refused(_) => {
+        RegularAnswer::Found(m) => m,
+        RegularAnswer::Refused(_) => {
             let z = layer_mufs::zero_line();
-            Three { e: z, f1: z, f2: z }
+            RegularLines { e: z, f1: z, f2: z }
         }
     }
 }
 
 // E, then F2, then F1.
-fn three_lines(
+fn regular_lines(
     t: IonoState,
     l: Slot,
     ks: usize,
     f2d: &[f32],
     clat: f32,
     clck: f32,
-    c: Circuit,
-) -> ThreeAnswer
+    c: PathNumbers,
+) -> RegularAnswer
     requires { ⌜ ks < 3 ⌝ }
-    ensures { λ r. ⌜ r ≡ threeWith gethpOf t l ks (now (f2d .entry)) clat clck c ⌝ }
+    ensures { λ r. ⌜ r ≡ regularWith gethpOf t l ks (now (f2d .entry)) clat clck c ⌝ }
 {
     let x = layer_mufs::tangent_frequencies(l, c.gcdkm);
     let e_answer = layer_mufs::e_line(t, x.fxe, c.gcdkm, c.amind);
     match e_answer {
-        LineAnswer::Refused(r) => ThreeAnswer::Refused(r),
+        LineAnswer::Refused(r) => RegularAnswer::Refused(r),
         LineAnswer::Found(e) => {
             let f2_answer = layer_mufs::f2_line(t, l, ks, x, f2d, clat, clck, c);
             match f2_answer {
-                LineAnswer::Refused(r) => ThreeAnswer::Refused(r),
+                LineAnswer::Refused(r) => RegularAnswer::Refused(r),
                 LineAnswer::Found(f2) => {
                     let f1_answer = layer_mufs::f1_line(t, l, x.fx1, e, c.gcdkm, c.amind);
                     match f1_answer {
-                        LineAnswer::Refused(r) => ThreeAnswer::Refused(r),
+                        LineAnswer::Refused(r) => RegularAnswer::Refused(r),
                         LineAnswer::Found(f1) => {
-                            let m = Three { e, f1, f2 };
-                            ThreeAnswer::Found(m)
+                            let m = RegularLines { e, f1, f2 };
+                            RegularAnswer::Found(m)
                         }
                     }
                 }
@@ -492,24 +492,24 @@ pub fn rows_taken(there: usize, km: usize) -> usize
 
 // The same of flat rows, by how many numbers there are.
 pub fn row_count(numbers: usize, km: usize) -> usize
-    ensures { λ r. ⌜ r ≡ rowsOf numbers km ⌝ }
+    ensures { λ r. ⌜ r ≡ rowCountOf numbers km ⌝ }
 {
     rows_taken(numbers / 4, km)
 }
 
 // What is written into which row, once the hour is known.
-pub struct Done {
+pub struct AnswerAndRow {
     pub answer: MufAnswer,
     pub rewrites: bool,
     pub ksx: usize,
     pub lower: f32,
 }
 
-pub fn refused_done(s: IonoState, r: Refusal) -> Done
-    ensures { λ x. ⌜ x ≡ refusedDone s r ⌝ }
+pub fn refused_rows_kept(s: IonoState, r: Refusal) -> AnswerAndRow
+    ensures { λ x. ⌜ x ≡ refusedRowsKept s r ⌝ }
 {
     let answer = refused(s, r);
-    Done {
+    AnswerAndRow {
         answer,
         rewrites: false,
         ksx: 0,
@@ -518,11 +518,18 @@ pub fn refused_done(s: IonoState, r: Refusal) -> Done
 }
 
 // The hour, after the search of the Es rows.
-fn finish(s: IonoState, t: IonoState, fe: f32, m: Three, ks: usize, step: EsStep) -> Done
+fn finish(
+    s: IonoState,
+    t: IonoState,
+    fe: f32,
+    m: RegularLines,
+    ks: usize,
+    step: EsStep,
+) -> AnswerAndRow
     ensures { λ r. ⌜ r ≡ esBy step s t fe m ks ⌝ }
 {
     match step {
-        EsStep::Refused(r) => refused_done(s, r),
+        EsStep::Refused(r) => refused_rows_kept(s, r),
         EsStep::Next(a) => {
             let x = es_line(a, fe);
             let line = x.line;
@@ -532,7 +539,7 @@ fn finish(s: IonoState, t: IonoState, fe: f32, m: Three, ks: usize, step: EsStep
                 hour,
                 state: t,
             };
-            Done {
+            AnswerAndRow {
                 answer,
                 rewrites: x.rewrites,
                 ksx: a.ksx,
@@ -543,58 +550,65 @@ fn finish(s: IonoState, t: IonoState, fe: f32, m: Three, ks: usize, step: EsStep
 }
 
 // All that an accepted call works out, the search of the Es rows given; the lists reach to slot ks.
-pub fn worked(
+pub fn muf_at_slot(
     s: IonoState,
     ks: usize,
     step: EsStep,
     f2d: &[f32],
     clat: f32,
     clck: f32,
-    c: Circuit,
-) -> Done
+    c: PathNumbers,
+) -> AnswerAndRow
     requires { ⌜ ks < 3 ⌝ }
-    ensures { λ r. ⌜ r ≡ workedOf s ks step (now (f2d .entry)) clat clck c ⌝ }
+    ensures { λ r. ⌜ r ≡ mufAtSlotOf s ks step (now (f2d .entry)) clat clck c ⌝ }
 {
     let t = profile::lecden_slot(s, ks);
     let l = profile::slot_at(t, ks);
-    let found = three_lines(t, l, ks, f2d, clat, clck, c);
+    let found = regular_lines(t, l, ks, f2d, clat, clck, c);
     match found {
-        ThreeAnswer::Refused(r) => refused_done(s, r),
-        ThreeAnswer::Found(m) => finish(s, t, l.fi0, m, ks, step),
+        RegularAnswer::Refused(r) => refused_rows_kept(s, r),
+        RegularAnswer::Found(m) => finish(s, t, l.fi0, m, ks, step),
     }
 }
 
 // The whole call but for the Es rows, flat or records: their search is given, of whatever rows it
 // is, and the row to be rewritten is named. Where the call is refused before them it is not used.
-pub fn searched(
+pub fn muf_from_search(
     s: IonoState,
     step: EsStep,
     f2d: &[f32],
     clat: &[f32],
     clck: &[f32],
-    c: Circuit,
-) -> Done
-    ensures { λ r. ⌜ r ≡ stepDoneOf s step (now (f2d .entry)) (now (clat .entry)) (now (clck .entry)) c ⌝ }
+    c: PathNumbers,
+) -> AnswerAndRow
+    ensures { λ r. ⌜ r ≡ mufFromSearchOf s step (now (f2d .entry)) (now (clat .entry)) (now (clck .entry)) c ⌝ }
 {
     if in_domain(c) {
         let ks = layer_mufs::controlling(s);
         if lists_reach(ks, f2d.len(), clat.len(), clck.len()) {
             let lat = clat[ks];
             let clock = clck[ks];
-            return worked(s, ks, step, f2d, lat, clock, c);
+            return muf_at_slot(s, ks, step, f2d, lat, clock, c);
         }
-        return refused_done(s, Refusal::MufLists);
+        return refused_rows_kept(s, Refusal::MufLists);
     }
-    refused_done(s, Refusal::MufInput)
+    refused_rows_kept(s, Refusal::MufInput)
 }
 
 // The whole call but for the row that it rewrites.
-fn flat(s: IonoState, es: &[f32], f2d: &[f32], clat: &[f32], clck: &[f32], c: Circuit) -> Done
+fn flat(
+    s: IonoState,
+    es: &[f32],
+    f2d: &[f32],
+    clat: &[f32],
+    clck: &[f32],
+    c: PathNumbers,
+) -> AnswerAndRow
     ensures { λ r. ⌜ r ≡ flatOf s (now (es .entry)) (now (f2d .entry)) (now (clat .entry)) (now (clck .entry)) c ⌝ }
 {
     let n = row_count(es.len(), s.km);
     let step = es_rows(es, n, c);
-    searched(s, step, f2d, clat, clck, c)
+    muf_from_search(s, step, f2d, clat, clck, c)
 }
 
 // The MUF hour; `es` holds four numbers a row: three of `fs`, then `hs`. Only the controlling row's
@@ -605,7 +619,7 @@ pub fn curmuf(
     f2d: &[f32],
     clat: &[f32],
     clck: &[f32],
-    c: Circuit,
+    c: PathNumbers,
 ) -> MufAnswer
     ensures { λ r. ⌜ r ≡ curmufOf s (now (es .entry)) (now (f2d .entry)) (now (clat .entry)) (now (clck .entry)) c ⌝ }
     ensures { λ r. ⌜ now (es .exit) ≡ esAfterOf s (now (es .entry)) (now (f2d .entry)) (now (clat .entry)) (now (clck .entry)) c ⌝ }

@@ -9,10 +9,10 @@ ghost use Rattle.muf.specs.Sporadic.{startOf, esFrom};
 ghost use Rattle.muf.specs.Curmuf.{takenRows};
 ghost use Rattle.muf_records.specs.Records.{rowOf, recordAt, turnOf, lowered, recordsBy, recordsMufOf, recordsAfterOf};
 ghost use Rattle.muf.specs.declared.EsStep.{EsStep};
-use layer_mufs::Circuit;
+use layer_mufs::PathNumbers;
 use layers::EsParams;
 use layers::IonoState;
-use muf::Done;
+use muf::AnswerAndRow;
 use muf::EsRow;
 use muf::EsStep;
 use muf::MufAnswer;
@@ -39,7 +39,7 @@ fn first() -> EsStep
 }
 
 // Row k's turn, where no row before it was refused.
-fn turn(step: EsStep, k: usize, e: EsParams, c: Circuit) -> EsStep
+fn turn(step: EsStep, k: usize, e: EsParams, c: PathNumbers) -> EsStep
     ensures { λ r. ⌜ r ≡ turnOf step k e c ⌝ }
 {
     match step {
@@ -49,7 +49,7 @@ fn turn(step: EsStep, k: usize, e: EsParams, c: Circuit) -> EsStep
 }
 
 // The rows in order, at most km of them.
-fn search(es: &[EsParams], km: usize, c: Circuit) -> EsStep
+fn search(es: &[EsParams], km: usize, c: PathNumbers) -> EsStep
     ensures { λ r. ⌜ r ≡ esFrom (recordAt (now (es .entry))) c (takenRows (length (now (es .entry))) km) 0 startOf ⌝ }
 {
     let n = muf::rows_taken(es.len(), km);
@@ -72,7 +72,7 @@ fn with_lower(e: EsParams, lower: f32) -> EsParams
 }
 
 // The controlling row's lower decile is rewritten, if a row controls.
-fn rewrite(es: &mut [EsParams], d: Done) -> MufAnswer
+fn rewrite(es: &mut [EsParams], d: AnswerAndRow) -> MufAnswer
     requires { ⌜ (d .rewrites ≡ true → d .ksx < length (now es)) ⌝ }
     ensures { λ r. ⌜ (r ≡ d .answer) × (now (es .exit) ≡ recordsBy (d .rewrites) (now (es .entry)) (d .ksx) (d .lower)) ⌝ }
 {
@@ -92,12 +92,12 @@ pub fn curmuf_records(
     f2d: &[f32],
     clat: &[f32],
     clck: &[f32],
-    c: Circuit,
+    c: PathNumbers,
 ) -> MufAnswer
     ensures { λ r. ⌜ (r ≡ recordsMufOf s (now (es .entry)) (now (f2d .entry)) (now (clat .entry)) (now (clck .entry)) c)
         × (now (es .exit) ≡ recordsAfterOf s (now (es .entry)) (now (f2d .entry)) (now (clat .entry)) (now (clck .entry)) c) ⌝ }
 {
     let step = search(es, s.km, c);
-    let d = muf::searched(s, step, f2d, clat, clck, c);
+    let d = muf::muf_from_search(s, step, f2d, clat, clck, c);
     rewrite(es, d)
 }

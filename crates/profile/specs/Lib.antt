@@ -3,5 +3,5 @@ pub mod F1
 pub mod Grid
 pub mod Density
 pub mod Lecden
-pub mod Kept
+pub mod LecdenKept
 pub mod Prepared

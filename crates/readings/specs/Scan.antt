@@ -25,8 +25,8 @@ kindOf (Top v) = 2
 
 -- ---- one segment, from (from0, to0) to (from1, to1)
 -- the number on its line
-abbrev pub lineOf : Float → Float → Float → Float → Float → Float
-lineOf from0 from1 to0 to1 probe = to0 +f (probe -f from0) *f (to1 -f to0) /f (from1 -f from0)
+abbrev pub interpolated : Float → Float → Float → Float → Float → Float
+interpolated from0 from1 to0 to1 probe = to0 +f (probe -f from0) *f (to1 -f to0) /f (from1 -f from0)
 
 abbrev pub hitIf : Bool → Float → Hit
 hitIf true v = At v
@@ -34,12 +34,12 @@ hitIf false v = Miss
 
 -- d < 0: is from0 - probe <= 0
 abbrev pub risingBy : Bool → Float → Float → Float → Float → Float → Hit
-risingBy true from0 from1 to0 to1 probe = hitIf (probe -f from1 <f f0) (lineOf from0 from1 to0 to1 probe)
-risingBy false from0 from1 to0 to1 probe = At (lineOf from0 from1 to0 to1 probe)
+risingBy true from0 from1 to0 to1 probe = hitIf (probe -f from1 <f f0) (interpolated from0 from1 to0 to1 probe)
+risingBy false from0 from1 to0 to1 probe = At (interpolated from0 from1 to0 to1 probe)
 
 -- neither d < 0 nor d == 0: is from0 - probe >= 0
 abbrev pub fallingBy : Bool → Float → Float → Float → Float → Float → Hit
-fallingBy true from0 from1 to0 to1 probe = hitIf (probe -f from1 >f f0) (lineOf from0 from1 to0 to1 probe)
+fallingBy true from0 from1 to0 to1 probe = hitIf (probe -f from1 >f f0) (interpolated from0 from1 to0 to1 probe)
 fallingBy false from0 from1 to0 to1 probe = Miss
 
 -- not d < 0: is d == 0

@@ -3,7 +3,7 @@
 // specs/Starred.antt.
 ghost use Prim.Native.Nat.{_<_, _≤_};
 use circular::Answer;
-use layer_mufs::Circuit;
+use layer_mufs::PathNumbers;
 use layers::IonoState;
 use layers::LayerMuf;
 use layers::LayerParams;
@@ -215,7 +215,7 @@ fn slot_numbers() {
 fn muf_of(what: &[u8], deciles: usize, gcd: f32, clocks: usize)
     requires { ⌜ (deciles ≤ 577) × (clocks ≤ 1) ⌝ }
 {
-    let path = Circuit {
+    let path = PathNumbers {
         gcd,
         gcdkm: 1500.0,
         amind: 3.0,

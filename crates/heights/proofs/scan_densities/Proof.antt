@@ -13,12 +13,12 @@ use Rattle.readings.specs.Scan.{readingOf}
 use Rattle.readings.specs.declared.Reading.{Reading}
 use Rattle.heights.specs.Nodes.{heightOf}
 use Rattle.heights.specs.Gethp.{cutOf, ysqOf}
-use Rattle.heights.specs.Walk.{filled, scanTable}
+use Rattle.heights.specs.Walk.{placed, scanTable}
 use Rattle.heights.proofs.scan_densities.Statement.{statement}
 use Rattle.heights.proofs.scan_densities.Tie as tie
 
 one-turn : (htr fnsq : List Float) (ht fr : Float) (k : ℕ) (ysq : List Float) (zi : Float) (g : Reading) (y : Float) → ysq ≡ scanTable htr fnsq ht fr k → zi ≡ heightOf (at htr 0) ht (k / 2) (k % 2) → g ≡ readingOf htr fnsq zi → y ≡ cutOf g fr → set ysq k y ≡ scanTable htr fnsq ht fr (k + 1)
-unfolding scanTable filled ysqOf
+unfolding scanTable placed ysqOf
 one-turn htr fnsq ht fr k ysq zi g y el ez eg ey = rw (add-one k, ey, eg, ez, el)
 
 abbrev Inv-loop : tie.InvT-loop
@@ -28,7 +28,7 @@ abbrev μ-loop : tie.MeasureT-loop
 μ-loop htr fnsq xts ht fr h0 ysq₀ k₀ ysq k = 40 - k
 
 loop-holds : tie.Need-loop-holds Inv-loop μ-loop
-unfolding scanTable filled
+unfolding scanTable placed
 loop-holds c = (omega arith, refl, refl)
 
 height-requires : tie.Need-height-requires Inv-loop μ-loop

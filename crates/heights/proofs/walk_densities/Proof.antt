@@ -16,13 +16,13 @@ use Rattle.readings.specs.declared.Read.{Read}
 use Rattle.walk.specs.Walk.{cursorBefore}
 use Rattle.heights.specs.Nodes.{heightOf, heightAt, igAt, ibAt}
 use Rattle.heights.specs.Gethp.{cutOf}
-use Rattle.heights.specs.Walk.{filled, walkTable, cursorAfter}
+use Rattle.heights.specs.Walk.{placed, walkTable, cursorAfter}
 use Rattle.heights.proofs.walk_densities.Statement.{statement}
 use Rattle.heights.proofs.walk_densities.Tie as tie
 
 one-turn : (htr fnsq : List Float) (ht fr : Float) (up : Bool) (h0 : Float) (k : ℕ) (ysq : List Float) (ih ig ib : ℕ) (zi : Float) (r : Read) (y : Float) → up ≡ (ht ≥f f0) → h0 ≡ at htr 0 → ysq ≡ walkTable htr fnsq ht fr k → ih ≡ cursorAfter htr fnsq ht k → ig ≡ igAt k → ib ≡ ibAt up k → zi ≡ heightOf h0 ht ig ib → r ≡ readOnOf htr fnsq zi ih → y ≡ cutOf (r .reading) fr
     → (set ysq (2 * ig + ib) y ≡ walkTable htr fnsq ht fr (k + 1)) × (r .cursor ≡ cursorAfter htr fnsq ht (k + 1))
-unfolding walkTable filled cursorBefore heightAt
+unfolding walkTable placed cursorBefore heightAt
 one-turn htr fnsq ht fr up h0 k ysq ih ig ib zi r y eu eh el ei eg eb ez er ey = (rw (add-one k, ey, er, ez, ei, el, eb, eg, eh, eu), rw (add-one k, er, ez, ei, eb, eg, eh, eu))
 
 abbrev Inv-loop : tie.InvT-loop
@@ -32,7 +32,7 @@ abbrev μ-loop : tie.MeasureT-loop
 μ-loop htr fnsq xts ht fr up h0 ysq₀ ih₀ k₀ ysq ih k = 40 - k
 
 loop-holds : tie.Need-loop-holds Inv-loop μ-loop
-unfolding walkTable filled cursorBefore
+unfolding walkTable placed cursorBefore
 loop-holds c = (omega arith, refl, refl, refl, refl)
 
 height-requires : tie.Need-height-requires Inv-loop μ-loop

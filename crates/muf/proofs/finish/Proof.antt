@@ -3,7 +3,7 @@ use Rattle.muf.proofs.finish.Statement.{statement}
 use Rattle.muf.proofs.finish.Tie as tie
 
 returns : tie.Need-returns
-returns c = rw (c .before .before .step .given .1, ← c .refused-done .ensures)
+returns c = rw (c .before .before .step .given .1, ← c .refused-rows-kept .ensures)
 
 returns-2 : tie.Need-returns-2
 returns-2 c = rw (c .before .before .before .before .step2 .given .1, ← c .before .before .es-line .ensures, ← c .hour .ensures)

@@ -1,5 +1,5 @@
 -- The step is the search of the rows of the list.
-use Rattle.muf.specs.Curmuf.{doneWith, flatWith}
+use Rattle.muf.specs.Curmuf.{mufOfRowsWith, flatWith}
 use Rattle.muf.proofs.Rows.{rows-there}
 use borrow.Author.Needs.{needs}
 use Rattle.muf.proofs.flat.Statement.{statement}
@@ -9,8 +9,8 @@ es-rows-requires : tie.Need-es-rows-requires
 es-rows-requires c κs = rw (c .row-count .ensures) (rows-there _ _)
 
 returns : tie.Need-returns
-unfolding flatWith doneWith
-returns c = rw (← c .before .before .row-count .ensures, ← c .before .es-rows .ensures, ← c .searched .ensures)
+unfolding flatWith mufOfRowsWith
+returns c = rw (← c .before .before .row-count .ensures, ← c .before .es-rows .ensures, ← c .muf-from-search .ensures)
 
 pub flat-spec : {M : Type 1} → statement M
 flat-spec = tie.close (tie.spec (λ c κs. search needs) es-rows-requires (λ c κs. search needs) returns)

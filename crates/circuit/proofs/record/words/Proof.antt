@@ -6,7 +6,7 @@ use native.Mathlib.Omega.{arith}
 use lib.ListN.{length, drop, length-set}
 use denote.Ref.{now}
 use Rattle.circuit.specs.Record.{wordsOf}
-use Rattle.circuit.proofs.Lists.{words-on, filled}
+use Rattle.circuit.proofs.Lists.{words-on, filled-up}
 use Rattle.circuit.proofs.record.words.Statement.{statement}
 use Rattle.circuit.proofs.record.words.Tie as tie
 
@@ -34,7 +34,7 @@ same-length c = c .before .loop .inv .1
 returns : tie.Need-returns Inv-loop μ-loop
 returns c =
     let e : c .before .loop .i ≡ length (now (c .before .before .before .before .args .out)) = omega arith in
-    c .before .loop .inv .2 ∙ filled _ (now (c .before .before .before .before .args .out)) (c .before .loop .i) (omega arith) ∙ ap (wordsOf _) e
+    c .before .loop .inv .2 ∙ filled-up _ (now (c .before .before .before .before .args .out)) (c .before .loop .i) (omega arith) ∙ ap (wordsOf _) e
 
 pub words-spec : {M : Type 1} → statement M
 words-spec =

@@ -72,35 +72,35 @@ returns-3 c =
     ∙ sym (walk-long _ _ _ _ _ (l .left) (went (c .before .before .before)) (c .before .if1 .taken))
     ∙ l .inv .5
 
-mul-landed : tie.Need-mul-landed Inv-loop μ-loop
-mul-landed c = omega (arith, there (c .before .before))
+mul-may-stand : tie.Need-mul-may-stand Inv-loop μ-loop
+mul-may-stand c = omega (arith, there (c .before .before))
 
-mul-landed-2 : tie.Need-mul-landed-2 Inv-loop μ-loop
-mul-landed-2 c = omega (arith, there (c .before .before))
+mul-may-stand-2 : tie.Need-mul-may-stand-2 Inv-loop μ-loop
+mul-may-stand-2 c = omega (arith, there (c .before .before))
 
-add-landed : tie.Need-add-landed Inv-loop μ-loop
-add-landed c = omega (arith, there (c .before .before))
+add-may-stand : tie.Need-add-may-stand Inv-loop μ-loop
+add-may-stand c = omega (arith, there (c .before .before))
 
-sub-landed : tie.Need-sub-landed Inv-loop μ-loop
-sub-landed c = omega (arith, there (c .before .before))
+sub-may-stand : tie.Need-sub-may-stand Inv-loop μ-loop
+sub-may-stand c = omega (arith, there (c .before .before))
 
-part-landed-start : tie.Need-part-landed-start Inv-loop μ-loop
-part-landed-start c = omega (arith, there (c .before .before))
+part-may-stand-start : tie.Need-part-may-stand-start Inv-loop μ-loop
+part-may-stand-start c = omega (arith, there (c .before .before))
 
-part-landed-end : tie.Need-part-landed-end Inv-loop μ-loop
-part-landed-end c = omega (arith, there (c .before .before))
+part-may-stand-end : tie.Need-part-may-stand-end Inv-loop μ-loop
+part-may-stand-end c = omega (arith, there (c .before .before))
 
 -- what was asked of the record there
-landed-is : (c : tie.After-landed Inv-loop μ-loop)
+may-stand-is : (c : tie.After-may-stand Inv-loop μ-loop)
     → chain.soundBy (c .before .before .before .before .before .before .before .before .before .before .args .o)
     (leb 48 (c .before .before .before .before .before .before .before .before .loop .left - 1))
     (recordAt (c .before .before .before .before .before .before .before .before .before .before .args .o) (now (c .before .before .before .before .before .before .before .before .before .before .args .file))
     (c .before .before .before .before .s .given .0 .0))
-    ≡ c .landed .result
-landed-is c =
+    ≡ c .may-stand .result
+may-stand-is c =
     let l = c .before .before .before .before .before .before .before .before .loop in
     let a = c .before .before .before .before .before .before .before .before .before .before .args in
-    sym (c .landed .ensures ∙ ap (chain.soundBy (a .o) (leb 48 (l .left - 1))) (part (a .o) (now (a .file)) (c .before .before .before .before .s .given .0 .0)))
+    sym (c .may-stand .ensures ∙ ap (chain.soundBy (a .o) (leb 48 (l .left - 1))) (part (a .o) (now (a .file)) (c .before .before .before .before .s .given .0 .0)))
 
 returns-4 : tie.Need-returns-4 Inv-loop μ-loop
 returns-4 c =
@@ -109,7 +109,7 @@ returns-4 c =
     ∙ sym
     (walk-bad _ _ _ _ _ (l .left) (went (c .before .before .before .before .before .before))
     (c .before .before .before .before .if1 .left)
-    (landed-is (c .before .before) ∙ not-true (c .before .before .landed .result) (c .before .if2 .taken)))
+    (may-stand-is (c .before .before) ∙ not-true (c .before .before .may-stand .result) (c .before .if2 .taken)))
     ∙ l .inv .5
 
 loop-again : tie.Need-loop-again Inv-loop μ-loop
@@ -126,7 +126,7 @@ loop-again c =
           ∙ sym
           (walk-on _ _ _ _ _ (l .left) (went (c .before .before .before .before .before))
           (c .before .before .before .if1 .left)
-          (landed-is (c .before) ∙ not-false (c .before .landed .result) (c .if2 .left)))
+          (may-stand-is (c .before) ∙ not-false (c .before .may-stand .result) (c .if2 .left)))
           ∙ l .inv .5,
     )
 
@@ -136,6 +136,6 @@ walk-spec =
     (tie.spec Inv-loop μ-loop (λ c. omega arith) loop-holds (λ c. omega arith) slice-aggregate-step
     (λ c κs. search needs) (λ c. search needs) (λ c κs. search needs) returns (λ c. search needs)
     (λ c κs. search needs) returns-2 (λ c. search needs) (λ c κs. search needs) returns-3 (λ c. omega arith)
-    mul-landed mul-landed-2 add-landed sub-landed part-landed-start part-landed-end (λ c κs. search needs)
+    mul-may-stand mul-may-stand-2 add-may-stand sub-may-stand part-may-stand-start part-may-stand-end (λ c κs. search needs)
     (λ c κs. search needs) returns-4 (λ c. omega arith) (λ c. omega arith) (λ c. omega arith) (λ c. omega arith)
     loop-again)

@@ -6,7 +6,7 @@ use native.Mathlib.Omega.{arith}
 use lib.ListN.{length, take, drop}
 use lib.Seq.{take-all}
 use denote.Ref.{now}
-use Rattle.circuit.proofs.Lists.{length-part, filled}
+use Rattle.circuit.proofs.Lists.{length-part, filled-up}
 use Rattle.circuit_write.specs.Written.{bytesOf}
 use Rattle.circuit_write.proofs.Cells.{words-more, length-filled, bytes-took}
 use Rattle.circuit_write.proofs.put.words.Statement.{statement}
@@ -51,7 +51,7 @@ returns c =
     let a = c .before .before .before .before .args in
     let l = c .before .loop in
     l .inv .2
-    ∙ filled _ (now (a .out)) (4 * l .i) (omega arith)
+    ∙ filled-up _ (now (a .out)) (4 * l .i) (omega arith)
     ∙ ap bytesOf (take-all (l .i) (now (a .ws)) (omega arith))
 
 pub words-spec : {M : Type 1} → statement M

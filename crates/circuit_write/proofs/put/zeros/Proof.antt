@@ -6,7 +6,7 @@ use native.Mathlib.Omega.{arith}
 use borrow.Author.Fill.{fill-more}
 use lib.ListN.{length, drop, replicate, length-set}
 use denote.Ref.{now}
-use Rattle.circuit.proofs.Lists.{filled}
+use Rattle.circuit.proofs.Lists.{filled-up}
 use Rattle.circuit_write.proofs.put.zeros.Statement.{statement}
 use Rattle.circuit_write.proofs.put.zeros.Tie as tie
 
@@ -32,7 +32,7 @@ returns : tie.Need-returns Inv-loop μ-loop
 returns c =
     let a = now (c .before .before .args .out) in
     let e : c .before .loop .i ≡ length a = omega arith in
-    c .before .loop .inv .2 ∙ filled _ a (c .before .loop .i) (omega arith) ∙ ap (λ (n : ℕ). replicate n 0) e
+    c .before .loop .inv .2 ∙ filled-up _ a (c .before .loop .i) (omega arith) ∙ ap (λ (n : ℕ). replicate n 0) e
 
 pub zeros-spec : {M : Type 1} → statement M
 zeros-spec =

@@ -36,8 +36,8 @@ shared-slice-read-number-2 c = lists-reach _ _ _ _ (sym (c .before .before .befo
 word-rows-requires : tie.Need-word-rows-requires
 word-rows-requires c κs = rw (c .row-count .ensures) (rows-there _ _)
 
-worked-requires : tie.Need-worked-requires
-worked-requires c κs =
+muf-at-slot-requires : tie.Need-muf-at-slot-requires
+muf-at-slot-requires c κs =
     let b = c .before .before .before .before .before .before .before .before .before .before .controlling in
     rw (b .ensures) (controlling-small _)
 
@@ -46,7 +46,7 @@ returns c =
     let f = c .before .before .before .before .before .before .before .before in
     let q = f .before .before .before .before .before in
     let a = q .before .before .before .before .before .args in
-    c .worked .ensures
+    c .muf-at-slot .ensures
     ∙ taken-up (a .s) (a .es .now) (a .deciles .now) (a .clat .now) (a .clck .now) (a .c) _ _ _ _ _ (f .before .before .before .controlling .ensures)
     (sym (q .in-domain .ensures) ∙ f .before .before .before .before .if1 .taken)
     (sym (f .before .before .lists-reach .ensures) ∙ f .before .if2 .taken)
@@ -59,7 +59,7 @@ returns-2 : tie.Need-returns-2
 returns-2 c =
     let q = c .before .before .before .before .before in
     let a = q .before .before .before .before .before .args in
-    c .refused-done .ensures
+    c .refused-rows-kept .ensures
     ∙ lists-short (a .s) (a .es .now) (a .deciles .now) (a .clat .now) (a .clck .now) (a .c) _ (c .before .before .before .controlling .ensures)
     (sym (q .in-domain .ensures) ∙ c .before .before .before .before .if1 .taken)
     (sym (c .before .before .lists-reach .ensures) ∙ c .before .if2 .left)
@@ -68,7 +68,7 @@ returns-3 : tie.Need-returns-3
 returns-3 c =
     let q = c .before .before in
     let a = q .before .before .before .before .before .args in
-    c .refused-done2 .ensures
+    c .refused-rows-kept2 .ensures
     ∙ not-in-domain (a .s) (a .es .now) (a .deciles .now) (a .clat .now) (a .clck .now) (a .c) (sym (q .in-domain .ensures) ∙ c .before .if1 .left)
 
 pub called-spec : {M : Type 1} → statement M
@@ -76,5 +76,5 @@ called-spec =
     tie.close
     (tie.spec (λ c κs. search needs) (λ c κs. search needs) (λ c κs. search needs) floats-576-requires mul-number
     shared-slice-read-number (λ c κs. search needs) mul-number-2 shared-slice-read-number-2 (λ c κs. search needs)
-    (λ c κs. search needs) word-rows-requires (λ c. search needs) worked-requires returns (λ c κs. search needs)
+    (λ c κs. search needs) word-rows-requires (λ c. search needs) muf-at-slot-requires returns (λ c κs. search needs)
     returns-2 (λ c κs. search needs) returns-3)

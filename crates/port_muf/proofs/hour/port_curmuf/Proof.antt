@@ -36,7 +36,7 @@ returns-4 c =
       le-ltb _ _ (f .before .if2 .left),
       le-ltb _ _ (f .if3 .left),
       ← d .before .before .before .state-of .ensures,
-      ← d .before .before .circuit-of .ensures,
+      ← d .before .before .path-numbers-of .ensures,
       ← d .called .ensures,
     )
     (w .done-into .ensures)

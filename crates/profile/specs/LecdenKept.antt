@@ -13,7 +13,7 @@ pub record SameBut (l m : List Float) (p : ℕ) : Type 0 where
   pub long : length m ≡ length l
   pub same : (i : ℕ) → i ≢ p → at m i ≡ at l i
 
-pub record Kept (s r : IonoState) (k : ℕ) : Type 0 where
+pub record LecdenKept (s r : IonoState) (k : ℕ) : Type 0 where
   pub fi-kept : r .fi ≡ s .fi
   pub yi-kept : SameBut (s .yi) (r .yi) (3 * k + 1)
   pub hi-kept : SameBut (s .hi) (r .hi) (3 * k + 1)

@@ -3,7 +3,7 @@ use mathlib.Core.Path.{_≡_}
 use lib.ListN.{length}
 use Rattle.layers.specs.declared.IonoState.{IonoState}
 
-pub record Kept (s r : IonoState) : Type 0 where
+pub record IonsetKept (s r : IonoState) : Type 0 where
   pub fi-long : length (r .fi) ≡ length (s .fi)
   pub yi-long : length (r .yi) ≡ length (s .yi)
   pub hi-long : length (r .hi) ≡ length (s .hi)

@@ -1,7 +1,7 @@
 -- Each path is the clause that its tests choose.
 use Rattle.profile.specs.Density.{fnvalOf}
-use Rattle.profile.proofs.density.valley.Statement.{statement}
-use Rattle.profile.proofs.density.valley.Tie as tie
+use Rattle.profile.proofs.density.valley_density.Statement.{statement}
+use Rattle.profile.proofs.density.valley_density.Tie as tie
 
 returns : tie.Need-returns
 unfolding fnvalOf
@@ -15,5 +15,5 @@ returns-3 : tie.Need-returns-3
 unfolding fnvalOf
 returns-3 c = rw (c .if1 .left)
 
-pub valley-spec : {M : Type 1} → statement M
-valley-spec = tie.close (tie.spec returns returns-2 returns-3)
+pub valley-density-spec : {M : Type 1} → statement M
+valley-density-spec = tie.close (tie.spec returns returns-2 returns-3)
