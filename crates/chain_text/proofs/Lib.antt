@@ -1,1 +1,2 @@
-pub mod Within
+-- The text of a chain fits.
+mod Within

@@ -1,3 +1,4 @@
+-- The state of a path: its numbers, `from_layers`, `ionset`, and what `ionset` keeps.
 pub mod State
 pub mod FromLayers
 pub mod Ionset

@@ -1,3 +1,4 @@
+-- The circuit MUF: sporadic E, the hour put together, and `curmuf`.
 pub mod Sporadic
 pub mod Hour
 pub mod Curmuf

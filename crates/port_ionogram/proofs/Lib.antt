@@ -1,4 +1,5 @@
-pub mod Cells
-pub mod Ranges
-pub mod Rooms
-pub mod Sheets
+-- Cells, ranges and rooms of the exported lists, and the slot sheet through words.
+mod Cells
+mod Ranges
+mod Rooms
+mod Sheets

@@ -1,3 +1,4 @@
+-- `lecden`: the rising test, F1 reshaped, the fifty heights, their densities, the whole, and what it keeps and prepares.
 pub mod Rising
 pub mod F1
 pub mod Grid

@@ -1,2 +1,3 @@
-pub mod Cells
+-- Cells of the reflectrix, and counts of angles.
+mod Cells
 pub mod Counts

@@ -1,3 +1,4 @@
+-- The ionogram of zeros, the scan of angles, `selmod`, and `fobby`.
 pub mod Rows
 pub mod Angles
 pub mod Selmod

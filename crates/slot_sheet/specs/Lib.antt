@@ -1,1 +1,2 @@
+-- The slot sheet.
 pub mod Sheet
