@@ -13,7 +13,7 @@ form64 = record { size = 64; first = 1; extra = 0 }
 -- What the reader and the writer ask of a form: a record has room for the words of a point, and its size and the kind of
 -- record 0 are numbers of two bytes.
 abbrev pub Fit : Form → Type 0
-Fit o = (64 + 4 * o .extra ≤ o .size) × (o .size < 65536) × (o .first < 65536)
+Fit o = (64 + 4 * o .extra ≤ o .size) × (o .size < 0x1_0000) × (o .first < 0x1_0000)
 
 -- the bytes of record n
 abbrev pub recordAt : Form → List ℕ → ℕ → List ℕ
@@ -25,7 +25,7 @@ halfAt r at = getD r at 0 + 256 * getD r (at + 1) 0
 
 unfoldable pub wordAt : List ℕ → ℕ → ℕ
 wordAt r at =
-    getD r at 0 + 256 * getD r (at + 1) 0 + 65536 * getD r (at + 2) 0 + 16777216 * getD r (at + 3) 0
+    getD r at 0 + 256 * getD r (at + 1) 0 + 0x1_0000 * getD r (at + 2) 0 + 0x100_0000 * getD r (at + 3) 0
 
 abbrev pub kindOf : List ℕ → ℕ
 kindOf r = halfAt r 0

@@ -29,14 +29,14 @@ half-forth a b h k =
     rw (p, q, q′)
 
 word-forth : (a b c d : ℕ) → a < 256 → b < 256 → c < 256 → d < 256
-    → wordOf (a + 256 * b + 65536 * c + 16777216 * d) ≡ a ∷ b ∷ c ∷ d ∷ []
+    → wordOf (a + 256 * b + 0x1_0000 * c + 0x100_0000 * d) ≡ a ∷ b ∷ c ∷ d ∷ []
 word-forth a b c d h k l m =
-    let w = a + 256 * b + 65536 * c + 16777216 * d in
+    let w = a + 256 * b + 0x1_0000 * c + 0x100_0000 * d in
     let p : w % 256 ≡ a = omega arith in
-    let q : w / 256 ≡ b + 256 * c + 65536 * d = omega arith in
-    let r : w / 65536 ≡ c + 256 * d = omega arith in
-    let s : w / 16777216 ≡ d = omega arith in
-    let q′ : (b + 256 * c + 65536 * d) % 256 ≡ b = omega arith in
+    let q : w / 256 ≡ b + 256 * c + 0x1_0000 * d = omega arith in
+    let r : w / 0x1_0000 ≡ c + 256 * d = omega arith in
+    let s : w / 0x100_0000 ≡ d = omega arith in
+    let q′ : (b + 256 * c + 0x1_0000 * d) % 256 ≡ b = omega arith in
     let r′ : (c + 256 * d) % 256 ≡ c = omega arith in
     let s′ : d % 256 ≡ d = omega arith in
     rw (p, q, r, s, q′, r′, s′)

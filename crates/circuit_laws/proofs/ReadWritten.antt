@@ -106,7 +106,7 @@ entry-in o fit c beside n (suc k) i h =
     ∙ entry-in o fit c beside n k i j)
     (eq-or-lt-of-le {n = i} {m = k} (omega arith))
 
-next-small : (b : Bool) (i : ℕ) → i < 60 → nextBy b i < 65536
+next-small : (b : Bool) (i : ℕ) → i < 60 → nextBy b i < 0x1_0000
 next-small true i h = omega arith
 next-small false i h = omega arith
 

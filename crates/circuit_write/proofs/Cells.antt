@@ -152,8 +152,8 @@ head-put o c next h k =
     let a : (c .km + 256 * c .shape) % 256 ≡ c .km = omega arith in
     let b : (c .km + 256 * c .shape) / 256 ≡ c .shape = omega arith in
     let b′ : c .shape % 256 ≡ c .shape = omega arith in
-    let d : (c .km + 256 * c .shape) / 65536 ≡ 0 = omega arith in
-    let e : (c .km + 256 * c .shape) / 16777216 ≡ 0 = omega arith in
+    let d : (c .km + 256 * c .shape) / 0x1_0000 ≡ 0 = omega arith in
+    let e : (c .km + 256 * c .shape) / 0x100_0000 ≡ 0 = omega arith in
     rw (a, b, b′, d, e)
 
 pub length-record : (size kind next : ℕ) (ws : List ℕ) → 4 + 4 * length ws ≤ size → length (recordOf size kind next ws) ≡ size

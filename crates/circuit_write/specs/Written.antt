@@ -16,7 +16,7 @@ abbrev pub halfOf : ℕ → List ℕ
 halfOf n = n % 256 ∷ n / 256 % 256 ∷ []
 
 abbrev pub wordOf : ℕ → List ℕ
-wordOf w = w % 256 ∷ w / 256 % 256 ∷ w / 65536 % 256 ∷ w / 16777216 % 256 ∷ []
+wordOf w = w % 256 ∷ w / 256 % 256 ∷ w / 0x1_0000 % 256 ∷ w / 0x100_0000 % 256 ∷ []
 
 unfoldable pub bytesOf : List ℕ → List ℕ
 bytesOf [] = []

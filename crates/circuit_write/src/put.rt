@@ -22,8 +22,8 @@ fn word(w: u32, out: &mut [u8])
 {
     out[0] = (w % 256) as u8;
     out[1] = (w / 256 % 256) as u8;
-    out[2] = (w / 65536 % 256) as u8;
-    out[3] = (w / 16777216 % 256) as u8;
+    out[2] = (w / 0x1_0000 % 256) as u8;
+    out[3] = (w / 0x100_0000 % 256) as u8;
 }
 
 fn words(ws: &[u32], out: &mut [u8])

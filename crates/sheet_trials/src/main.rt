@@ -99,7 +99,7 @@ const NAN: u32 = 0x7fc0_0001;
 
 // Byte i, from the lowest, of a number.
 fn byte(n: u32, i: usize) -> u8 {
-    let b = [n % 256, n / 256 % 256, n / 65536 % 256, n / 16777216];
+    let b = [n % 256, n / 256 % 256, n / 0x1_0000 % 256, n / 0x100_0000];
     if i < 4 {
         return (b[i] % 256) as u8;
     }

@@ -68,7 +68,7 @@ starred =
     (sang (km 20000) (decimal 10 0) gives count 15) ∷
     (sang f0 (decimal 85 0) gives count 40) ∷
     (truncation (negf (decimal 9 1)) gives whole (pos 0)) ∷
-    (truncation (decimal 10000000000 0) gives whole (pos 2147483647)) ∷
+    (truncation (decimal 10000000000 0) gives whole (pos 0x7fff_ffff)) ∷
     (truncation nan gives whole (pos 0)) ∷
     (root (decimal 4 0) gives number (decimal 2 0)) ∷
     (root (negf f0) gives number (negf f0)) ∷

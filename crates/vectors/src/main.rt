@@ -16,7 +16,7 @@ pub enum Replay {
 }
 
 fn length(low: u8, high: u8) -> usize
-    ensures { λ r. ⌜ r ≤ 65535 ⌝ }
+    ensures { λ r. ⌜ r ≤ 0xffff ⌝ }
 {
     low as usize + 256 * (high as usize)
 }

@@ -18,7 +18,7 @@ returns : tie.Need-returns
 unfolding marksInto
 returns c =
     let z = c .before .before .before .before .before .args .s .iedp in
-    let m : mag z < 2147483648 = search needs in
+    let m : mag z < 0x8000_0000 = search needs in
     let e : c .before .word .result ≡ wordOf z = c .before .word .ensures ∙ ap wordOf (read-back z m) in
     rw (← c .before .before .flag .ensures, ← e, ← c .flag2 .ensures)
 
