@@ -1,3 +1,4 @@
+-- The code follows the definition; each call is what its contract says.
 use borrow.Author.Needs.{needs}
 use Rattle.circuit.proofs.has_deciles.Statement.{statement}
 use Rattle.circuit.proofs.has_deciles.Tie as tie

@@ -1,3 +1,4 @@
+-- Each path is the clause that its tests choose.
 use borrow.Author.Tests.{eq-eqb, ne-eqb}
 use borrow.Author.Needs.{needs}
 use Rattle.circuit_write.proofs.next_in.Statement.{statement}

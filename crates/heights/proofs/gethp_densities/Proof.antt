@@ -1,3 +1,4 @@
+-- Each path is the clause that its tests choose; each call is what its contract says.
 use borrow.Author.Needs.{needs}
 use mathlib.Core.Path.{refl}
 use Rattle.heights.proofs.gethp_densities.Statement.{statement}

@@ -1,3 +1,4 @@
+-- Past the early return the forty densities fill the flat table, and its sum is the sum over the nodes.
 use mathlib.Core.Path.{_≡_}
 use mathlib.Core.Bool.{Bool, false}
 use mathlib.Core.List.{List}

@@ -1,3 +1,4 @@
+-- The code follows the definition; each call is what its contract says.
 use mathlib.Core.Path.{_∙_}
 use borrow.Author.Needs.{needs}
 use Rattle.heights.proofs.Walks.{gethp-scan-so}

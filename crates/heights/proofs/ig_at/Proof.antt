@@ -1,3 +1,4 @@
+-- Each path is the clause that its tests choose.
 use Rattle.heights.specs.Nodes.{igAt}
 use borrow.Author.Needs.{needs}
 use borrow.Author.Tests.{lt-ltb, le-ltb}

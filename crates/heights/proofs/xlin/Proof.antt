@@ -1,3 +1,4 @@
+-- Each path is the clause that its tests choose; each call is what its contract says.
 use Rattle.heights.specs.Xlin.{xlinOf}
 use borrow.Author.Needs.{needs}
 use Rattle.heights.proofs.xlin.Statement.{statement}

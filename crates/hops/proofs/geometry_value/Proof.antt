@@ -1,3 +1,4 @@
+-- Each case is the definition's clause for it.
 use borrow.Author.Needs.{needs}
 use Rattle.hops.proofs.geometry_value.Statement.{statement}
 use Rattle.hops.proofs.geometry_value.Tie as tie

@@ -1,3 +1,4 @@
+-- The two tests bound the truncated ratio to 0 to 999, so that one more fits and is its own float.
 use mathlib.Core.Path.{_≡_}
 use mathlib.Core.Bool.{false}
 use lib.IntN.{pos, _+ℤ_}

@@ -1,3 +1,4 @@
+-- Each path is its clause of the definition; each call is what its contract says.
 use Rattle.hops.specs.Geometry.{geometryOf}
 use borrow.Author.Needs.{needs}
 use Rattle.hops.proofs.hop_geometry.Statement.{statement}

@@ -1,3 +1,4 @@
+-- The code follows the definition; each call is what its contract says.
 use Rattle.hops.specs.Rounds.{roundOf}
 use borrow.Author.Needs.{needs}
 use Rattle.hops.proofs.one_round.Statement.{statement}

@@ -1,3 +1,4 @@
+-- Each path is its clause of the definition; each call is what its contract says.
 use Rattle.layer_mufs.specs.Lines.{deviationsOf}
 use borrow.Author.Needs.{needs}
 use Rattle.layer_mufs.proofs.both_deviations.Statement.{statement}

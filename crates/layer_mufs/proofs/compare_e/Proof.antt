@@ -1,3 +1,4 @@
+-- Each path is the clause that its tests choose.
 use Rattle.layer_mufs.specs.Controlling.{compareE}
 use borrow.Author.Needs.{needs}
 use Rattle.layer_mufs.proofs.compare_e.Statement.{statement}

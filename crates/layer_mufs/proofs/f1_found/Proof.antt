@@ -1,3 +1,4 @@
+-- The code follows the definition; each call is what its contract says.
 use Rattle.layer_mufs.specs.Lines.{f1FoundOf}
 use borrow.Author.Needs.{needs}
 use Rattle.layer_mufs.proofs.f1_found.Statement.{statement}

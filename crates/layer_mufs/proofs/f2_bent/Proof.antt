@@ -1,3 +1,4 @@
+-- Each path is its clause of the definition; each call is what its contract says.
 use Rattle.layer_mufs.specs.Lines.{f2BentOf}
 use borrow.Author.Needs.{needs}
 use Rattle.layer_mufs.proofs.f2_bent.Statement.{statement}

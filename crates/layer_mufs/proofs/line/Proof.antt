@@ -1,3 +1,4 @@
+-- The code follows the definition; each call is what its contract says.
 use Rattle.layer_mufs.specs.Lines.{layerLineOf}
 use borrow.Author.Needs.{needs, sfits-of}
 use mir.Facts.{toZ-ofZ}

@@ -1,3 +1,4 @@
+-- Each case is the definition's clause for it; each call is what its contract says.
 use borrow.Author.Needs.{needs}
 use Rattle.layer_mufs.proofs.line_value.Statement.{statement}
 use Rattle.layer_mufs.proofs.line_value.Tie as tie

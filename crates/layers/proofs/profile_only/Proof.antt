@@ -1,3 +1,4 @@
+-- The code's operations are the definition's, in its order.
 use borrow.Author.Needs.{needs}
 use Rattle.layers.specs.State.{profileOnly}
 use Rattle.layers.proofs.profile_only.Statement.{statement}

@@ -1,3 +1,4 @@
+-- The code follows the definition; each call is what its contract says.
 use borrow.Author.Needs.{needs}
 use Rattle.lines.specs.Text.{fieldOf}
 use Rattle.lines.proofs.Placing.{clip-then}

@@ -1,3 +1,4 @@
+-- The code follows the definition; each call is what its contract says.
 use Rattle.muf.specs.Sporadic.{esFoundOf}
 use borrow.Author.Needs.{needs}
 use Rattle.muf.proofs.es_found.Statement.{statement}

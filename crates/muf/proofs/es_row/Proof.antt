@@ -1,3 +1,4 @@
+-- Each path is the clause that its tests choose; each call is what its contract says.
 use Rattle.muf.specs.Sporadic.{esRowOf}
 use borrow.Author.Needs.{needs}
 use Rattle.muf.proofs.es_row.Statement.{statement}

@@ -1,3 +1,4 @@
+-- The code's operations are the definition's, in its order.
 use Rattle.muf.specs.Sporadic.{startOf}
 use mathlib.Core.Path.{refl}
 use Rattle.muf.proofs.es_start.Statement.{statement}

@@ -1,3 +1,4 @@
+-- Each path is the clause that its tests choose.
 use Rattle.muf.specs.Sporadic.{takenOf}
 use Rattle.muf.proofs.es_taken.Statement.{statement}
 use Rattle.muf.proofs.es_taken.Tie as tie

@@ -1,3 +1,4 @@
+-- Each path is its clause of the definition; each call is what its contract says.
 use borrow.Author.Needs.{needs}
 use Rattle.muf.proofs.finish.Statement.{statement}
 use Rattle.muf.proofs.finish.Tie as tie

@@ -1,3 +1,4 @@
+-- Each path is the clause that its tests choose; each call is what its contract says.
 use Rattle.muf.specs.Curmuf.{inDomain}
 use borrow.Author.Needs.{needs}
 use Rattle.muf.proofs.in_domain.Statement.{statement}

@@ -1,3 +1,4 @@
+-- Each path is the clause that its tests choose.
 use Rattle.muf.specs.Sporadic.{sigl4Of}
 use Rattle.muf.proofs.lower_spread.Statement.{statement}
 use Rattle.muf.proofs.lower_spread.Tie as tie

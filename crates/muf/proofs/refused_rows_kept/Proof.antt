@@ -1,3 +1,4 @@
+-- The code follows the definition; each call is what its contract says.
 use Rattle.muf.specs.Curmuf.{refusedRowsKept}
 use borrow.Author.Needs.{needs}
 use Rattle.muf.proofs.refused_rows_kept.Statement.{statement}

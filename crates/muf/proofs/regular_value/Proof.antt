@@ -1,3 +1,4 @@
+-- Each case is the definition's clause for it; each call is what its contract says.
 use borrow.Author.Needs.{needs}
 use Rattle.muf.proofs.regular_value.Statement.{statement}
 use Rattle.muf.proofs.regular_value.Tie as tie

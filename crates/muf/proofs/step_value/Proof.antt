@@ -1,3 +1,4 @@
+-- Each case is the definition's clause for it.
 use borrow.Author.Needs.{needs}
 use Rattle.muf.proofs.step_value.Statement.{statement}
 use Rattle.muf.proofs.step_value.Tie as tie

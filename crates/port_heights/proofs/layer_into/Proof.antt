@@ -1,3 +1,4 @@
+-- Each path is its clause of the definition; each call is what its contract says.
 use mathlib.Core.Path.{refl}
 use Rattle.port_state.specs.Words.{floatsInto}
 use Rattle.heights.specs.Bendy.{layerNumberOf, layerValuesOf}

@@ -1,3 +1,4 @@
+-- The two lengths are tested first; past them the cursor is at most 49, so that it fits its word.
 use Rattle.port_heights.specs.Exports.{gethpLeft}
 use mathlib.Core.Path.{refl, ap}
 use native.Mathlib.Nat.{le-trans, le-of-eq}

@@ -1,3 +1,4 @@
+-- The two lengths are tested first; past them the cursor of a scan is 0, which fits its word.
 use Rattle.port_heights.specs.Exports.{gethpScanLeft}
 use Prim.Native.Nat.{zero-le}
 use mathlib.Core.Path.{refl, ap}

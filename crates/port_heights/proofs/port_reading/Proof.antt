@@ -1,3 +1,4 @@
+-- Each path is the clause that its tests choose; each call is what its contract says.
 use Rattle.port_heights.specs.Exports.{readingLeft}
 use mathlib.Core.Path.{refl}
 use borrow.Author.Needs.{needs}

@@ -1,3 +1,4 @@
+-- Each case is the definition's clause for it.
 use Rattle.readings.specs.Scan.{kindOf}
 use borrow.Author.Needs.{needs}
 use Rattle.readings.proofs.kind.Statement.{statement}

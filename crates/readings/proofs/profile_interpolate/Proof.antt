@@ -1,3 +1,4 @@
+-- The code follows the definition; each call is what its contract says.
 use Rattle.readings.specs.Scan.{profileInterpolateOf}
 use borrow.Author.Needs.{needs}
 use Rattle.readings.proofs.profile_interpolate.Statement.{statement}

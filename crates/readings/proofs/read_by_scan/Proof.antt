@@ -1,3 +1,4 @@
+-- Each path is the clause that its tests choose; each call is what its contract says.
 use Rattle.readings.specs.Scan.{readingOf}
 use borrow.Author.Needs.{needs}
 use Rattle.readings.proofs.read_by_scan.Statement.{statement}

@@ -1,3 +1,4 @@
+-- Each path is the clause that its tests choose.
 use Rattle.readings.specs.Scan.{segmentOf}
 use Rattle.readings.proofs.segment.Statement.{statement}
 use Rattle.readings.proofs.segment.Tie as tie

@@ -1,3 +1,4 @@
+-- Each path is its clause of the definition.
 use Rattle.readings.specs.Scan.{valueOf}
 use borrow.Author.Needs.{needs}
 use Rattle.readings.proofs.value.Statement.{statement}

@@ -1,3 +1,4 @@
+-- The code follows the definition; each call is what its contract says.
 use Rattle.circuit.specs.Record.{halfAt}
 use borrow.Author.Needs.{needs}
 use Rattle.circuit.proofs.record.half.Statement.{statement}

@@ -1,3 +1,4 @@
+-- The code follows the definition; each call is what its contract says.
 use Rattle.circuit.specs.Record.{wordAt}
 use borrow.Author.Needs.{needs}
 use Rattle.circuit.proofs.record.word.Statement.{statement}

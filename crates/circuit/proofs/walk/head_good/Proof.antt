@@ -1,3 +1,4 @@
+-- Each path is the clause that its tests choose; each call is what its contract says.
 use Rattle.circuit.specs.Chain.{headGood}
 use Rattle.circuit.proofs.Lists.{rest}
 use denote.Ref.{now}

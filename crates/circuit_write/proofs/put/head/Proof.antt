@@ -1,3 +1,4 @@
+-- The code follows the definition; each call is what its contract says.
 use mathlib.Core.Path.{_∙_}
 use Rattle.circuit_write.proofs.Cells.{head-put}
 use borrow.Author.Needs.{needs}

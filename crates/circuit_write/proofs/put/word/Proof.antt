@@ -1,3 +1,4 @@
+-- The code's operations are the definition's, in its order.
 use denote.Ref.{now}
 use Rattle.circuit_write.proofs.Cells.{four-cells}
 use borrow.Author.Needs.{needs}

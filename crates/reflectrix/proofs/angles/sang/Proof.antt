@@ -1,3 +1,4 @@
+-- The step is at most 8, so that the table has an entry for it and the entry is a count of the scan.
 use Rattle.reflectrix.specs.Angles.{sangOf}
 use Prim.Native.Nat.{_-_, _≤_}
 use native.Mathlib.Omega.{arith}

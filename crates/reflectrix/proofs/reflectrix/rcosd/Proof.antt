@@ -1,3 +1,4 @@
+-- The code follows the definition; each call is what its contract says.
 use Rattle.reflectrix.specs.Fobby.{rcosdOf}
 use borrow.Author.Needs.{needs}
 use Rattle.reflectrix.proofs.reflectrix.rcosd.Statement.{statement}

@@ -1,3 +1,4 @@
+-- Each path is the clause that its tests choose; each call is what its contract says.
 use Rattle.sounding.specs.Grid.{fGrid}
 use borrow.Author.Needs.{needs}
 use Rattle.sounding.proofs.grid.f_grid.Statement.{statement}

@@ -1,3 +1,4 @@
+-- The code follows the definition; each call is what its contract says.
 use Rattle.sounding.specs.Grid.{fvertOf}
 use borrow.Author.Needs.{needs}
 use Rattle.sounding.proofs.grid.fvert.Statement.{statement}

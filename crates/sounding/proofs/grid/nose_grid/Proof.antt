@@ -1,3 +1,4 @@
+-- The code's operations are the definition's, in its order.
 use Rattle.sounding.specs.Grid.{noseGrid}
 use mathlib.Core.Path.{refl}
 use borrow.Author.Needs.{needs}

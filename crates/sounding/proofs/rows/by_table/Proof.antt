@@ -1,3 +1,4 @@
+-- Each path is the clause that its tests choose; each call is what its contract says.
 use borrow.Author.Needs.{needs}
 use Rattle.sounding.proofs.rows.by_table.Statement.{statement}
 use Rattle.sounding.proofs.rows.by_table.Tie as tie
