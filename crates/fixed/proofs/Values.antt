@@ -22,7 +22,7 @@ differ x h e = omega arith
 
 fields-is : (s : Bool) (t x : ℕ) → suc x < 255 → ofFields binary32 s (suc x) t ≡ odd 24 s (2 ^ 23 + t) x 149
 unfolding ofFields
-fields-is s t x h = cond-no (eqb (suc x) 255) (cond (eqb t 0) (inf s) nan) (odd 24 s (8388608 + t) x 149) (not-T (eqb (suc x) 255) (λ (u : T (eqb (suc x) 255)). differ x h (eqb→eq (suc x) 255 u)))
+fields-is s t x h = cond-no (eqb (suc x) 255) (cond (eqb t 0) (inf s) nan) (odd 24 s (0x80_0000 + t) x 149) (not-T (eqb (suc x) 255) (λ (u : T (eqb (suc x) 255)). differ x h (eqb→eq (suc x) 255 u)))
 
 fields-zero : (s : Bool) (t : ℕ) → ofFields binary32 s 0 t ≡ odd 24 s t 0 149
 unfolding ofFields

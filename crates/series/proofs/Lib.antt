@@ -1,4 +1,5 @@
-pub mod Cauchy
+-- Addition theorems, enclosures and bounds of the power series.
+mod Cauchy
 pub mod Addition
 pub mod Fractions
 pub mod Weighted
@@ -7,7 +8,7 @@ pub mod Reciprocal
 pub mod ExpFraction
 pub mod Alternating
 pub mod WaveFraction
-pub mod Quarters
+mod Quarters
 pub mod Waves
 pub mod SmallAngle
 pub mod Sharp

@@ -26,7 +26,7 @@ module _ (c : tie.After-rest) where
   most : y + 2 ^ 30 ≤ ln2
   most = subst (λ (x : ℕ). x + 2 ^ 30 ≤ ln2) (sym (c .rest .ensures)) (rest-le m (c .before .pre .0) (c .before .pre .1))
 
-small : (x p : ℕ) → x ≡ p → p < 255 * 2 ^ 23 → Fits w32 (2147483648 + x)
+small : (x p : ℕ) → x ≡ p → p < 255 * 2 ^ 23 → Fits w32 (0x8000_0000 + x)
 small x p e h = omega arith
 
 sub-pack : tie.Need-sub-pack

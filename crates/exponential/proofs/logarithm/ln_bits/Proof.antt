@@ -24,7 +24,7 @@ more b d h n = split d b (λ l. l) (λ l. absurd (n (omega arith)))
 deep : (c : tie.Else6) → Shifted (c .before .before .before .before .before .args .b)
 deep c = shifted (c .before .before .before .before .before .args .b) (positive (c .before .before .before .before .before .args .b) (c .before .before .before .before .if1 .left)) (c .if6 .left)
 
-m-is : (c : tie.Else6) → let b = c .before .before .before .before .before .args .b in b * 2 ^ (leadingZeros 32 b - 8) % 4294967296 ≡ b * 2 ^ (leadingZeros 32 b - 8)
+m-is : (c : tie.Else6) → let b = c .before .before .before .before .before .args .b in b * 2 ^ (leadingZeros 32 b - 8) % 0x1_0000_0000 ≡ b * 2 ^ (leadingZeros 32 b - 8)
 m-is c = mod-eq-of-lt (lt-of-lt-of-le (deep c .below) (lit≤ tt))
 
 returns : tie.Need-returns
