@@ -8,9 +8,9 @@ use Rattle.scalar.specs.F32.{_+f_, _-f_, _*f_, _/f_}
 use Rattle.scalar.specs.Literals.{f0, f0·01745329251, f0·5, f1, f1·570796326, f2, f6370}
 use Rattle.scalar.specs.Scalar.{maxOf, truncOf}
 use Rattle.scalar.specs.Root.{sqrtOf}
-use Rattle.circular.specs.SinCos.{sinOf, cosOf}
-use Rattle.circular.specs.Asin.{asinOf}
-use Rattle.circular.specs.Atan.{atanOf}
+use Rattle.waves.specs.SinCos.{sinOf, cosOf}
+use Rattle.arcs.specs.Asin.{asinOf}
+use Rattle.arcs.specs.Atan.{atanOf}
 use Rattle.refusal.specs.declared.Refusal.{Refusal}
 use Rattle.refusal.specs.Number.{numberOf}
 use Rattle.hops.specs.declared.Hops.{Hops}

@@ -10,7 +10,7 @@ use Rattle.scalar.specs.F32.{_+f_, _-f_, _*f_, _/f_}
 use Rattle.scalar.specs.Literals.{f0·000001, f0·01745329251, f1, f1000, f6370}
 use Rattle.scalar.specs.Scalar.{maxOf, truncOf}
 use Rattle.scalar.specs.Root.{sqrtOf}
-use Rattle.circular.specs.SinCos.{cosOf}
+use Rattle.waves.specs.SinCos.{cosOf}
 use Rattle.layers.specs.State.{at}
 use Rattle.refusal.specs.declared.Refusal.{Refusal}
 use Rattle.refusal.specs.declared.Outcome.{Outcome}

@@ -14,7 +14,7 @@ fn rcosd(ia: usize) -> f32
     ensures { λ r. ⌜ r ≡ rcosdOf ia ⌝ }
 {
     let del = angle(ia) * 0.01745329251;
-    6370.0 * circular::cos(del)
+    6370.0 * waves::cos(del)
 }
 
 // In kHz, of a row's vertical frequency and true height. By numbers: an ionogram handed down for each

@@ -7,8 +7,8 @@ use Rattle.scalar.specs.F32.{_+f_, _-f_, _*f_, _/f_, _≤f_, _<f_, _>f_, _≥f_
 use Rattle.scalar.specs.Literals.{f0, f0·1, f0·5, f1, f1·28, f2, f3·1, f1000}
 use Rattle.scalar.specs.Scalar.{minOf}
 use Rattle.scalar.specs.Root.{sqrtOf}
-use Rattle.circular.specs.SinCos.{sinOf, cosOf}
-use Rattle.circular.specs.Atan.{atanOf}
+use Rattle.waves.specs.SinCos.{sinOf, cosOf}
+use Rattle.arcs.specs.Atan.{atanOf}
 use Rattle.refusal.specs.Number.{numberOf}
 use Rattle.hops.specs.Geometry.{RZ, hopsOf}
 use Rattle.hops.specs.declared.Hops.{Hops}

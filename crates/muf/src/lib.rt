@@ -107,7 +107,7 @@ fn es_ray(hs: f32, hop: f32, gcd: f32) -> EsRay
     ensures { λ r. ⌜ r ≡ rayOf hs hop gcd ⌝ }
 {
     let psi = 0.5 * gcd / hop;
-    let tdel = (circular::cos(psi) - RZ / (RZ + hs)) / circular::sin(psi);
+    let tdel = (waves::cos(psi) - RZ / (RZ + hs)) / waves::sin(psi);
     let cdel = 1.0 / scalar::sqrt(1.0 + tdel * tdel);
     let sphe = RZ * cdel / (RZ + hs);
     let secp = 1.0 / scalar::sqrt(1.0 - sphe * sphe);
@@ -273,7 +273,7 @@ fn es_found(a: EsSearch, fe: f32) -> EsLine
     let xes = fe - a.fs0;
     let sigl4 = scalar::min(lower_spread(xes, sigb, sigu4), sigz);
     let lower = a.fs1 - 1.28 * sigl4;
-    let del = circular::atan(a.tdelx);
+    let del = arcs::atan(a.tdelx);
     let line = layer_mufs::line(
         sigl4 * a.secpx,
         sigu4 * a.secpx,

@@ -1,0 +1,13 @@
+pub mod Tangent
+pub mod Cubic
+pub mod Step
+pub mod Angles
+pub mod Angle
+pub mod Reduce
+pub mod AtanBits
+pub mod Cosine
+pub mod Arcs
+pub mod AsinBits
+pub mod AtanMost
+pub mod Within
+pub mod Special

@@ -1,0 +1,2 @@
+pub mod Atan
+pub mod Asin

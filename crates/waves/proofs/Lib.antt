@@ -1,0 +1,4 @@
+pub mod Magnitude
+pub mod Patterns
+pub mod Outside
+pub mod Special

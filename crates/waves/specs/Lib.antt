@@ -1,0 +1,2 @@
+pub mod SinCos
+pub mod Answers
