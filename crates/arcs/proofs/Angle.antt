@@ -14,7 +14,7 @@ use Rattle.series.specs.Series.{SinLe, SinGe}
 use Rattle.fixed.proofs.Round.{rounded, place, place-is}
 use Rattle.fixed.proofs.Values.{ulp-exp}
 use Rattle.series.proofs.Bounds.{le-scaled, ge-scaled}
-use Rattle.arcs.proofs.Angles.{Entry}
+use Rattle.arc_tables.proofs.Angles.{Entry}
 use Rattle.arcs.proofs.Step.{below, over}
 
 -- x = n / c, brought by the table's angle A to a small angle whose tangent is q * 2 ^ -56, within that unit

@@ -10,9 +10,11 @@ use lib.ListN.{getD}
 use borrow.Author.Tests.{le-leb, lt-leb, le-ltb, lt-ltb}
 use Rattle.series.proofs.Cases.{split}
 use Rattle.fixed.specs.Fixed.{pick, pattern, digits, scaledOf}
-use Rattle.arcs.specs.Asin.{cosineOf, cosines, arcs, halfPi, gentleArc, steepArc, midArc, lowArc, asinMag, asinBits}
+use Rattle.arc_tables.specs.Tables.{cosines, arcs, halfPi}
+use Rattle.arcs.specs.Asin.{cosineOf, gentleArc, steepArc, midArc, lowArc, asinMag, asinBits}
 use Rattle.arcs.proofs.Reduce.{dig-low, dig-high, within}
-use Rattle.arcs.proofs.Arcs.{gentle-placed, steep-placed, arc-most, turn-size, arc-big}
+use Rattle.arc_tables.proofs.Nodes.{arc-most}
+use Rattle.arcs.proofs.Arcs.{gentle-placed, steep-placed, turn-size, arc-big}
 
 -- ---- the angle
 pub gentle-is : (n : ℕ) → n ≤ 3037000499 → midArc n ≡ gentleArc n (cosineOf n)

@@ -14,7 +14,8 @@ use Rattle.series.proofs.Cases.{split}
 use Rattle.series.proofs.Entries as table
 use Rattle.fixed.specs.Fixed.{digits, mant, pattern, scaledOf}
 use Rattle.fixed.proofs.Round.{rounded}
-use Rattle.arcs.specs.Atan.{angles, steep, cubeOf, angleOf, gentleOf, steepOf, atanMag}
+use Rattle.arc_tables.specs.Tables.{angles, steep}
+use Rattle.arcs.specs.Atan.{cubeOf, angleOf, gentleOf, steepOf, atanMag}
 use Rattle.arcs.proofs.Reduce.{dig-low, dig-high, within, high-top, high-fine, high-coarse, low-is, mid-is, high-is, i-lt, q-most, at-lt, quo-most}
 use Rattle.arcs.proofs.Angle.{cube-high}
 

@@ -1,7 +1,5 @@
-pub mod Tangent
 pub mod Cubic
 pub mod Step
-pub mod Angles
 pub mod Angle
 pub mod Reduce
 pub mod AtanBits

@@ -10,9 +10,10 @@ use lib.Dec.{lit<, lit≤}
 use lib.ListN.{getD}
 use borrow.Author.Tests.{le-ltb, lt-ltb}
 use Rattle.fixed.specs.Fixed.{pick, digits}
-use Rattle.arcs.specs.Atan.{angles, steep, angleOf, lowAngle, midAngle, highAngle, atanMag}
+use Rattle.arc_tables.specs.Tables.{angles, steep}
+use Rattle.arcs.specs.Atan.{angleOf, lowAngle, midAngle, highAngle, atanMag}
 use Rattle.series.proofs.Cases.{split}
-use Rattle.arcs.proofs.Angles.{Entry, entry, angle, steep-angle}
+use Rattle.arc_tables.proofs.Angles.{Entry, entry, angle, steep-angle}
 use Rattle.series.proofs.SmallAngle.{div-high}
 use Rattle.arcs.proofs.Angle.{Reduced}
 

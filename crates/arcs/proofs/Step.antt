@@ -6,7 +6,7 @@ use native.Mathlib.Omega.{arith}
 use Rattle.series.specs.Series.{SinLe, SinGe}
 use Rattle.series.proofs.Waves.{Enc4}
 use Rattle.series.proofs.SmallAngle.{Parts, parts-of, small-enc}
-use Rattle.arcs.proofs.Tangent.{Angle, tan-le, tan-ge}
+use Rattle.arc_tables.proofs.Tangent.{Angle, tan-le, tan-ge}
 use Rattle.arcs.proofs.Cubic.{poly-le, poly-ge}
 
 -- ---- q / B is R / P, within 1 / B

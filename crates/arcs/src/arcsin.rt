@@ -3,13 +3,30 @@ ghost use mathlib.Core.Path.{_≡_};
 ghost use Prim.Native.Nat.{_+_, _-_, _*_, _^_, _<_, _≤_};
 ghost use lib.ListN.{getD};
 ghost use Rattle.scalar.specs.Root.{root};
-ghost use Rattle.arcs.specs.Asin.{cosineOf, cosines, gentleArc, steepArc, midArc, lowArc, asinMag, asinBits};
-use crate::nodes::arc_sum;
-use crate::nodes::node_angle;
-use crate::nodes::node_cosine;
+ghost use Rattle.arc_tables.specs.Tables.{cosines};
+ghost use Rattle.arcs.specs.Asin.{cosineOf, sixthOf, arcOf, gentleArc, steepArc, midArc, lowArc, asinMag, asinBits};
+use arc_tables::node_angle;
+use arc_tables::node_cosine;
 use fixed::pack;
 use fixed::power;
 use fixed::scaled;
+
+// s^3 / 6, for the sine s * 2^-56
+fn sixth(s: u64) -> u64
+    requires { ⌜ s < 2 ^ 50 ⌝ }
+    ensures { λ r. ⌜ r ≡ sixthOf s ⌝ }
+{
+    let t = s / 16777216;
+    t * t / 1048576 * t / 1048576 / 6
+}
+
+// the angle a, and the small one whose sine is s * 2^-56
+fn arc_sum(a: u64, s: u64) -> u64
+    requires { ⌜ (a ≤ 2 ^ 57) × (s < 2 ^ 50) ⌝ }
+    ensures { λ r. ⌜ r ≡ arcOf a s ⌝ }
+{
+    a + (s + sixth(s))
+}
 
 // a number not below n's root: the mean of g and n / g
 fn mean(n: u64, g: u64) -> u64

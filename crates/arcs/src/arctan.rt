@@ -1,14 +1,39 @@
 // The arc tangent: a table of angles with their tangents, and v - v^3 / 3 for the tangent v of what is left.
 ghost use mathlib.Core.Path.{_≡_};
 ghost use Prim.Native.Nat.{_+_, _-_, _*_, _/_, _%_, _^_, _<_, _≤_};
-ghost use Rattle.arcs.specs.Atan.{lowAngle, midAngle, highAngle, atanMag, atanBits};
-use crate::table::angle_sum;
-use crate::table::gentle_angle;
-use crate::table::quotient;
-use crate::table::steep_angle;
+ghost use Rattle.arcs.specs.Atan.{cubeOf, angleOf, lowAngle, midAngle, highAngle, atanMag, atanBits};
+use arc_tables::gentle_angle;
+use arc_tables::steep_angle;
+use fixed::high_product;
 use fixed::pack;
 use fixed::power;
 use fixed::scaled;
+
+// v^3 / 3 for v = q * 2^-56
+fn cube(q: u64) -> u64
+    requires { ⌜ q < 2 ^ 50 ⌝ }
+    ensures { λ r. ⌜ r ≡ cubeOf q ⌝ }
+{
+    let w = q * 256;
+    high_product(q, high_product(w, w)) / 3
+}
+
+// n / d in units of 2^-56, by two divisions
+fn quotient(n: u64, d: u64) -> u64
+    requires { ⌜ (n < 2 ^ 31) × (2 ^ 25 ≤ d) × (d ≤ 2 ^ 38) ⌝ }
+    ensures { λ r. ⌜ r ≡ n * 2 ^ 56 / d ⌝ }
+{
+    let m = n * 1073741824;
+    (m / d) * 67108864 + (m % d) * 67108864 / d
+}
+
+// the angle a, and the small one whose tangent is q * 2^-56
+fn angle_sum(a: u64, q: u64) -> u64
+    requires { ⌜ (a ≤ 2 ^ 57) × (q < 2 ^ 50) ⌝ }
+    ensures { λ r. ⌜ r ≡ angleOf a q ⌝ }
+{
+    a + (q - cube(q))
+}
 
 // x from 2^-12 to 2^-7: no table
 fn low_angle(a: u32) -> u64

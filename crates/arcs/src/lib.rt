@@ -6,8 +6,6 @@ ghost use Rattle.arcs.specs.Atan.{atanOf};
 
 mod arcsin;
 mod arctan;
-mod nodes;
-mod table;
 
 // NaN outside -1 to 1
 pub fn asin(x: f32) -> f32

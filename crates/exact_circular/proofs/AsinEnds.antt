@@ -12,7 +12,7 @@ use Rattle.series.specs.Series.{SinLe, SinGe}
 use Rattle.series.proofs.Cases.{split}
 use Rattle.arcs.specs.Asin.{sixthOf, arcOf}
 use Rattle.arcs.proofs.Angle.{Sizes, wide-le, wide-ok}
-use Rattle.arcs.proofs.Angles.{Entry}
+use Rattle.arc_tables.proofs.Angles.{Entry}
 use Rattle.arcs.proofs.Cosine.{Cosine}
 use Rattle.arcs.proofs.Step as step
 use Rattle.exact_circular.proofs.SmallCircle.{root-le, twice, W², g-w, circle-low, circle-high, under-tangent, over-tangent, sides}

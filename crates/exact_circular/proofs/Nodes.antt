@@ -9,8 +9,8 @@ use lib.ListN.{getD}
 use Rattle.series.specs.Series.{full, num, class}
 use Rattle.series.proofs.Entries as table
 use Rattle.series.proofs.Sharp.{portion}
-use Rattle.arcs.specs.Asin.{cosines, arcs, halfPi}
-use Rattle.arcs.proofs.Angles.{good, Entry, entry}
+use Rattle.arc_tables.specs.Tables.{cosines, arcs, halfPi}
+use Rattle.arc_tables.proofs.Angles.{good, Entry, entry}
 use Rattle.arcs.proofs.AtanMost.{or-cases}
 
 gentle-test : (i : ℕ) → i < 183 → T (good (2 ^ 25) (getD cosines i 0) (i * 2 ^ 24) (getD arcs i 0))

@@ -4,7 +4,7 @@ use Prim.Native.Nat.{ℕ, _+_, _-_, _*_, _/_, _^_, _<_, _≤_}
 use native.Mathlib.Nat.{mul-le-mul-left}
 use native.Mathlib.Omega.{arith}
 use borrow.Author.Needs.{needs}
-use Rattle.arcs.proofs.Arcs.{node-slope, node-falls}
+use Rattle.arc_tables.proofs.Nodes.{node-slope, node-falls}
 use Rattle.arcs.proofs.arcsin.chord.Statement.{statement}
 use Rattle.arcs.proofs.arcsin.chord.Tie as tie
 

@@ -6,7 +6,8 @@ use native.Mathlib.Omega.{arith}
 use lib.Dec.{lit<, lit≤}
 use borrow.Author.Needs.{needs}
 use Rattle.arcs.specs.Asin.{arcOf}
-use Rattle.arcs.proofs.Arcs.{Placed, gentle-placed, turn-size, node-slope, arc-most, product-fits}
+use Rattle.arc_tables.proofs.Nodes.{node-slope, arc-most}
+use Rattle.arcs.proofs.Arcs.{Placed, gentle-placed, turn-size, product-fits}
 use Rattle.arcs.proofs.arcsin.gentle_arc.Statement.{statement}
 use Rattle.arcs.proofs.arcsin.gentle_arc.Tie as tie
 

@@ -6,8 +6,10 @@ use native.Mathlib.Omega.{arith}
 use lib.Dec.{lit<}
 use lib.ListN.{getD}
 use borrow.Author.Needs.{needs}
-use Rattle.arcs.specs.Asin.{cosines, arcOf, halfPi, steepArc}
-use Rattle.arcs.proofs.Arcs.{Placed, steep-placed, steep-cosine, turn-size, arc-most, product-fits}
+use Rattle.arc_tables.specs.Tables.{cosines, halfPi}
+use Rattle.arcs.specs.Asin.{arcOf, steepArc}
+use Rattle.arc_tables.proofs.Nodes.{arc-most}
+use Rattle.arcs.proofs.Arcs.{Placed, steep-placed, steep-cosine, turn-size, product-fits}
 use Rattle.arcs.proofs.arcsin.steep_arc.Statement.{statement}
 use Rattle.arcs.proofs.arcsin.steep_arc.Tie as tie
 

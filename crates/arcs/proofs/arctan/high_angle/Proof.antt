@@ -9,7 +9,8 @@ use lib.ListN.{getD}
 use mir.Syntax.{w64}
 use mir.Val.{Fits}
 use Rattle.fixed.specs.Fixed.{digits}
-use Rattle.arcs.specs.Atan.{steep, angleOf, steepOf}
+use Rattle.arc_tables.specs.Tables.{steep}
+use Rattle.arcs.specs.Atan.{angleOf, steepOf}
 use Rattle.arcs.proofs.Reduce.{dig-low, dig-high, high-top, high-fine, high-coarse, at-lt, at-high, rest-most, den-most, quo-most, steep-entry}
 use borrow.Author.Needs.{needs}
 use Rattle.arcs.proofs.arctan.high_angle.Statement.{statement}

@@ -6,7 +6,8 @@ use native.Mathlib.Nat.{le-trans, mul-le-mul-right}
 use lib.Dec.{lit<, lit≤}
 use lib.ListN.{getD}
 use Rattle.fixed.specs.Fixed.{digits}
-use Rattle.arcs.specs.Atan.{angles, angleOf, gentleOf}
+use Rattle.arc_tables.specs.Tables.{angles}
+use Rattle.arcs.specs.Atan.{angleOf, gentleOf}
 use Rattle.arcs.proofs.Reduce.{dig-low, dig-high, within, i-lt, i-n, R-most, q-most, E}
 use borrow.Author.Needs.{needs}
 use Rattle.arcs.proofs.arctan.mid_angle.Statement.{statement}

@@ -7,12 +7,12 @@ use native.Mathlib.Omega.{arith}
 use lib.Dec.{T, leb, leb→le}
 use lib.ListN.{getD}
 use Rattle.series.specs.Series.{full, num, class}
-use Rattle.arcs.specs.Atan.{angles, steep}
+use Rattle.arc_tables.specs.Tables.{angles, steep}
 use Rattle.series.proofs.Entries as table
 use Rattle.series.proofs.Waves.{Enc4}
 use Rattle.series.proofs.Sharp.{portion, part, sharp}
 use lib.Ieee.Fits.{and-l, and-r}
-use Rattle.arcs.proofs.Tangent.{Angle}
+use Rattle.arc_tables.proofs.Tangent.{Angle}
 
 -- a list of inequalities: its test, and what that says
 abbrev allLe : List ℕ → Bool

@@ -1,4 +1,4 @@
--- `arcs::table::quotient` meets its contract.
+-- `arcs::arctan::quotient` meets its contract.
 use mathlib.Core.Path.{_≡_, sym, ap, _∙_}
 use Prim.Native.Nat.{ℕ, _+_, _*_, _/_, _%_, _^_, _<_, _≤_}
 use native.Mathlib.Omega.{arith}
@@ -7,8 +7,8 @@ use lib.Dec.{lit<}
 use mir.Syntax.{w64}
 use mir.Val.{Fits}
 use borrow.Author.Needs.{needs}
-use Rattle.arcs.proofs.table.quotient.Statement.{statement}
-use Rattle.arcs.proofs.table.quotient.Tie as tie
+use Rattle.arcs.proofs.arctan.quotient.Statement.{statement}
+use Rattle.arcs.proofs.arctan.quotient.Tie as tie
 
 high : (m d : ℕ) → m < 2 ^ 61 → 2 ^ 25 ≤ d → m / d < 2 ^ 36
 high m d h k = go (m / d) (div-mul-le-self m d) (mul-le-mul-left (m / d) k)

@@ -1,26 +1,26 @@
--- `arcs::nodes::node_cosine` meets its contract: each arm's number is the list's at that place, by computation; 182 is the only place left for the last arm.
+-- `arc_tables::node_angle` meets its contract: each arm's number is the list's at that place, by computation; 182 is the only place left for the last arm.
 use mathlib.Core.Path.{_≡_, sym, ap}
 use Prim.Native.Nat.{ℕ, _<_, _≤_}
 use native.Mathlib.Omega.{arith}
 use lib.ListN.{getD}
-use Rattle.arcs.specs.Asin.{cosines}
+use Rattle.arc_tables.specs.Tables.{arcs}
 use Rattle.series.proofs.Arms.{Others, from-up}
-use Rattle.arcs.proofs.nodes.node_cosine.Statement.{statement}
-use Rattle.arcs.proofs.nodes.node_cosine.Tie as tie
+use Rattle.arc_tables.proofs.node_angle.Statement.{statement}
+use Rattle.arc_tables.proofs.node_angle.Tie as tie
 
-at : {i j : ℕ} → i ≡ j → getD cosines j 0 ≡ getD cosines i 0
-at e = sym (ap (λ (i : ℕ). getD cosines i 0) e)
+at : {i j : ℕ} → i ≡ j → getD arcs j 0 ≡ getD arcs i 0
+at e = sym (ap (λ (i : ℕ). getD arcs i 0) e)
 
 last : tie.Need-returns-183
-unfolding cosines Others
+unfolding arcs Others
 last c = at (only (c .before .args .i) (c .before .pre) (from-up (c .before .args .i) 182 (c .match .rest)))
   where
     only : (i : ℕ) → i < 183 → 182 ≤ i → i ≡ 182
     only i h g = omega arith
 
-pub node-cosine-spec : {M : Type 1} → statement M
-unfolding cosines
-node-cosine-spec =
+pub node-angle-spec : {M : Type 1} → statement M
+unfolding arcs
+node-angle-spec =
     tie.close
     (tie.spec (λ c. at (c .match .keys1)) (λ c. at (c .match .keys2)) (λ c. at (c .match .keys3))
     (λ c. at (c .match .keys4)) (λ c. at (c .match .keys5)) (λ c. at (c .match .keys6)) (λ c. at (c .match .keys7))

@@ -1,4 +1,4 @@
--- `arcs::table::angle_sum` meets its contract.
+-- `arcs::arctan::angle_sum` meets its contract.
 use mathlib.Core.Path.{_≡_, ap}
 use Prim.Native.Nat.{ℕ, _+_, _-_, _*_, _≤_}
 use native.Mathlib.Omega.{arith}
@@ -6,8 +6,8 @@ use native.Mathlib.Nat.{le-of-lt}
 use Rattle.arcs.proofs.Angle.{cube-small}
 use Rattle.arcs.specs.Atan.{cubeOf}
 use borrow.Author.Needs.{needs}
-use Rattle.arcs.proofs.table.angle_sum.Statement.{statement}
-use Rattle.arcs.proofs.table.angle_sum.Tie as tie
+use Rattle.arcs.proofs.arctan.angle_sum.Statement.{statement}
+use Rattle.arcs.proofs.arctan.angle_sum.Tie as tie
 
 less : (r j q : ℕ) → r ≡ j → 4 * j ≤ q → r ≤ q
 less r j q e h = omega arith

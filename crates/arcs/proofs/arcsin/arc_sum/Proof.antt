@@ -1,11 +1,11 @@
--- `arcs::nodes::arc_sum` meets its contract.
+-- `arcs::arcsin::arc_sum` meets its contract.
 use mathlib.Core.Path.{sym, ap, subst}
 use Prim.Native.Nat.{ℕ, _+_, _^_, _≤_}
 use native.Mathlib.Omega.{arith}
 use borrow.Author.Needs.{needs}
 use Rattle.arcs.proofs.Arcs.{sixth-small}
-use Rattle.arcs.proofs.nodes.arc_sum.Statement.{statement}
-use Rattle.arcs.proofs.nodes.arc_sum.Tie as tie
+use Rattle.arcs.proofs.arcsin.arc_sum.Statement.{statement}
+use Rattle.arcs.proofs.arcsin.arc_sum.Tie as tie
 
 small : (c : tie.After-sixth) → c .sixth .result ≤ 2 ^ 38
 small c = subst (λ (x : ℕ). x ≤ 2 ^ 38) (sym (c .sixth .ensures)) (sixth-small (c .before .args .s) (c .before .pre .1))

@@ -1,12 +1,12 @@
--- `arcs::table::cube` meets its contract.
+-- `arcs::arctan::cube` meets its contract.
 use mathlib.Core.Path.{_≡_, ap, _∙_}
 use Prim.Native.Nat.{ℕ, _*_, _/_, _^_}
 use native.Mathlib.Omega.{arith}
 use native.Mathlib.Nat.{mul-div-mul-right}
 use lib.Pow.{pow-pos}
 use borrow.Author.Needs.{needs}
-use Rattle.arcs.proofs.table.cube.Statement.{statement}
-use Rattle.arcs.proofs.table.cube.Tie as tie
+use Rattle.arcs.proofs.arctan.cube.Statement.{statement}
+use Rattle.arcs.proofs.arctan.cube.Tie as tie
 
 square : (q : ℕ) → q * 256 * (q * 256) / 2 ^ 64 ≡ q * q / 2 ^ 48
 square q = ap (λ (y : ℕ). y / 2 ^ 64) (go q) ∙ mul-div-mul-right (q * q) (2 ^ 48) (pow-pos 16)

@@ -1,10 +1,10 @@
--- `arcs::nodes::sixth` meets its contract: t is below 2 ^ 26, so its square and its cube fit.
+-- `arcs::arcsin::sixth` meets its contract: t is below 2 ^ 26, so its square and its cube fit.
 use Prim.Native.Nat.{_/_, _^_, _≤_}
 use native.Mathlib.Omega.{arith}
 use borrow.Author.Needs.{needs}
 use Rattle.arcs.proofs.Arcs.{sixth-fits}
-use Rattle.arcs.proofs.nodes.sixth.Statement.{statement}
-use Rattle.arcs.proofs.nodes.sixth.Tie as tie
+use Rattle.arcs.proofs.arcsin.sixth.Statement.{statement}
+use Rattle.arcs.proofs.arcsin.sixth.Tie as tie
 
 t-le : (c : tie.Start) → c .args .s / 2 ^ 24 ≤ 2 ^ 26
 t-le c = omega (arith, c .pre)

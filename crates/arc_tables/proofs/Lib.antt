@@ -1,0 +1,3 @@
+pub mod Tangent
+pub mod Angles
+pub mod Nodes
