@@ -1,6 +1,6 @@
 // The paper's unmarked trials, run, and with them the edges of some refusals and a slot prepared
-// twice; the stored output has the paper's answers. The marked trials are rows of the table in
-// specs/Starred.antt.
+// twice; the stored output has the paper's answers. The marked trials are rows of the table of crate
+// `starred`.
 ghost use Prim.Native.Nat.{_<_, _≤_};
 use waves::Answer;
 use hour::SlotSheet;

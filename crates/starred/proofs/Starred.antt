@@ -8,7 +8,7 @@ use Rattle.layers.specs.FromLayers.{fromLayersOf, countTaken, emptyOf, pointsSe
 use Rattle.layers.specs.Ionset.{ionsetOf, assignedOf, slotsSettled, slotSettled, f1Settled, f2Settled, tooClose}
 use Rattle.deciles.specs.F2dis.{f2disOf, iccOf, timeBlockOf}
 use Rattle.ionogram.specs.Angles.{sangOf, stepOf, countOf, raisedFrom, ANG, NANGX}
-use Rattle.trials.specs.Starred.{Holds, starred, resultOf}
+use Rattle.starred.specs.Starred.{Holds, starred, resultOf}
 
 pub starred-trials : Holds starred
 unfolding resultOf decimal add sub mul div le lt ofBits neg round truncOf minOf sqrtOf fromLayersOf countTaken emptyOf pointsSet pointSet rowSet ionsetOf assignedOf slotsSettled slotSettled f1Settled f2Settled tooClose f2disOf iccOf timeBlockOf sangOf stepOf countOf raisedFrom ANG NANGX
