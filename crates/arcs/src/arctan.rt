@@ -2,8 +2,8 @@
 ghost use mathlib.Core.Path.{_≡_};
 ghost use Prim.Native.Nat.{_+_, _-_, _*_, _/_, _%_, _^_, _<_, _≤_};
 ghost use Rattle.arcs.specs.Atan.{cubeOf, angleOf, lowAngle, midAngle, highAngle, atanMag, atanBits};
-use arc_tables::gentle_angle;
-use arc_tables::steep_angle;
+use arc_entries::gentle_angle;
+use arc_entries::steep_angle;
 use fixed::high_product;
 use fixed::pack;
 use fixed::power;

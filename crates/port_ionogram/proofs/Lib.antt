@@ -1,4 +1,3 @@
-pub mod Cells
 pub mod Ranges
 pub mod Rooms
 pub mod Sheets

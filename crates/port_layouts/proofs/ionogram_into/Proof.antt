@@ -1,8 +1,8 @@
 -- The four columns one after the other.
-use Rattle.port_ionogram.specs.Layouts.{ionogramInto}
+use Rattle.port_layouts.specs.Layouts.{ionogramInto}
 use borrow.Author.Needs.{needs}
-use Rattle.port_ionogram.proofs.layouts.ionogram_into.Statement.{statement}
-use Rattle.port_ionogram.proofs.layouts.ionogram_into.Tie as tie
+use Rattle.port_layouts.proofs.ionogram_into.Statement.{statement}
+use Rattle.port_layouts.proofs.ionogram_into.Tie as tie
 
 returns : tie.Need-returns
 unfolding ionogramInto

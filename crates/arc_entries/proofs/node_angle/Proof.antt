@@ -1,12 +1,12 @@
--- `arc_tables::node_angle` meets its contract: each arm's number is the list's at that place, by computation; 182 is the only place left for the last arm.
+-- `arc_entries::node_angle` meets its contract: each arm's number is the list's at that place, by computation; 182 is the only place left for the last arm.
 use mathlib.Core.Path.{_≡_, sym, ap}
 use Prim.Native.Nat.{ℕ, _<_, _≤_}
 use native.Mathlib.Omega.{arith}
 use lib.ListN.{getD}
 use Rattle.arc_tables.specs.Tables.{arcs}
 use Rattle.series.proofs.Arms.{Others, from-up}
-use Rattle.arc_tables.proofs.node_angle.Statement.{statement}
-use Rattle.arc_tables.proofs.node_angle.Tie as tie
+use Rattle.arc_entries.proofs.node_angle.Statement.{statement}
+use Rattle.arc_entries.proofs.node_angle.Tie as tie
 
 at : {i j : ℕ} → i ≡ j → getD arcs j 0 ≡ getD arcs i 0
 at e = sym (ap (λ (i : ℕ). getD arcs i 0) e)

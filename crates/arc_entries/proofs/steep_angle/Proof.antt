@@ -1,26 +1,26 @@
--- `arc_tables::node_cosine` meets its contract: each arm's number is the list's at that place, by computation; 182 is the only place left for the last arm.
+-- `arc_entries::steep_angle` meets its contract: each arm's number is the list's at that place, by computation; 128 is the only place left for the last arm.
 use mathlib.Core.Path.{_≡_, sym, ap}
 use Prim.Native.Nat.{ℕ, _<_, _≤_}
 use native.Mathlib.Omega.{arith}
 use lib.ListN.{getD}
-use Rattle.arc_tables.specs.Tables.{cosines}
+use Rattle.arc_tables.specs.Tables.{steep}
 use Rattle.series.proofs.Arms.{Others, from-up}
-use Rattle.arc_tables.proofs.node_cosine.Statement.{statement}
-use Rattle.arc_tables.proofs.node_cosine.Tie as tie
+use Rattle.arc_entries.proofs.steep_angle.Statement.{statement}
+use Rattle.arc_entries.proofs.steep_angle.Tie as tie
 
-at : {i j : ℕ} → i ≡ j → getD cosines j 0 ≡ getD cosines i 0
-at e = sym (ap (λ (i : ℕ). getD cosines i 0) e)
+at : {i j : ℕ} → i ≡ j → getD steep j 0 ≡ getD steep i 0
+at e = sym (ap (λ (i : ℕ). getD steep i 0) e)
 
-last : tie.Need-returns-183
-unfolding cosines Others
-last c = at (only (c .before .args .i) (c .before .pre) (from-up (c .before .args .i) 182 (c .match .rest)))
+last : tie.Need-returns-129
+unfolding steep Others
+last c = at (only (c .before .args .i) (c .before .pre) (from-up (c .before .args .i) 128 (c .match .rest)))
   where
-    only : (i : ℕ) → i < 183 → 182 ≤ i → i ≡ 182
+    only : (i : ℕ) → i < 129 → 128 ≤ i → i ≡ 128
     only i h g = omega arith
 
-pub node-cosine-spec : {M : Type 1} → statement M
-unfolding cosines
-node-cosine-spec =
+pub steep-angle-spec : {M : Type 1} → statement M
+unfolding steep
+steep-angle-spec =
     tie.close
     (tie.spec (λ c. at (c .match .keys1)) (λ c. at (c .match .keys2)) (λ c. at (c .match .keys3))
     (λ c. at (c .match .keys4)) (λ c. at (c .match .keys5)) (λ c. at (c .match .keys6)) (λ c. at (c .match .keys7))
@@ -63,22 +63,4 @@ node-cosine-spec =
     (λ c. at (c .match .keys117)) (λ c. at (c .match .keys118)) (λ c. at (c .match .keys119))
     (λ c. at (c .match .keys120)) (λ c. at (c .match .keys121)) (λ c. at (c .match .keys122))
     (λ c. at (c .match .keys123)) (λ c. at (c .match .keys124)) (λ c. at (c .match .keys125))
-    (λ c. at (c .match .keys126)) (λ c. at (c .match .keys127)) (λ c. at (c .match .keys128))
-    (λ c. at (c .match .keys129)) (λ c. at (c .match .keys130)) (λ c. at (c .match .keys131))
-    (λ c. at (c .match .keys132)) (λ c. at (c .match .keys133)) (λ c. at (c .match .keys134))
-    (λ c. at (c .match .keys135)) (λ c. at (c .match .keys136)) (λ c. at (c .match .keys137))
-    (λ c. at (c .match .keys138)) (λ c. at (c .match .keys139)) (λ c. at (c .match .keys140))
-    (λ c. at (c .match .keys141)) (λ c. at (c .match .keys142)) (λ c. at (c .match .keys143))
-    (λ c. at (c .match .keys144)) (λ c. at (c .match .keys145)) (λ c. at (c .match .keys146))
-    (λ c. at (c .match .keys147)) (λ c. at (c .match .keys148)) (λ c. at (c .match .keys149))
-    (λ c. at (c .match .keys150)) (λ c. at (c .match .keys151)) (λ c. at (c .match .keys152))
-    (λ c. at (c .match .keys153)) (λ c. at (c .match .keys154)) (λ c. at (c .match .keys155))
-    (λ c. at (c .match .keys156)) (λ c. at (c .match .keys157)) (λ c. at (c .match .keys158))
-    (λ c. at (c .match .keys159)) (λ c. at (c .match .keys160)) (λ c. at (c .match .keys161))
-    (λ c. at (c .match .keys162)) (λ c. at (c .match .keys163)) (λ c. at (c .match .keys164))
-    (λ c. at (c .match .keys165)) (λ c. at (c .match .keys166)) (λ c. at (c .match .keys167))
-    (λ c. at (c .match .keys168)) (λ c. at (c .match .keys169)) (λ c. at (c .match .keys170))
-    (λ c. at (c .match .keys171)) (λ c. at (c .match .keys172)) (λ c. at (c .match .keys173))
-    (λ c. at (c .match .keys174)) (λ c. at (c .match .keys175)) (λ c. at (c .match .keys176))
-    (λ c. at (c .match .keys177)) (λ c. at (c .match .keys178)) (λ c. at (c .match .keys179))
-    (λ c. at (c .match .keys180)) (λ c. at (c .match .keys181)) (λ c. at (c .match .keys182)) last)
+    (λ c. at (c .match .keys126)) (λ c. at (c .match .keys127)) (λ c. at (c .match .keys128)) last)

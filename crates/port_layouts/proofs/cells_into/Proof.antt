@@ -10,9 +10,9 @@ use borrow.Author.Needs.{needs, sfits-of}
 use lib.ListN.{length, length-set}
 use lib.Seq.{paste-zero}
 use Rattle.port_state.specs.Words.{wordOf}
-use Rattle.port_ionogram.proofs.Cells.{writtenSoFar, write-more, write-all}
-use Rattle.port_ionogram.proofs.layouts.cells_into.Statement.{statement}
-use Rattle.port_ionogram.proofs.layouts.cells_into.Tie as tie
+use Rattle.port_layouts.proofs.Cells.{writtenSoFar, write-more, write-all}
+use Rattle.port_layouts.proofs.cells_into.Statement.{statement}
+use Rattle.port_layouts.proofs.cells_into.Tie as tie
 
 abbrev Inv-loop : tie.InvT-loop
 Inv-loop c w₀ i₀ i-end w i = (i ≤ length c) × (i-end ≡ length c) × (length w ≡ length w₀) × (w ≡ writtenSoFar w₀ c i)

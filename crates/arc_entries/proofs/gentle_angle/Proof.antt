@@ -1,26 +1,26 @@
--- `arc_tables::steep_angle` meets its contract: each arm's number is the list's at that place, by computation; 128 is the only place left for the last arm.
+-- `arc_entries::gentle_angle` meets its contract: each arm's number is the list's at that place, by computation; 127 is the only place left for the last arm.
 use mathlib.Core.Path.{_≡_, sym, ap}
 use Prim.Native.Nat.{ℕ, _<_, _≤_}
 use native.Mathlib.Omega.{arith}
 use lib.ListN.{getD}
-use Rattle.arc_tables.specs.Tables.{steep}
+use Rattle.arc_tables.specs.Tables.{angles}
 use Rattle.series.proofs.Arms.{Others, from-up}
-use Rattle.arc_tables.proofs.steep_angle.Statement.{statement}
-use Rattle.arc_tables.proofs.steep_angle.Tie as tie
+use Rattle.arc_entries.proofs.gentle_angle.Statement.{statement}
+use Rattle.arc_entries.proofs.gentle_angle.Tie as tie
 
-at : {i j : ℕ} → i ≡ j → getD steep j 0 ≡ getD steep i 0
-at e = sym (ap (λ (i : ℕ). getD steep i 0) e)
+at : {i j : ℕ} → i ≡ j → getD angles j 0 ≡ getD angles i 0
+at e = sym (ap (λ (i : ℕ). getD angles i 0) e)
 
-last : tie.Need-returns-129
-unfolding steep Others
-last c = at (only (c .before .args .i) (c .before .pre) (from-up (c .before .args .i) 128 (c .match .rest)))
+last : tie.Need-returns-128
+unfolding angles Others
+last c = at (only (c .before .args .i) (c .before .pre) (from-up (c .before .args .i) 127 (c .match .rest)))
   where
-    only : (i : ℕ) → i < 129 → 128 ≤ i → i ≡ 128
+    only : (i : ℕ) → i < 128 → 127 ≤ i → i ≡ 127
     only i h g = omega arith
 
-pub steep-angle-spec : {M : Type 1} → statement M
-unfolding steep
-steep-angle-spec =
+pub gentle-angle-spec : {M : Type 1} → statement M
+unfolding angles
+gentle-angle-spec =
     tie.close
     (tie.spec (λ c. at (c .match .keys1)) (λ c. at (c .match .keys2)) (λ c. at (c .match .keys3))
     (λ c. at (c .match .keys4)) (λ c. at (c .match .keys5)) (λ c. at (c .match .keys6)) (λ c. at (c .match .keys7))
@@ -63,4 +63,4 @@ steep-angle-spec =
     (λ c. at (c .match .keys117)) (λ c. at (c .match .keys118)) (λ c. at (c .match .keys119))
     (λ c. at (c .match .keys120)) (λ c. at (c .match .keys121)) (λ c. at (c .match .keys122))
     (λ c. at (c .match .keys123)) (λ c. at (c .match .keys124)) (λ c. at (c .match .keys125))
-    (λ c. at (c .match .keys126)) (λ c. at (c .match .keys127)) (λ c. at (c .match .keys128)) last)
+    (λ c. at (c .match .keys126)) (λ c. at (c .match .keys127)) last)

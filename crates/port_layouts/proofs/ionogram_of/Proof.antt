@@ -1,8 +1,8 @@
 -- Column by column.
-use Rattle.port_ionogram.specs.Layouts.{ionogramOf}
+use Rattle.port_layouts.specs.Layouts.{ionogramOf}
 use borrow.Author.Needs.{needs}
-use Rattle.port_ionogram.proofs.layouts.ionogram_of.Statement.{statement}
-use Rattle.port_ionogram.proofs.layouts.ionogram_of.Tie as tie
+use Rattle.port_layouts.proofs.ionogram_of.Statement.{statement}
+use Rattle.port_layouts.proofs.ionogram_of.Tie as tie
 
 returns : tie.Need-returns
 unfolding ionogramOf

@@ -9,7 +9,7 @@ use lib.ListN.{length, getD, take, set, length-map, List·getD-map}
 use lib.Seq.{length-take-le, getD-take, take-all, paste, paste-suc}
 use Rattle.profile.proofs.Tabulate.{mapped, mapped-more, mapped-all}
 use Rattle.port_state.specs.Words.{signedOf, wordOf}
-use Rattle.port_ionogram.specs.Layouts.{cellsOf, cellsInto}
+use Rattle.port_layouts.specs.Layouts.{cellsOf, cellsInto}
 
 -- the first i cells read
 abbrev pub readSoFar : List ℕ → List ℤ → ℕ → List ℤ

@@ -7,9 +7,9 @@ use native.Mathlib.Omega.{arith}
 use mir.Facts.{toZ-ofZ}
 use borrow.Author.Needs.{needs, sfits-of}
 use lib.ListN.{length, length-set}
-use Rattle.port_ionogram.proofs.Cells.{readSoFar, read-more, read-all}
-use Rattle.port_ionogram.proofs.layouts.cells_of.Statement.{statement}
-use Rattle.port_ionogram.proofs.layouts.cells_of.Tie as tie
+use Rattle.port_layouts.proofs.Cells.{readSoFar, read-more, read-all}
+use Rattle.port_layouts.proofs.cells_of.Statement.{statement}
+use Rattle.port_layouts.proofs.cells_of.Tie as tie
 
 abbrev Inv-loop : tie.InvT-loop
 Inv-loop w c₀ i₀ i-end c i = (i ≤ length c₀) × (i-end ≡ length c₀) × (length c ≡ length c₀) × (c ≡ readSoFar w c₀ i)

@@ -1,8 +1,8 @@
 -- Line by line.
-use Rattle.port_ionogram.specs.Layouts.{linesOf}
+use Rattle.port_layouts.specs.Layouts.{linesOf}
 use borrow.Author.Needs.{needs}
-use Rattle.port_ionogram.proofs.layouts.lines_of.Statement.{statement}
-use Rattle.port_ionogram.proofs.layouts.lines_of.Tie as tie
+use Rattle.port_layouts.proofs.lines_of.Statement.{statement}
+use Rattle.port_layouts.proofs.lines_of.Tie as tie
 
 returns : tie.Need-returns
 unfolding linesOf

@@ -6,11 +6,11 @@ use lib.IntN.{ℤ}
 use lib.Ieee.{Float}
 use Rattle.port_state.specs.Words.{word, signedOf}
 use Rattle.layers.specs.declared.LayerMuf.{LayerMuf}
-use Rattle.port_ionogram.specs.Layouts.{number, lineOf}
+use Rattle.port_layouts.specs.Layouts.{number, lineOf}
 use mir.Facts.{toZ-ofZ}
 use borrow.Author.Needs.{needs, sfits-of}
-use Rattle.port_ionogram.proofs.layouts.line_of.Statement.{statement}
-use Rattle.port_ionogram.proofs.layouts.line_of.Tie as tie
+use Rattle.port_layouts.proofs.line_of.Statement.{statement}
+use Rattle.port_layouts.proofs.line_of.Tie as tie
 
 line : (w : List ℕ) (i : ℕ) (sigl sigu delmuf hpmuf htmuf fvmuf afmuf : Float) (nhopmf : ℤ) (yfot ymuf yhpf : Float)
     → sigl ≡ number w i → sigu ≡ number w (i + 1) → delmuf ≡ number w (i + 2) → hpmuf ≡ number w (i + 3) → htmuf ≡ number w (i + 4) → fvmuf ≡ number w (i + 5) → afmuf ≡ number w (i + 6)
