@@ -31,10 +31,10 @@ use Rattle.layer_mufs.specs.Controlling.{compareE, farBy, slotBy, controllingOf
 use Rattle.layer_mufs.specs.declared.Circuit.{Circuit}
 use Rattle.layer_mufs.proofs.Small.{controlling-small}
 use Rattle.muf.specs.Hour.{refusedOf}
-use Rattle.muf.specs.Sporadic.{startOf, rowAt, esFrom}
+use Rattle.sporadic.specs.Sporadic.{startOf, rowAt, esFrom}
 use Rattle.muf.specs.Curmuf.{inDomain, listsReach, threeWith, refusedDone, esBy, threeBy, workedWith, doneBy, stepDoneWith, doneWith, rowsBy, rowsOf, flatWith}
-use Rattle.muf.specs.declared.EsRow.{EsRow}
-use Rattle.muf.specs.declared.EsStep.{EsStep}
+use Rattle.sporadic.specs.declared.EsRow.{EsRow}
+use Rattle.sporadic.specs.declared.EsStep.{EsStep}
 use Rattle.muf.specs.declared.Three.{Three}
 use Rattle.muf.specs.declared.ThreeAnswer.{ThreeAnswer}
 use Rattle.muf.specs.declared.MufHour.{MufHour}

@@ -1,3 +1,2 @@
-pub mod Sporadic
 pub mod Hour
 pub mod Curmuf

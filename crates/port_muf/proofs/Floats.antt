@@ -14,10 +14,10 @@ use Rattle.layers.specs.declared.IonoState.{IonoState}
 use Rattle.heights.specs.Gethp.{gethpOf}
 use Rattle.layer_mufs.specs.Controlling.{controllingOf}
 use Rattle.layer_mufs.specs.declared.Circuit.{Circuit}
-use Rattle.muf.specs.Sporadic.{rowAt, esFrom, startOf}
+use Rattle.sporadic.specs.Sporadic.{rowAt, esFrom, startOf}
 use Rattle.muf.specs.Curmuf.{doneBy, doneWith, flatWith, flatOf, inDomain, listsReach, refusedDone, rowsOf, stepDoneWith, workedOf}
 use Rattle.muf.specs.declared.Done.{Done}
-use Rattle.muf.specs.declared.EsStep.{EsStep}
+use Rattle.sporadic.specs.declared.EsStep.{EsStep}
 use Rattle.muf.proofs.Rows.{flat-below}
 use Rattle.muf.proofs.Lists.{deciles-whole, lists-reach}
 use Rattle.port_state.specs.Words.{floatsOf}

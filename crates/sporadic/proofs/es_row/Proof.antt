@@ -1,7 +1,7 @@
-use Rattle.muf.specs.Sporadic.{esRowOf}
+use Rattle.sporadic.specs.Sporadic.{esRowOf}
 use borrow.Author.Needs.{needs}
-use Rattle.muf.proofs.es_row.Statement.{statement}
-use Rattle.muf.proofs.es_row.Tie as tie
+use Rattle.sporadic.proofs.es_row.Statement.{statement}
+use Rattle.sporadic.proofs.es_row.Tie as tie
 
 returns : tie.Need-returns
 unfolding esRowOf

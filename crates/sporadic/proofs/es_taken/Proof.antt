@@ -1,6 +1,6 @@
-use Rattle.muf.specs.Sporadic.{takenOf}
-use Rattle.muf.proofs.es_taken.Statement.{statement}
-use Rattle.muf.proofs.es_taken.Tie as tie
+use Rattle.sporadic.specs.Sporadic.{takenOf}
+use Rattle.sporadic.proofs.es_taken.Statement.{statement}
+use Rattle.sporadic.proofs.es_taken.Tie as tie
 
 returns : tie.Need-returns
 unfolding takenOf

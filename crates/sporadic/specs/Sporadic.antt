@@ -15,11 +15,11 @@ use Rattle.hops.specs.declared.Hops.{Hops}
 use Rattle.layers.specs.State.{at}
 use Rattle.layer_mufs.specs.Lines.{lineOf, zeroLine}
 use Rattle.layer_mufs.specs.declared.Circuit.{Circuit}
-use Rattle.muf.specs.declared.EsRow.{EsRow}
-use Rattle.muf.specs.declared.EsRay.{EsRay}
-use Rattle.muf.specs.declared.EsSearch.{EsSearch}
-use Rattle.muf.specs.declared.EsStep.{EsStep}
-use Rattle.muf.specs.declared.EsLine.{EsLine}
+use Rattle.sporadic.specs.declared.EsRow.{EsRow}
+use Rattle.sporadic.specs.declared.EsRay.{EsRay}
+use Rattle.sporadic.specs.declared.EsSearch.{EsSearch}
+use Rattle.sporadic.specs.declared.EsStep.{EsStep}
+use Rattle.sporadic.specs.declared.EsLine.{EsLine}
 
 unfoldable pub rayOf : Float → Float → Float → EsRay
 rayOf hs hop gcd =

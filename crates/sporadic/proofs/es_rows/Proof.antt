@@ -3,10 +3,10 @@ use mathlib.Core.Path.{_≡_}
 use Prim.Native.Nat.{_≤_, _-_}
 use native.Mathlib.Omega.{arith}
 use borrow.Author.Needs.{needs}
-use Rattle.muf.specs.Sporadic.{rowAt, esFrom, startOf}
-use Rattle.muf.proofs.Rows.{one-more, none-left}
-use Rattle.muf.proofs.es_rows.Statement.{statement}
-use Rattle.muf.proofs.es_rows.Tie as tie
+use Rattle.sporadic.specs.Sporadic.{rowAt, esFrom, startOf}
+use Rattle.sporadic.proofs.Searches.{one-more, none-left}
+use Rattle.sporadic.proofs.es_rows.Statement.{statement}
+use Rattle.sporadic.proofs.es_rows.Tie as tie
 
 abbrev Inv-loop : tie.InvT-loop
 Inv-loop es n c a₀ k₀ a k = (k ≤ n) × (esFrom (rowAt es) c (n - k) k a ≡ esFrom (rowAt es) c n 0 startOf)

@@ -1,7 +1,7 @@
-use Rattle.muf.specs.Sporadic.{startOf}
+use Rattle.sporadic.specs.Sporadic.{startOf}
 use mathlib.Core.Path.{refl}
-use Rattle.muf.proofs.es_start.Statement.{statement}
-use Rattle.muf.proofs.es_start.Tie as tie
+use Rattle.sporadic.proofs.es_start.Statement.{statement}
+use Rattle.sporadic.proofs.es_start.Tie as tie
 
 returns : tie.Need-returns
 unfolding startOf

@@ -1,7 +1,7 @@
-use Rattle.muf.specs.Sporadic.{esLineOf}
+use Rattle.sporadic.specs.Sporadic.{esLineOf}
 use borrow.Author.Needs.{needs}
-use Rattle.muf.proofs.es_line.Statement.{statement}
-use Rattle.muf.proofs.es_line.Tie as tie
+use Rattle.sporadic.proofs.es_line.Statement.{statement}
+use Rattle.sporadic.proofs.es_line.Tie as tie
 
 returns : tie.Need-returns
 unfolding esLineOf

@@ -1,6 +1,6 @@
 use borrow.Author.Needs.{needs}
-use Rattle.muf.proofs.step_value.Statement.{statement}
-use Rattle.muf.proofs.step_value.Tie as tie
+use Rattle.sporadic.proofs.step_value.Statement.{statement}
+use Rattle.sporadic.proofs.step_value.Tie as tie
 
 returns-2 : tie.Need-returns-2
 returns-2 c = rw (c .enum-told .given .1)

@@ -1,6 +1,6 @@
-use Rattle.muf.specs.Sporadic.{sigl4Of}
-use Rattle.muf.proofs.lower_spread.Statement.{statement}
-use Rattle.muf.proofs.lower_spread.Tie as tie
+use Rattle.sporadic.specs.Sporadic.{sigl4Of}
+use Rattle.sporadic.proofs.lower_spread.Statement.{statement}
+use Rattle.sporadic.proofs.lower_spread.Tie as tie
 
 returns : tie.Need-returns
 unfolding sigl4Of

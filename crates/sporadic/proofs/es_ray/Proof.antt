@@ -1,7 +1,7 @@
-use Rattle.muf.specs.Sporadic.{rayOf}
+use Rattle.sporadic.specs.Sporadic.{rayOf}
 use borrow.Author.Needs.{needs}
-use Rattle.muf.proofs.es_ray.Statement.{statement}
-use Rattle.muf.proofs.es_ray.Tie as tie
+use Rattle.sporadic.proofs.es_ray.Statement.{statement}
+use Rattle.sporadic.proofs.es_ray.Tie as tie
 
 returns : tie.Need-returns
 unfolding rayOf

@@ -1,7 +1,7 @@
-use Rattle.muf.specs.Sporadic.{esFoundOf}
+use Rattle.sporadic.specs.Sporadic.{esFoundOf}
 use borrow.Author.Needs.{needs}
-use Rattle.muf.proofs.es_found.Statement.{statement}
-use Rattle.muf.proofs.es_found.Tie as tie
+use Rattle.sporadic.proofs.es_found.Statement.{statement}
+use Rattle.sporadic.proofs.es_found.Tie as tie
 
 returns : tie.Need-returns
 unfolding esFoundOf
