@@ -13,9 +13,9 @@ use layer_mufs::Circuit;
 use layers::EsParams;
 use layers::IonoState;
 use muf::Done;
+use muf::MufAnswer;
 use sporadic::EsRow;
 use sporadic::EsStep;
-use muf::MufAnswer;
 
 // A record as a row of numbers.
 fn row(e: EsParams) -> EsRow

@@ -12,11 +12,11 @@ use layer_mufs::Circuit;
 use layers::IonoState;
 use layers::LayerMuf;
 use muf::Done;
-use sporadic::EsRow;
-use sporadic::EsStep;
 use muf::MufHour;
 use refusal::Outcome;
 use refusal::Refusal;
+use sporadic::EsRow;
+use sporadic::EsStep;
 
 fn word_row(es: &[u32], k: usize) -> EsRow
     requires { ⌜ 4 * k + 3 < length (now es) ⌝ }

@@ -2,13 +2,13 @@
 // twice; the stored output has the paper's answers. The marked trials are rows of the table of crate
 // `starred`.
 ghost use Prim.Native.Nat.{_<_, _≤_};
-use waves::Answer;
 use hour::SlotSheet;
 use ionogram::Ionogram;
 use layer_mufs::Circuit;
 use layers::IonoState;
 use layers::LayerMuf;
 use layers::LayerParams;
+use waves::Answer;
 
 fn say(what: &[u8], n: u64) {
     io::write_all(1, what);
