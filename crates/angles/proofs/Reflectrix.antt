@@ -8,9 +8,9 @@ use lib.Ieee.{Float, ofBits, round, lt, neg, mul}
 use lib.Ieee.Fits.{and-l, and-r}
 use Rattle.scalar.specs.F32.{_*f_, _<f_, _>f_, negf, at}
 use Rattle.scalar.specs.Literals.{f4}
-use Rattle.circular.specs.SinCos.{cosOf}
-use Rattle.circular.specs.Answers.{cosAnswer}
-use Rattle.circular.specs.declared.Answer.{Answer}
+use Rattle.waves.specs.SinCos.{cosOf}
+use Rattle.waves.specs.Answers.{cosAnswer}
+use Rattle.waves.specs.declared.Answer.{Answer}
 use Rattle.constants.specs.Constants.{D2R}
 use Rattle.reflectrix.specs.Angles.{ANG}
 use Rattle.angles.proofs.Angles.{Small, cos-answers}

@@ -30,10 +30,10 @@ use Rattle.layer_mufs.specs.Controlling.{compareE, farBy, slotBy, controllingOf
 use Rattle.layer_mufs.specs.declared.PathNumbers.{PathNumbers}
 use Rattle.layer_mufs.proofs.Small.{controlling-small}
 use Rattle.muf.specs.Hour.{refusedOf}
-use Rattle.muf.specs.Sporadic.{startOf, rowAt, esFrom}
+use Rattle.sporadic.specs.Sporadic.{startOf, rowAt, esFrom}
 use Rattle.muf.specs.Curmuf.{inDomain, listsReach, regularWith, refusedRowsKept, esBy, regularBy, mufAtSlotWith, mufFromSearchBy, mufFromSearchWith, mufOfRowsWith, takenRowsBy, rowCountOf, flatWith}
-use Rattle.muf.specs.declared.EsRow.{EsRow}
-use Rattle.muf.specs.declared.EsStep.{EsStep}
+use Rattle.sporadic.specs.declared.EsRow.{EsRow}
+use Rattle.sporadic.specs.declared.EsStep.{EsStep}
 use Rattle.muf.specs.declared.RegularLines.{RegularLines}
 use Rattle.muf.specs.declared.RegularAnswer.{RegularAnswer}
 use Rattle.muf.specs.declared.MufHour.{MufHour}

@@ -23,10 +23,10 @@ use Rattle.fixed.proofs.Sizes.{finite-value, size-lt}
 use Rattle.exact.specs.Unit.{steps}
 use Rattle.exact.specs.Near.{NearAsin}
 use Rattle.exact.proofs.Unit.{steps-is}
-use Rattle.circular.specs.Asin.{sixthOf, arcOf, asinMag, asinBits, asinOf}
-use Rattle.circular.proofs.Cosine.{Cosine}
-use Rattle.circular.proofs.Angle.{Sizes, sizes, o, v, low-is, high-is}
-use Rattle.circular.proofs.AsinBits.{mag-fits, small-bits, mid-bits, one-bits, outside-bits}
+use Rattle.arcs.specs.Asin.{sixthOf, arcOf, asinMag, asinBits, asinOf}
+use Rattle.arcs.proofs.Cosine.{Cosine}
+use Rattle.arcs.proofs.Angle.{Sizes, sizes, o, v, low-is, high-is}
+use Rattle.arcs.proofs.AsinBits.{mag-fits, small-bits, mid-bits, one-bits, outside-bits}
 use Rattle.exact_circular.proofs.Ends.{small-cos, small-sine-le, small-sine-ge, half-plus, half-minus, half-sine}
 use Rattle.exact_circular.proofs.Fine.{fine, enc}
 use Rattle.exact_circular.proofs.AsinEnds.{Turned, end-2, lower, upper}

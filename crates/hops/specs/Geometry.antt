@@ -9,9 +9,9 @@ use Rattle.scalar.specs.Literals.{f0, f0·5, f1, f2}
 use Rattle.scalar.specs.Scalar.{maxOf, truncOf}
 use Rattle.scalar.specs.Root.{sqrtOf}
 use Rattle.constants.specs.Constants.{D2R, PIO2, RZ}
-use Rattle.circular.specs.SinCos.{sinOf, cosOf}
-use Rattle.circular.specs.Asin.{asinOf}
-use Rattle.circular.specs.Atan.{atanOf}
+use Rattle.waves.specs.SinCos.{sinOf, cosOf}
+use Rattle.arcs.specs.Asin.{asinOf}
+use Rattle.arcs.specs.Atan.{atanOf}
 use Rattle.refusal.specs.declared.Refusal.{Refusal}
 use Rattle.refusal.specs.Number.{numberOf}
 use Rattle.hops.specs.declared.Hops.{Hops}

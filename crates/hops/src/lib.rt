@@ -56,7 +56,7 @@ fn hop_ratio(gcdkm: f32, amind: f32, h: f32) -> f32
 {
     let dele = scalar::max(amind, 0.0);
     let del = dele * D2R;
-    let phe = circular::asin(RZ * circular::cos(del) / (RZ + h));
+    let phe = arcs::asin(RZ * waves::cos(del) / (RZ + h));
     0.5 * gcdkm / ((PIO2 - del - phe) * RZ)
 }
 
@@ -111,7 +111,7 @@ fn takeoff(psi: f32, cpsi: f32, spsi: f32, hp: f32) -> f32
     ensures { λ r. ⌜ r ≡ delOf psi cpsi spsi hp ⌝ }
 {
     let tanp = spsi / (1.0 - cpsi + hp / RZ);
-    let phe = circular::atan(tanp);
+    let phe = arcs::atan(tanp);
     PIO2 - phe - psi
 }
 
@@ -119,7 +119,7 @@ fn takeoff(psi: f32, cpsi: f32, spsi: f32, hp: f32) -> f32
 fn incidence(del: f32, ht: f32) -> f32
     ensures { λ r. ⌜ r ≡ spheOf del ht ⌝ }
 {
-    let cdel = circular::cos(del);
+    let cdel = waves::cos(del);
     RZ * cdel / (RZ + ht)
 }
 
@@ -134,8 +134,8 @@ fn hop_angles(gcdkm: f32, xhops: f32, hp: f32, ht: f32, split_first: bool) -> Ho
     ensures { λ r. ⌜ r ≡ hopGeometryOf gcdkm xhops hp ht «split_first» ⌝ }
 {
     let psi = half_angle(gcdkm, xhops, split_first);
-    let cpsi = circular::cos(psi);
-    let spsi = circular::sin(psi);
+    let cpsi = waves::cos(psi);
+    let spsi = waves::sin(psi);
     let del = takeoff(psi, cpsi, spsi, hp);
     let sphe = incidence(del, ht);
     let secp = secant(sphe);

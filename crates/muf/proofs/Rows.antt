@@ -20,12 +20,12 @@ use Rattle.profile.specs.Lecden.{slotAt, lecdenOf}
 use Rattle.profile.specs.declared.Slot.{Slot}
 use Rattle.heights.specs.Gethp.{gethpOf}
 use Rattle.layer_mufs.specs.declared.PathNumbers.{PathNumbers}
-use Rattle.muf.specs.Sporadic.{rayOf, takenBy, takenOf, hopBy, rowBy, esRowOf, startOf, nextBy, esFrom, esLineBy, esLineOf, rowAt}
+use Rattle.sporadic.specs.Sporadic.{rayOf, takenBy, takenOf, hopBy, rowBy, esRowOf, startOf, nextBy, esFrom, esLineBy, esLineOf, rowAt}
 use Rattle.muf.specs.Curmuf.{esBy, regularBy, regularWith, mufAtSlotWith, mufFromSearchBy, mufFromSearchWith, mufOfRowsWith, inDomain, listsReach, refusedRowsKept, takenRowsBy, takenRows, rowCountOf, flatWith, flatOf}
-use Rattle.muf.specs.declared.EsRow.{EsRow}
-use Rattle.muf.specs.declared.EsRay.{EsRay}
-use Rattle.muf.specs.declared.EsSearch.{EsSearch}
-use Rattle.muf.specs.declared.EsStep.{EsStep}
+use Rattle.sporadic.specs.declared.EsRow.{EsRow}
+use Rattle.sporadic.specs.declared.EsRay.{EsRay}
+use Rattle.sporadic.specs.declared.EsSearch.{EsSearch}
+use Rattle.sporadic.specs.declared.EsStep.{EsStep}
 use Rattle.muf.specs.declared.RegularLines.{RegularLines}
 use Rattle.muf.specs.declared.RegularAnswer.{RegularAnswer}
 use Rattle.muf.specs.declared.AnswerAndRow.{AnswerAndRow}
@@ -129,12 +129,3 @@ unfolding flatWith
 flat-below s es f2d clat clck c e =
     let h = done-below s (rowCountOf (length es) (s .km)) (rowAt es) f2d clat clck c e in
     omega (arith, rows-there (length es) (s .km))
-
--- of n rows those from k on: row k, then the rest; after the last, none
-pub one-more : (row : ℕ → EsRow) (c : PathNumbers) (n k : ℕ) (a : EsSearch) → k < n → esFrom row c (n - k) k a ≡ nextBy (esRowOf a k (row k) c) (λ b. esFrom row c (n - (k + 1)) (k + 1) b)
-unfolding esFrom
-one-more row c n k a h = let e : n - k ≡ suc (n - (k + 1)) = omega arith in rw e
-
-pub none-left : (row : ℕ → EsRow) (c : PathNumbers) (k : ℕ) (a : EsSearch) → esFrom row c 0 k a ≡ EsStep.Next a
-unfolding esFrom
-none-left row c k a = refl

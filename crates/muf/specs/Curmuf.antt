@@ -21,10 +21,10 @@ use Rattle.layer_mufs.specs.Lines.{zeroLine, eLineWith, f2LineWith, f1LineWith}
 use Rattle.layer_mufs.specs.declared.PathNumbers.{PathNumbers}
 use Rattle.layer_mufs.specs.declared.Tangents.{Tangents}
 use Rattle.layer_mufs.specs.declared.LineAnswer.{LineAnswer}
-use Rattle.muf.specs.Sporadic.{startOf, rowAt, esFrom, esLineOf}
+use Rattle.sporadic.specs.Sporadic.{startOf, rowAt, esFrom, esLineOf}
 use Rattle.muf.specs.Hour.{hourOf, refusedOf}
-use Rattle.muf.specs.declared.EsRow.{EsRow}
-use Rattle.muf.specs.declared.EsStep.{EsStep}
+use Rattle.sporadic.specs.declared.EsRow.{EsRow}
+use Rattle.sporadic.specs.declared.EsStep.{EsStep}
 use Rattle.muf.specs.declared.RegularLines.{RegularLines}
 use Rattle.muf.specs.declared.RegularAnswer.{RegularAnswer}
 use Rattle.muf.specs.declared.MufAnswer.{MufAnswer}

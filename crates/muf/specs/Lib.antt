@@ -1,4 +1,3 @@
 -- The circuit MUF: sporadic E, the hour put together, and `curmuf`.
-pub mod Sporadic
 pub mod Hour
 pub mod Curmuf

@@ -9,10 +9,10 @@ use Rattle.layers.specs.declared.IonoState.{IonoState}
 use Rattle.layers.specs.declared.EsParams.{EsParams}
 use Rattle.heights.specs.Gethp.{Finder, gethpOf}
 use Rattle.layer_mufs.specs.declared.PathNumbers.{PathNumbers}
-use Rattle.muf.specs.Sporadic.{nextBy, esRowOf}
+use Rattle.sporadic.specs.Sporadic.{nextBy, esRowOf}
 use Rattle.muf.specs.Curmuf.{takenRows, mufOfRowsWith}
-use Rattle.muf.specs.declared.EsRow.{EsRow}
-use Rattle.muf.specs.declared.EsStep.{EsStep}
+use Rattle.sporadic.specs.declared.EsRow.{EsRow}
+use Rattle.sporadic.specs.declared.EsStep.{EsStep}
 use Rattle.muf.specs.declared.MufAnswer.{MufAnswer}
 use Rattle.muf.specs.declared.AnswerAndRow.{AnswerAndRow}
 

@@ -5,17 +5,17 @@ ghost use mathlib.Core.Path.{_≡_};
 ghost use Prim.Native.Nat.{_<_};
 ghost use mathlib.Core.Bool.{true};
 ghost use lib.ListN.{length};
-ghost use Rattle.muf.specs.Sporadic.{startOf, esFrom};
+ghost use Rattle.sporadic.specs.Sporadic.{startOf, esFrom};
 ghost use Rattle.muf.specs.Curmuf.{takenRows};
 ghost use Rattle.muf_records.specs.Records.{rowOf, recordAt, turnOf, lowered, recordsBy, recordsMufOf, recordsAfterOf};
-ghost use Rattle.muf.specs.declared.EsStep.{EsStep};
+ghost use Rattle.sporadic.specs.declared.EsStep.{EsStep};
 use layer_mufs::PathNumbers;
 use layers::EsParams;
 use layers::IonoState;
 use muf::AnswerAndRow;
-use muf::EsRow;
-use muf::EsStep;
 use muf::MufAnswer;
+use sporadic::EsRow;
+use sporadic::EsStep;
 
 // A record as a row of numbers.
 fn row(e: EsParams) -> EsRow
@@ -34,7 +34,7 @@ fn row(e: EsParams) -> EsRow
 fn first() -> EsStep
     ensures { λ r. ⌜ r ≡ EsStep.Next startOf ⌝ }
 {
-    let a = muf::es_start();
+    let a = sporadic::es_start();
     EsStep::Next(a)
 }
 
@@ -44,7 +44,7 @@ fn turn(step: EsStep, k: usize, e: EsParams, c: PathNumbers) -> EsStep
 {
     match step {
         EsStep::Refused(r) => EsStep::Refused(r),
-        EsStep::Next(a) => muf::es_row(a, k, row(e), c),
+        EsStep::Next(a) => sporadic::es_row(a, k, row(e), c),
     }
 }
 

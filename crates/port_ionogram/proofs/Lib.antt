@@ -1,5 +1,4 @@
 -- Cells, ranges and rooms of the exported lists, and the slot sheet through words.
-mod Cells
-mod Ranges
-mod Rooms
-mod Sheets
+pub mod Ranges
+pub mod Rooms
+pub mod Sheets

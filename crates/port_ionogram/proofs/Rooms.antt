@@ -11,7 +11,7 @@ use lib.Seq.{length-take-le, take-all}
 use borrow.Author.Tests.{le-leb, lt-leb}
 use Rattle.reflectrix.specs.Fobby.{roomFor}
 use Rattle.port_state.specs.Words.{signedOf}
-use Rattle.port_ionogram.specs.Layouts.{cellsOf}
+use Rattle.port_layouts.specs.Layouts.{cellsOf}
 
 length-all : (w : List ℕ) (n : ℕ) → n ≤ length w → length (cellsOf w n) ≡ n
 unfolding cellsOf

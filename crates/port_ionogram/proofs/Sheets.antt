@@ -10,7 +10,7 @@ use Rattle.reflectrix.specs.Fobby.{fobbyOutcome, cellsAfter}
 use Rattle.slot_sheet.specs.Sheet.{slotSheetWith}
 use Rattle.port_state.specs.State.{stateInto}
 use Rattle.port_state.specs.Ports.{Ported, refusedWith}
-use Rattle.port_ionogram.specs.Layouts.{cellsOf, cellsInto, ionogramOf, ionogramInto}
+use Rattle.port_layouts.specs.Layouts.{cellsOf, cellsInto, ionogramOf, ionogramInto}
 use Rattle.port_ionogram.specs.Exports.{PortedSheet, portFobby, refusedSheet, sheetOn, sheetCellsOn, portSheet}
 use Rattle.port_ionogram.proofs.Rooms.{room, too-many, too-short}
 

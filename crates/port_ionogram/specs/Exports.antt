@@ -21,7 +21,7 @@ use Rattle.sounding.specs.Genion.{genionAnswer}
 use Rattle.losses.specs.Alosfv.{alosfvAnswer}
 use Rattle.slot_sheet.specs.Sheet.{slotSheetOf, sheetCellsOf}
 use Rattle.slot_sheet.specs.declared.SlotSheet.{SlotSheet}
-use Rattle.port_ionogram.specs.Layouts.{cellsOf, cellsInto, ionogramOf, ionogramInto, linesOf}
+use Rattle.port_layouts.specs.Layouts.{cellsOf, cellsInto, ionogramOf, ionogramInto, linesOf}
 
 -- has the slice fewer words than its layout
 abbrev pub short : List ℕ → ℕ → Bool

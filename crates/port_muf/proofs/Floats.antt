@@ -14,10 +14,10 @@ use Rattle.layers.specs.declared.IonoState.{IonoState}
 use Rattle.heights.specs.Gethp.{gethpOf}
 use Rattle.layer_mufs.specs.Controlling.{controllingOf}
 use Rattle.layer_mufs.specs.declared.PathNumbers.{PathNumbers}
-use Rattle.muf.specs.Sporadic.{rowAt, esFrom, startOf}
+use Rattle.sporadic.specs.Sporadic.{rowAt, esFrom, startOf}
 use Rattle.muf.specs.Curmuf.{mufFromSearchBy, mufOfRowsWith, flatWith, flatOf, inDomain, listsReach, refusedRowsKept, rowCountOf, mufFromSearchWith, mufAtSlotOf}
 use Rattle.muf.specs.declared.AnswerAndRow.{AnswerAndRow}
-use Rattle.muf.specs.declared.EsStep.{EsStep}
+use Rattle.sporadic.specs.declared.EsStep.{EsStep}
 use Rattle.muf.proofs.Rows.{flat-below}
 use Rattle.muf.proofs.Lists.{deciles-whole, lists-reach}
 use Rattle.port_state.specs.Words.{floatsOf}

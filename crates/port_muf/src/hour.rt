@@ -5,18 +5,18 @@ ghost use Prim.Native.Nat.{_+_, _*_, _<_, _≤_};
 ghost use lib.ListN.{length};
 ghost use denote.Ref.{now};
 ghost use Rattle.port_state.specs.Words.{floatsInto};
-ghost use Rattle.muf.specs.Sporadic.{rowAt, esFrom, startOf};
+ghost use Rattle.sporadic.specs.Sporadic.{rowAt, esFrom, startOf};
 ghost use Rattle.muf.specs.Curmuf.{flatOf};
 ghost use Rattle.port_muf.specs.Exports.{floats, leaves, pathNumbersOf, tenInto, lineInto, headInto, hourInto, wordsBy, doneLeft, curmufLeft};
 use layer_mufs::PathNumbers;
 use layers::IonoState;
 use layers::LayerMuf;
 use muf::AnswerAndRow;
-use muf::EsRow;
-use muf::EsStep;
 use muf::MufHour;
 use refusal::Outcome;
 use refusal::Refusal;
+use sporadic::EsRow;
+use sporadic::EsStep;
 
 fn word_row(es: &[u32], k: usize) -> EsRow
     requires { ⌜ 4 * k + 3 < length (now es) ⌝ }
@@ -38,10 +38,10 @@ fn word_rows(es: &[u32], n: usize, c: PathNumbers) -> EsStep
     requires { ⌜ 4 * n ≤ length (now es) ⌝ }
     ensures { λ r. ⌜ r ≡ esFrom (rowAt (floats (now (es .entry)))) c n 0 startOf ⌝ }
 {
-    let mut a = muf::es_start();
+    let mut a = sporadic::es_start();
     for k in 0..n {
         let row = word_row(es, k);
-        let step = muf::es_row(a, k, row, c);
+        let step = sporadic::es_row(a, k, row, c);
         match step {
             EsStep::Refused(r) => {
                 return EsStep::Refused(r);

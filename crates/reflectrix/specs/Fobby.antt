@@ -11,7 +11,7 @@ use Rattle.scalar.specs.Literals.{f0·000001, f1, f1000}
 use Rattle.scalar.specs.Scalar.{maxOf, truncOf}
 use Rattle.scalar.specs.Root.{sqrtOf}
 use Rattle.constants.specs.Constants.{D2R, RZ}
-use Rattle.circular.specs.SinCos.{cosOf}
+use Rattle.waves.specs.SinCos.{cosOf}
 use Rattle.refusal.specs.declared.Refusal.{Refusal}
 use Rattle.refusal.specs.declared.Outcome.{Outcome}
 use Rattle.reflectrix.specs.Angles.{ANG}

@@ -16,7 +16,7 @@ fn rcosd(ia: usize) -> f32
     ensures { λ r. ⌜ r ≡ rcosdOf ia ⌝ }
 {
     let del = angle(ia) * D2R;
-    RZ * circular::cos(del)
+    RZ * waves::cos(del)
 }
 
 // In kHz, of a row's vertical frequency and true height. By numbers: an ionogram handed down for each

@@ -55,11 +55,11 @@ use Rattle.layers.proofs.EsParams as Es
 use Rattle.layer_mufs.specs.declared.PathNumbers.{PathNumbers}
 use Rattle.layer_mufs.proofs.PathNumbers as Ci
 use Rattle.layer_mufs.proofs.PathNumbers.Laws as Ci′
-use Rattle.muf.specs.Sporadic.{esFrom, startOf}
+use Rattle.sporadic.specs.Sporadic.{esFrom, startOf}
 use Rattle.muf.specs.Curmuf.{takenRows, mufFromSearchOf, mufOfRowsWith}
-use Rattle.muf.specs.declared.EsStep.{EsStep}
-use Rattle.muf.proofs.EsStep as St
-use Rattle.muf.proofs.EsStep.Laws as St′
+use Rattle.sporadic.specs.declared.EsStep.{EsStep}
+use Rattle.sporadic.proofs.EsStep as St
+use Rattle.sporadic.proofs.EsStep.Laws as St′
 use Rattle.muf.specs.declared.AnswerAndRow.{AnswerAndRow}
 use Rattle.muf.proofs.AnswerAndRow as Do
 use Rattle.muf.proofs.AnswerAndRow.Laws as Do′

@@ -54,13 +54,13 @@ use Rattle.layers.proofs.EsParams.Laws as Es′
 use Rattle.layer_mufs.specs.declared.PathNumbers.{PathNumbers}
 use Rattle.layer_mufs.proofs.PathNumbers as Ci
 use Rattle.layer_mufs.proofs.PathNumbers.Laws as Ci′
-use Rattle.muf.specs.declared.EsRow.{EsRow}
-use Rattle.muf.specs.declared.EsStep.{EsStep}
-use Rattle.muf.specs.Sporadic.{nextBy, esFrom, startOf}
+use Rattle.sporadic.specs.declared.EsRow.{EsRow}
+use Rattle.sporadic.specs.declared.EsStep.{EsStep}
+use Rattle.sporadic.specs.Sporadic.{nextBy, esFrom, startOf}
 use Rattle.muf.specs.Curmuf.{takenRows}
 use Rattle.muf.proofs.Rows.{taken-there}
-use Rattle.muf.proofs.EsStep as St
-use Rattle.muf.proofs.EsStep.Laws as St′
+use Rattle.sporadic.proofs.EsStep as St
+use Rattle.sporadic.proofs.EsStep.Laws as St′
 use Rattle.muf_records.specs.Records.{noEs, recordAt, turnOf}
 use Rattle.muf.proofs.rows_taken as rows-taken
 use Rattle.muf.proofs.rows_taken.Symbol as rows-taken-def

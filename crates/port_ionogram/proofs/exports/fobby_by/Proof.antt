@@ -6,7 +6,7 @@ use lib.IntN.{ℤ}
 use lib.ListN.{length}
 use Rattle.reflectrix.specs.Fobby.{cellsAfter}
 use Rattle.reflectrix.specs.declared.Ionogram.{Ionogram}
-use Rattle.port_ionogram.specs.Layouts.{cellsOf, cellsInto}
+use Rattle.port_layouts.specs.Layouts.{cellsOf, cellsInto}
 use borrow.Author.Needs.{needs}
 use Rattle.port_ionogram.proofs.exports.fobby_by.Statement.{statement}
 use Rattle.port_ionogram.proofs.exports.fobby_by.Tie as tie

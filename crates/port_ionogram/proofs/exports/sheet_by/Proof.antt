@@ -8,7 +8,7 @@ use Rattle.layers.specs.declared.IonoState.{IonoState}
 use Rattle.layers.specs.declared.LayerMuf.{LayerMuf}
 use Rattle.slot_sheet.specs.Sheet.{slotSheetOf, sheetCellsOf}
 use Rattle.slot_sheet.specs.declared.SlotSheet.{SlotSheet}
-use Rattle.port_ionogram.specs.Layouts.{cellsOf, cellsInto}
+use Rattle.port_layouts.specs.Layouts.{cellsOf, cellsInto}
 use borrow.Author.Needs.{needs}
 use Rattle.port_ionogram.proofs.exports.sheet_by.Statement.{statement}
 use Rattle.port_ionogram.proofs.exports.sheet_by.Tie as tie

@@ -3,9 +3,9 @@ use mathlib.Core.Path.{_≡_}
 use Prim.Native.Nat.{_≤_, _-_}
 use native.Mathlib.Omega.{arith}
 use borrow.Author.Needs.{needs}
-use Rattle.muf.specs.Sporadic.{rowAt, esFrom, startOf}
+use Rattle.sporadic.specs.Sporadic.{rowAt, esFrom, startOf}
 use Rattle.port_muf.specs.Exports.{floats}
-use Rattle.muf.proofs.Rows.{one-more, none-left}
+use Rattle.sporadic.proofs.Searches.{one-more, none-left}
 use Rattle.port_muf.proofs.hour.word_rows.Statement.{statement}
 use Rattle.port_muf.proofs.hour.word_rows.Tie as tie
 
