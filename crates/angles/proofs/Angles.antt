@@ -20,12 +20,13 @@ use Rattle.order.specs.Units.{real, key, rounded}
 use Rattle.order.proofs.Keys.{lt-key, overflow-pos}
 use Rattle.order.proofs.Sums.{round-as, round-key, rounded-mono, finite-real}
 use Rattle.order.proofs.Tests.{nought-is, nought-key, le→keys, le-real, lt→keys, lt-real}
-use Rattle.circular.specs.SinCos.{sinOf, cosOf}
-use Rattle.circular.specs.Atan.{atanBits, atanOf}
-use Rattle.circular.specs.Answers.{sinAnswer, cosAnswer}
-use Rattle.circular.specs.declared.Answer.{Answer}
-use Rattle.circular.proofs.Within.{atan-within}
-use Rattle.hops.specs.Geometry.{D2R, PIO2, RZ, hopRatioOf, hopsBy, hopsOf, psiOf, delOf}
+use Rattle.waves.specs.SinCos.{sinOf, cosOf}
+use Rattle.arcs.specs.Atan.{atanBits, atanOf}
+use Rattle.waves.specs.Answers.{sinAnswer, cosAnswer}
+use Rattle.waves.specs.declared.Answer.{Answer}
+use Rattle.arcs.proofs.Within.{atan-within}
+use Rattle.constants.specs.Constants.{D2R, PIO2, RZ}
+use Rattle.hops.specs.Geometry.{hopRatioOf, hopsBy, hopsOf, psiOf, delOf}
 use Rattle.hops.specs.declared.Hops.{Hops}
 use Rattle.angles.proofs.Keys.{Above, UpTo, From, Between, quotient, product, product-from, difference, finite-of, key-range}
 

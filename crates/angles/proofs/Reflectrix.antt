@@ -6,25 +6,25 @@ use Prim.Native.Nat.{ℕ, zero, suc}
 use lib.Dec.{T}
 use lib.Ieee.{Float, ofBits, round, lt, neg, mul}
 use lib.Ieee.Fits.{and-l, and-r}
-use Rattle.scalar.specs.F32.{_*f_, _<f_, _>f_, negf}
-use Rattle.scalar.specs.Literals.{f0·01745329251, f4}
-use Rattle.circular.specs.SinCos.{cosOf}
-use Rattle.circular.specs.Answers.{cosAnswer}
-use Rattle.circular.specs.declared.Answer.{Answer}
-use Rattle.layers.specs.State.{at}
-use Rattle.ionogram.specs.Angles.{ANG}
+use Rattle.scalar.specs.F32.{_*f_, _<f_, _>f_, negf, at}
+use Rattle.scalar.specs.Literals.{f4}
+use Rattle.waves.specs.SinCos.{cosOf}
+use Rattle.waves.specs.Answers.{cosAnswer}
+use Rattle.waves.specs.declared.Answer.{Answer}
+use Rattle.constants.specs.Constants.{D2R}
+use Rattle.reflectrix.specs.Angles.{ANG}
 use Rattle.angles.proofs.Angles.{Small, cos-answers}
 
 -- an angle of the list in radians, as in `rcosdOf`
 abbrev radians : List Float → ℕ → Float
-radians l ia = at l ia *f f0·01745329251
+radians l ia = at l ia *f D2R
 
 small : Float → Bool
 small x = not (x <f negf f4) && not (x >f f4)
 
 all-small : List Float → Bool
 all-small [] = true
-all-small (x ∷ l) = small (x *f f0·01745329251) && all-small l
+all-small (x ∷ l) = small (x *f D2R) && all-small l
 
 not-so : (b : Bool) → T (not b) → b ≡ false
 not-so true h = absurd h
@@ -38,16 +38,16 @@ is-small x t = (not-so (x <f negf f4) (and-l (not (x <f negf f4)) (not (x >f f4)
 each-small : (l : List Float) → T (all-small l) → (ia : ℕ) → Small (radians l ia)
 unfolding all-small lt mul ofBits
 each-small [] t ia = (refl, refl)
-each-small (x ∷ l) t zero = is-small (x *f f0·01745329251) (and-l (small (x *f f0·01745329251)) (all-small l) t)
-each-small (x ∷ l) t (suc ia) = each-small l (and-r (small (x *f f0·01745329251)) (all-small l) t) ia
+each-small (x ∷ l) t zero = is-small (x *f D2R) (and-l (small (x *f D2R)) (all-small l) t)
+each-small (x ∷ l) t (suc ia) = each-small l (and-r (small (x *f D2R)) (all-small l) t) ia
 
 forty : T (all-small ANG)
 unfolding all-small small ANG ofBits round lt neg mul
 forty = tt
 
 -- cos in `fobby`, at every angle of the scan
-pub fobby-small : (ia : ℕ) → Small (at ANG ia *f f0·01745329251)
+pub fobby-small : (ia : ℕ) → Small (at ANG ia *f D2R)
 fobby-small ia = each-small ANG forty ia
 
-pub fobby-answers : (ia : ℕ) → cosAnswer (at ANG ia *f f0·01745329251) ≡ Answer.Value (cosOf (at ANG ia *f f0·01745329251))
-fobby-answers ia = cos-answers (at ANG ia *f f0·01745329251) (fobby-small ia)
+pub fobby-answers : (ia : ℕ) → cosAnswer (at ANG ia *f D2R) ≡ Answer.Value (cosOf (at ANG ia *f D2R))
+fobby-answers ia = cos-answers (at ANG ia *f D2R) (fobby-small ia)

@@ -1,2 +1,2 @@
-pub mod Lengths
-pub mod Within
+-- The text of a chain fits.
+mod Within

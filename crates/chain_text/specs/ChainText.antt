@@ -1,9 +1,9 @@
 -- What `chain` prints: record, kind and next index for each step of the chain, then `end` and the count; of a refused file only the refusal.
 use mathlib.Core.List.{List, [], _∷_, _++_}
-use Prim.Native.Nat.{ℕ, zero, suc}
+use Prim.Native.Nat.{ℕ}
 use lib.ListN.{getD}
 use Rattle.refusal.specs.declared.Outcome.{Outcome}
-use Rattle.lines.specs.Text.{space, lineFeed, decimalOf, fieldOf, refusedText}
+use Rattle.lines.specs.Text.{space, lineFeed, decimalOf, fieldOf, refusedText, joined}
 use Rattle.circuit.specs.declared.Chain.{Chain}
 use Rattle.circuit.specs.Record.{form64, recordAt, kindOf, nextOf}
 use Rattle.circuit.specs.Chain.{chainOf}
@@ -12,10 +12,9 @@ use Rattle.circuit.specs.Chain.{chainOf}
 unfoldable pub stepLine : List ℕ → ℕ → List ℕ
 stepLine r n = decimalOf n ++ (fieldOf (kindOf r) ++ (fieldOf (nextOf r) ++ (lineFeed ∷ [])))
 
--- the first steps of the chain
-unfoldable pub stepLines : List ℕ → List ℕ → ℕ → List ℕ
-stepLines f order zero = []
-stepLines f order (suc i) = stepLines f order i ++ stepLine (recordAt form64 f (getD order i 0)) (getD order i 0)
+-- step i of the chain
+abbrev pub stepAt : List ℕ → List ℕ → ℕ → List ℕ
+stepAt f order i = stepLine (recordAt form64 f (getD order i 0)) (getD order i 0)
 
 -- `end ` in ASCII
 abbrev pub endWord : List ℕ
@@ -25,7 +24,7 @@ unfoldable pub endLine : ℕ → List ℕ
 endLine count = endWord ++ (decimalOf count ++ (lineFeed ∷ []))
 
 unfoldable pub followedText : List ℕ → Chain → List ℕ
-followedText f c = stepLines f (c .order) (c .count) ++ endLine (c .count)
+followedText f c = joined (stepAt f (c .order)) (c .count) ++ endLine (c .count)
 
 abbrev pub textBy : Outcome → List ℕ → Chain → List ℕ
 textBy Outcome.Answered f c = followedText f c

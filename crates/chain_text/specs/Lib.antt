@@ -1,1 +1,2 @@
+-- What `chain` prints.
 pub mod ChainText

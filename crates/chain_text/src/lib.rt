@@ -1,20 +1,20 @@
 // What `chain` prints of a circuit file, as bytes.
-ghost use Prim.Native.Nat.{ℕ, _+_, _*_, _≤_, _<_};
+ghost use Prim.Native.Nat.{ℕ, _+_, _*_, _≤_};
 ghost use mathlib.Core.Path.{_≡_};
 ghost use lib.ListN.{length, getD};
 ghost use Rattle.refusal.specs.declared.Outcome.{Outcome};
 ghost use Rattle.io.specs.Counts.{Counts};
-ghost use Rattle.lines.specs.Text.{Put};
+ghost use Rattle.lines.specs.Text.{joined, Clipped, Put};
 ghost use Rattle.circuit.specs.Record.{form64};
 ghost use Rattle.circuit.specs.Chain.{chainOf};
-ghost use Rattle.chain_text.specs.ChainText.{stepLine, stepLines, endLine, followedText, chainText};
+ghost use Rattle.chain_text.specs.ChainText.{stepLine, stepAt, endLine, followedText, chainText};
 use circuit::Chain;
 use refusal::Outcome;
 
 // A step of the chain: the record's number, its kind and its next index.
 fn put_step(out: &mut [u8], at: usize, r: &[u8], n: usize) -> usize
-    requires { ⌜ (length (now r) ≡ 64) × (at + 63 ≤ length (now out)) ⌝ }
-    ensures { λ e. ⌜ Put (stepLine (now (r .entry)) n) (now (out .entry)) at (now (out .exit)) e ⌝ }
+    requires { ⌜ length (now r) ≡ 64 ⌝ }
+    ensures { λ e. ⌜ Clipped (stepLine (now (r .entry)) n) (now (out .entry)) at (now (out .exit)) e ⌝ }
 {
     let kind = circuit::half(r, 0);
     let next = circuit::half(r, 2);
@@ -25,8 +25,8 @@ fn put_step(out: &mut [u8], at: usize, r: &[u8], n: usize) -> usize
 }
 
 fn put_steps(out: &mut [u8], file: &[u8], order: [usize; 64], count: usize) -> usize
-    requires { ⌜ (count ≤ 64) × (4057 ≤ length (now out)) × ((i : ℕ) → 64 * getD order i 0 + 64 ≤ length (now file)) ⌝ }
-    ensures { λ e. ⌜ Put (stepLines (now (file .entry)) order count) (now (out .entry)) 0 (now (out .exit)) e ⌝ }
+    requires { ⌜ (count ≤ 64) × ((i : ℕ) → 64 * getD order i 0 + 64 ≤ length (now file)) ⌝ }
+    ensures { λ e. ⌜ Clipped (joined (stepAt (now (file .entry)) order) count) (now (out .entry)) 0 (now (out .exit)) e ⌝ }
 {
     let mut at = 0;
     for i in 0..count {
@@ -37,8 +37,7 @@ fn put_steps(out: &mut [u8], file: &[u8], order: [usize; 64], count: usize) -> u
 }
 
 fn put_end(out: &mut [u8], at: usize, count: usize) -> usize
-    requires { ⌜ at + 25 ≤ length (now out) ⌝ }
-    ensures { λ e. ⌜ Put (endLine count) (now (out .entry)) at (now (out .exit)) e ⌝ }
+    ensures { λ e. ⌜ Clipped (endLine count) (now (out .entry)) at (now (out .exit)) e ⌝ }
 {
     let a = lines::put_word(out, at, b"end ");
     let b = lines::put_decimal(out, a, count as u64);
@@ -46,8 +45,8 @@ fn put_end(out: &mut [u8], at: usize, count: usize) -> usize
 }
 
 fn put_chain(out: &mut [u8], file: &[u8], c: Chain) -> usize
-    requires { ⌜ (c ≡ chainOf form64 (now file)) × (c .outcome ≡ Outcome.Answered) × (4096 ≤ length (now out)) ⌝ }
-    ensures { λ e. ⌜ Put (followedText (now (file .entry)) c) (now (out .entry)) 0 (now (out .exit)) e ⌝ }
+    requires { ⌜ (c ≡ chainOf form64 (now file)) × (c .outcome ≡ Outcome.Answered) ⌝ }
+    ensures { λ e. ⌜ Clipped (followedText (now (file .entry)) c) (now (out .entry)) 0 (now (out .exit)) e ⌝ }
 {
     let order = c.order;
     let count = c.count;
@@ -55,8 +54,15 @@ fn put_chain(out: &mut [u8], file: &[u8], c: Chain) -> usize
     put_end(out, at, count)
 }
 
-// Puts the text at the start of out, and answers its length. The longest, of 64 steps, has room.
-pub fn chain_text(file: &[u8], out: &mut [u8; 4096]) -> usize
+// The bytes that a program reads: a record more than the longest file, so that a longer one is seen to be
+// too long.
+pub const INPUT: usize = 4160;
+
+// The bytes that a text is put into: one of 64 steps has room.
+pub const ROOM: usize = 4096;
+
+// Puts the text at the start of out, and answers its length.
+pub fn chain_text(file: &[u8], out: &mut [u8; ROOM]) -> usize
     ensures { λ e. ⌜ Put (chainText (now (file .entry))) (now (out .entry)) 0 (now (out .exit)) e ⌝ }
     ensures room { λ e. ⌜ Counts e (now (out .exit)) ⌝ }
 {

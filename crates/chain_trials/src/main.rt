@@ -1,9 +1,11 @@
 // What `chain` prints of files of every refusal that it gives, and of unusual chains. The stored output has the
 // paper's answers.
 ghost use Prim.Native.Nat.{_<_, _≤_};
+use chain_text::INPUT;
+use chain_text::ROOM;
 
 // Record n has this kind and next index.
-fn record(mut f: [u8; 4160], n: usize, kind: u8, next: u8) -> [u8; 4160]
+fn record(mut f: [u8; INPUT], n: usize, kind: u8, next: u8) -> [u8; INPUT]
     requires { ⌜ n < 65 ⌝ }
 {
     f[64 * n] = kind;
@@ -12,14 +14,14 @@ fn record(mut f: [u8; 4160], n: usize, kind: u8, next: u8) -> [u8; 4160]
 }
 
 // Record 0 and one point, the chain 0, 1.
-fn smallest() -> [u8; 4160] {
-    let mut f = record([0; 4160], 0, 1, 1);
+fn smallest() -> [u8; INPUT] {
+    let mut f = record([0; INPUT], 0, 1, 1);
     f[4] = 1;
     record(f, 1, 2, 0)
 }
 
 // n records of kind 3 after those two, in order.
-fn with_deciles(n: usize) -> [u8; 4160]
+fn with_deciles(n: usize) -> [u8; INPUT]
     requires { ⌜ n ≤ 60 ⌝ }
 {
     let mut f = record(smallest(), 1, 2, 2);
@@ -33,11 +35,11 @@ fn with_deciles(n: usize) -> [u8; 4160]
 }
 
 // The text of the first n bytes, after its name.
-fn print(name: &[u8], f: [u8; 4160], n: usize)
+fn print(name: &[u8], f: [u8; INPUT], n: usize)
     requires { ⌜ n ≤ 4160 ⌝ }
 {
     io::write_all(1, name);
-    let mut text = [0u8; 4096];
+    let mut text = [0u8; ROOM];
     let len = chain_text::chain_text(&f[..n], &mut text);
     io::write_all(1, &text[..len]);
 }

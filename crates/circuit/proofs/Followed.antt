@@ -1,11 +1,12 @@
 -- What holds of a chain that was followed to its end. `walk-ind` is the induction along a walk, by which each fact goes.
-use Prim.Native.Nat.{ℕ, zero, suc, _+_, _-_, _/_, _%_, _≤_, _<_}
+use Prim.Native.Nat.{ℕ, zero, suc, _+_, _*_, _-_, _%_, _≤_, _<_}
 use mathlib.Core.Path.{_≡_, refl, ap, _∙_, sym}
 use mathlib.Core.List.{List, [], _∷_, _++_}
 use mathlib.Core.Bool.{Bool, true, false, _||_, _&&_}
 use mathlib.Core.Logic.{_⊎_, inl, inr, ⊎-elim}
 use native.Mathlib.Omega.{arith}
 use native.Mathlib.Numerals.{add-one}
+use native.Mathlib.Nat.{div-add-mod}
 use lib.ListN.{length, getD, replicate, length-append}
 use lib.Dec.{eqb, leb}
 use borrow.Author.Tests.{eqb-true, leb-true}
@@ -14,11 +15,12 @@ use Rattle.refusal.specs.declared.Outcome.{Outcome}
 use Rattle.circuit.specs.declared.Chain.{Chain}
 use Rattle.circuit.specs.declared.Circuit.{Circuit}
 use Rattle.circuit.specs.declared.Step.{Step}
-use Rattle.circuit.specs.Record.{Form, form64, recordAt}
+use Rattle.circuit.specs.declared.Form.{Form}
+use Rattle.circuit.specs.Record.{form64, Fit, recordAt}
 use Rattle.circuit.specs.Chain.{lengthGood, countOf, kmOf, headGood, byStep, stepOf, pick, soundBy, answered, refused, walk, chainOf}
 use Rattle.circuit.specs.Read.{readOf, circuitOf, noCircuit}
 use Rattle.circuit.proofs.Lists.{both, length-padded}
-use Rattle.circuit.proofs.Steps.{step-to, Head, head-facts}
+use Rattle.circuit.proofs.Steps.{step-to, in-file, counted, Head, head-facts}
 
 module _ (Q : Chain → Type 0) where
   pub by-step : (s : Step) (e : Chain) (on : ℕ → Chain) → (s ≡ Step.End → Q e)
@@ -116,63 +118,72 @@ picked : (b : Bool) (x : Chain) (r : Refusal) → pick b x (refused r) .outcome 
 picked true x r e = (refl, refl)
 picked false x r e = absurd (never r e)
 
+-- the paper's form is one of those
+pub fit64 : Fit form64
+fit64 = (omega arith, omega arith, omega arith)
+
 -- a file whose chain was followed to its end
-pub record Followed (f : List ℕ) (c : Chain) : Type 0 where
-  pub whole : length f % 64 ≡ 0
-  pub least : 128 ≤ length f
-  pub most : length f ≤ 4096
-  pub head : Head form64 (recordAt form64 f 0)
-  pub is : c ≡ walk form64 f (kmOf (recordAt form64 f 0) + 48) (0 ∷ []) 0
-  pub within : (i : ℕ) → getD (c .order) i 0 < length f / 64
-  pub long : Long (kmOf (recordAt form64 f 0) + 49) c
+pub record Followed (o : Form) (f : List ℕ) (c : Chain) : Type 0 where
+  pub whole : length f ≡ o .size * countOf o f
+  pub least : 2 * o .size ≤ length f
+  pub most : length f ≤ 64 * o .size
+  pub head : Head o (recordAt o f 0)
+  pub is : c ≡ walk o f (kmOf (recordAt o f 0) + 48) (0 ∷ []) 0
+  pub within : (i : ℕ) → getD (c .order) i 0 < countOf o f
+  pub long : Long (kmOf (recordAt o f 0) + 49) c
 
-module _ (f : List ℕ) where
+module _ (o : Form) (fit : Fit o) (f : List ℕ) where
   walked : Chain
-  walked = walk form64 f (kmOf (recordAt form64 f 0) + 48) (0 ∷ []) 0
+  walked = walk o f (kmOf (recordAt o f 0) + 48) (0 ∷ []) 0
 
-  from-walk : length f % 64 ≡ 0 → 128 ≤ length f → length f ≤ 4096 → Head form64 (recordAt form64 f 0) → Followed f walked
+  from-walk : length f % o .size ≡ 0 → 2 * o .size ≤ length f → length f ≤ 64 * o .size → Head o (recordAt o f 0)
+      → Followed o f walked
   unfolding walked
   from-walk a b c h =
-      let some : 0 < length f / 64 = omega arith in
-      let fits : kmOf (recordAt form64 f 0) + 49 ≤ 64 = omega (arith, h .most) in
+      let some : 0 < countOf o f = counted o f 1 (omega arith) (omega arith) in
+      let fits : kmOf (recordAt o f 0) + 49 ≤ 64 = omega (arith, h .most) in
       record {
-        whole = a;
+        whole = omega (arith, div-add-mod (length f) (o .size));
         least = b;
         most = c;
         head = h;
         is = refl;
         within =
-            below-at (length f / 64) (walked .order) some
-            (walk-within form64 f (kmOf (recordAt form64 f 0) + 48) 0 (0 ∷ []) some (some, tt));
-        long = walk-long form64 f (kmOf (recordAt form64 f 0) + 49) (kmOf (recordAt form64 f 0) + 48) 0 (0 ∷ []) fits (omega arith);
+            below-at (countOf o f) (walked .order) some
+            (walk-within o f (kmOf (recordAt o f 0) + 48) 0 (0 ∷ []) some (some, tt));
+        long = walk-long o f (kmOf (recordAt o f 0) + 49) (kmOf (recordAt o f 0) + 48) 0 (0 ∷ []) fits (omega arith);
       }
 
-  pub followed : chainOf form64 f .outcome ≡ Outcome.Answered → Followed f (chainOf form64 f)
+  pub followed : chainOf o f .outcome ≡ Outcome.Answered → Followed o f (chainOf o f)
   unfolding chainOf walked
   followed e =
-      let inner = pick (headGood form64 (recordAt form64 f 0)) walked (refused Refusal.RecordZero) in
-      let a = picked (lengthGood form64 f) inner Refusal.Length e in
-      let b = picked (headGood form64 (recordAt form64 f 0)) walked Refusal.RecordZero (ap (λ (c : Chain). c .outcome) (sym (a .1)) ∙ e) in
-      let g = both (eqb (length f % 64) 0) (leb 128 (length f) && leb (length f) 4096) (a .0) in
-      let l = both (leb 128 (length f)) (leb (length f) 4096) (g .1) in
+      let inner = pick (headGood o (recordAt o f 0)) walked (refused Refusal.RecordZero) in
+      let a = picked (lengthGood o f) inner Refusal.Length e in
+      let b = picked (headGood o (recordAt o f 0)) walked Refusal.RecordZero (ap (λ (c : Chain). c .outcome) (sym (a .1)) ∙ e) in
+      let g = both (eqb (length f % o .size) 0) (leb (2 * o .size) (length f) && leb (length f) (64 * o .size)) (a .0) in
+      let l = both (leb (2 * o .size) (length f)) (leb (length f) (64 * o .size)) (g .1) in
       rw (a .1 ∙ b .1)
-      (from-walk (eqb-true _ _ (g .0)) (leb-true _ _ (l .0)) (leb-true _ _ (l .1)) (head-facts form64 (recordAt form64 f 0) (b .0)))
+      (from-walk (eqb-true _ _ (g .0)) (leb-true _ _ (l .0)) (leb-true _ _ (l .1)) (head-facts o (recordAt o f 0) (b .0)))
 
--- room for the points, and for at most 48 of kind 3 after them
-pub count-range : (f : List ℕ) (c : Chain) → Followed f c → c .outcome ≡ Outcome.Answered
-    → (1 + kmOf (recordAt form64 f 0) ≤ c .count) × (c .count ≤ kmOf (recordAt form64 f 0) + 49)
-count-range f c t e =
-    ⊎-elim (λ w. (omega arith, omega arith)) (λ w. (omega arith, omega arith)) (t .long .count e)
+module _ (o : Form) (f : List ℕ) (c : Chain) (t : Followed o f c) where
+  -- every record of the chain is in the file
+  pub there : (i : ℕ) → o .size * getD (c .order) i 0 + o .size ≤ length f
+  there i = in-file o f (getD (c .order) i 0) (t .within i)
+
+  -- room for the points, and for at most 48 of kind 3 after them
+  pub count-range : c .outcome ≡ Outcome.Answered
+      → (1 + kmOf (recordAt o f 0) ≤ c .count) × (c .count ≤ kmOf (recordAt o f 0) + 49)
+  count-range e = ⊎-elim (λ w. (omega arith, omega arith)) (λ w. (omega arith, omega arith)) (t .long .count e)
 
 -- the reader's answer, by the chain's outcome
-module _ (f : List ℕ) (k : Chain) (e : k ≡ chainOf form64 f) where
+module _ (o : Form) (f : List ℕ) (k : Chain) (e : k ≡ chainOf o f) where
   pub read-answered : k .outcome ≡ Outcome.Answered
-      → readOf form64 f ≡ record { outcome = Outcome.Answered; circuit = circuitOf form64 f k }
+      → readOf o f ≡ record { outcome = Outcome.Answered; circuit = circuitOf o f k }
   unfolding readOf
   read-answered a = rw (← e, a)
 
   pub read-refused : (r : Refusal) → k .outcome ≡ Outcome.Refused r
-      → readOf form64 f ≡ record { outcome = Outcome.Refused r; circuit = noCircuit }
+      → readOf o f ≡ record { outcome = Outcome.Refused r; circuit = noCircuit }
   unfolding readOf
   read-refused r a = rw (← e, a)
 
@@ -180,12 +191,13 @@ module _ (f : List ℕ) (k : Chain) (e : k ≡ chainOf form64 f) where
 abbrev pub Small : Circuit → Type 0
 Small c = (c .km ≤ 5) × (c .shape ≤ 1)
 
-small-by : (f : List ℕ) (k : Chain) → k ≡ chainOf form64 f → (o : Outcome) → k .outcome ≡ o → Small (readOf form64 f .circuit)
-unfolding circuitOf noCircuit
-small-by f k e Outcome.Answered a =
-    let h = followed f (ap (λ (c : Chain). c .outcome) (sym e) ∙ a) .head in
-    rw (read-answered f k e a) (h .most, h .form)
-small-by f k e (Outcome.Refused r) a = rw (read-refused f k e r a) (omega arith, omega arith)
+module _ (o : Form) (fit : Fit o) (f : List ℕ) where
+  small-by : (k : Chain) → k ≡ chainOf o f → (a : Outcome) → k .outcome ≡ a → Small (readOf o f .circuit)
+  unfolding circuitOf noCircuit
+  small-by k e Outcome.Answered a =
+      let h = followed o fit f (ap (λ (c : Chain). c .outcome) (sym e) ∙ a) .head in
+      rw (read-answered o f k e a) (h .most, h .form)
+  small-by k e (Outcome.Refused r) a = rw (read-refused o f k e r a) (omega arith, omega arith)
 
-pub small : (f : List ℕ) → Small (readOf form64 f .circuit)
-small f = small-by f (chainOf form64 f) refl (chainOf form64 f .outcome) refl
+  pub small : Small (readOf o f .circuit)
+  small = small-by (chainOf o f) refl (chainOf o f .outcome) refl

@@ -9,10 +9,11 @@ use lib.ListN.{length, getD, take, drop, set, length-append, length-drop, drop-o
 use lib.Seq.{drop-cons, take-all, set-at, take-at, drop-at, length-take-le, take-suc, take-suc-set}
 use lib.Dec.{eqb}
 use borrow.Author.Tests.{eq-eqb, ne-eqb, eqb-true}
+use Rattle.circuit.specs.declared.Form.{Form}
 use Rattle.circuit.specs.Chain.{member, padded}
 use Rattle.circuit.specs.Read.{numbersOf}
-use Rattle.circuit.specs.Record.{allZero, wordsOf, wordAt, recordAt, Form, form64}
-use native.Mathlib.Nat.{add-sub-cancel-left, sub-zero, zero-sub, suc-sub-suc}
+use Rattle.circuit.specs.Record.{allZero, wordsOf, wordAt, recordAt}
+use native.Mathlib.Nat.{add-sub-cancel-left, sub-zero, zero-sub, suc-sub-suc, mul-zero}
 
 -- the rest of a list from a start, as a part of a slice has it
 pub rest : (a : ℕ) (l : List ℕ) → take (length l - a) (drop a l) ≡ drop a l
@@ -46,8 +47,8 @@ words-on r l o i h e =
     rw (e, drop-cons l i 0, add-one, set-at (wordsOf r i) (getD l i 0) (drop (suc i) l) (wordAt r (4 + 4 * i)) i (length-words r i), append-assoc)
 
 -- a list filled to its end
-pub filled : (w l : List ℕ) (i : ℕ) → length l ≤ i → w ++ drop i l ≡ w
-filled w l i h = rw (drop-of-length-le l h, append-nil)
+pub filled-up : (w l : List ℕ) (i : ℕ) → length l ≤ i → w ++ drop i l ≡ w
+filled-up w l i h = rw (drop-of-length-le l h, append-nil)
 
 -- a record that is not the one looked for
 pub member-on : (n : ℕ) (l : List ℕ) (i : ℕ) → i < length l → (n ≡ getD l i 0 → ⊥) → member n (drop i l) ≡ member n (drop (i + 1) l)
@@ -60,8 +61,13 @@ unfolding member
 member-off n l i h e = rw (drop-cons l i 0, eq-eqb n (getD l i 0) e)
 
 -- record n as the part of the file that is lent
-pub part : (f : List ℕ) (n : ℕ) → take (64 * n + 64 - 64 * n) (drop (64 * n) f) ≡ recordAt form64 f n
-part f n = ap (λ (k : ℕ). take k (drop (64 * n) f)) (add-sub-cancel-left (64 * n) 64)
+pub part : (o : Form) (f : List ℕ) (n : ℕ)
+    → take (o .size * n + o .size - o .size * n) (drop (o .size * n) f) ≡ recordAt o f n
+part o f n = ap (λ (k : ℕ). take k (drop (o .size * n) f)) (add-sub-cancel-left (o .size * n) (o .size))
+
+-- and record 0
+pub head-part : (o : Form) (f : List ℕ) → take (o .size - 0) f ≡ recordAt o f 0
+head-part o f = rw (sub-zero, mul-zero)
 
 pub drop-replicate : (n k : ℕ) → drop {A = ℕ} k (replicate n 0) ≡ replicate (n - k) 0
 drop-replicate n zero = rw sub-zero
@@ -89,29 +95,36 @@ placed N w a xs ns ys e l m h =
       append-assoc,
     )
 
-pub length-numbers : (o : Form) (f order : List ℕ) (from words n : ℕ)
-    → length (numbersOf o f order from words n) ≡ words * n
-unfolding numbersOf
-length-numbers o f order from words zero = omega arith
-length-numbers o f order from words (suc n) =
-    simp (length-append, length-numbers o f order from words n, length-words) (omega arith)
+-- the words after the first `skip` are as many as were asked for
+pub length-after : (r : List ℕ) (skip words : ℕ) → length (drop skip (wordsOf r (skip + words))) ≡ words
+length-after r skip words = simp (length-drop, length-words) (omega arith)
 
-pub length-read : (N : ℕ) (o : Form) (f order : List ℕ) (from words n : ℕ) → words * n ≤ N
-    → length (padded N (numbersOf o f order from words n)) ≡ N
-length-read N o f order from words n h =
-    length-padded N (numbersOf o f order from words n) (rw length-numbers h)
+module _ (o : Form) (f order : List ℕ) (from skip words : ℕ) where
+  pub length-numbers : (n : ℕ) → length (numbersOf o f order from skip words n) ≡ words * n
+  unfolding numbersOf
+  length-numbers zero = omega arith
+  length-numbers (suc n) = simp (length-append, length-numbers n, length-after) (omega arith)
 
--- one more record's words, read into their part of the array
-pub read-on : (N w from i : ℕ) (f order xs ys : List ℕ) → xs ≡ padded N (numbersOf form64 f order from w i)
-    → ys ≡ wordsOf
-    (take (64 * getD order (from + i) 0 + 64 - 64 * getD order (from + i) 0) (drop (64 * getD order (from + i) 0) f)) w
-    → w * i + w ≤ N
-    → take (w * i) xs ++ (ys ++ drop (w * i + w - w * i) (drop (w * i) xs)) ≡ padded N (numbersOf form64 f order from w (i + 1))
-unfolding numbersOf
-read-on N w from i f order xs ys e y h =
-    let z = y ∙ ap (λ (r : List ℕ). wordsOf r w) (part f (getD order (from + i) 0)) in
-    placed N w (w * i) xs (numbersOf form64 f order from w i) ys e (length-numbers form64 f order from w i) (ap length z ∙ length-words _ w) h
-    ∙ rw (add-one, z) refl
+  pub length-read : (N n : ℕ) → words * n ≤ N → length (padded N (numbersOf o f order from skip words n)) ≡ N
+  length-read N n h = length-padded N (numbersOf o f order from skip words n) (rw length-numbers h)
+
+  -- one more record's words, read into their part of the array
+  pub read-on : (N i : ℕ) (xs ys : List ℕ) → xs ≡ padded N (numbersOf o f order from skip words i)
+      → ys ≡ drop skip
+      (wordsOf
+      (take (o .size * getD order (from + i) 0 + o .size - o .size * getD order (from + i) 0)
+      (drop (o .size * getD order (from + i) 0) f))
+      (skip + words))
+      → words * i + words ≤ N
+      → take (words * i) xs ++ (ys ++ drop (words * i + words - words * i) (drop (words * i) xs))
+      ≡ padded N (numbersOf o f order from skip words (i + 1))
+  unfolding numbersOf
+  read-on N i xs ys e y h =
+      let n = getD order (from + i) 0 in
+      let z = y ∙ ap (λ (r : List ℕ). drop skip (wordsOf r (skip + words))) (part o f n) in
+      placed N words (words * i) xs (numbersOf o f order from skip words i) ys e (length-numbers i)
+      (ap length z ∙ length-after (recordAt o f n) skip words) h
+      ∙ rw (add-one, z) refl
 
 -- a list of zeros
 pub zeros : (l : List ℕ) → allZero l ≡ true → l ≡ replicate (length l) 0

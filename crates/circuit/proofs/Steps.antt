@@ -1,10 +1,11 @@
 -- What one step of the walk is, by where it leads, and the array that holds the records met.
-use Prim.Native.Nat.{ℕ, zero, suc, _+_, _-_, _≤_, _<_}
+use Prim.Native.Nat.{ℕ, zero, suc, _+_, _*_, _-_, _≤_, _<_}
 use mathlib.Core.Path.{_≡_, refl, ap, _∙_, sym, subst}
 use mathlib.Core.List.{List, [], _∷_, _++_, append-assoc}
 use mathlib.Core.Bool.{Bool, true, false, _&&_, not}
 use native.Mathlib.Omega.{arith}
 use native.Mathlib.Numerals.{add-one, sub-one}
+use native.Mathlib.Nat.{mul-le-mul-left, mul-div-le, le-div-iff-mul-le}
 use lib.ListN.{length, take, drop, set, replicate, length-append}
 use lib.Seq.{take-suc-set, set-at, length-take-le}
 use lib.Dec.{eqb, leb, ltb}
@@ -14,8 +15,19 @@ use Rattle.refusal.specs.declared.Refusal.{Refusal}
 use Rattle.refusal.specs.declared.Outcome.{Outcome}
 use Rattle.circuit.specs.declared.Chain.{Chain}
 use Rattle.circuit.specs.declared.Step.{Step}
-use Rattle.circuit.specs.Record.{Form, recordAt, kindOf, nextOf, allZero}
+use Rattle.circuit.specs.declared.Form.{Form}
+use Rattle.circuit.specs.Record.{recordAt, kindOf, nextOf, allZero}
 use Rattle.circuit.specs.Chain.{headGood, kmOf, shapeOf, countOf, member, stepBy, stepOf, stepNumber, stepIndex, walk, ended, answered, refused, padded, pick, soundBy}
+
+-- record n of those that the file has is in it
+pub in-file : (o : Form) (f : List ℕ) (n : ℕ) → n < countOf o f → o .size * n + o .size ≤ length f
+in-file o f n h =
+    let a : o .size * (n + 1) ≤ o .size * countOf o f = mul-le-mul-left (o .size) (omega arith) in
+    omega (arith, a, mul-div-le (length f) (o .size))
+
+-- as many records as the file has bytes for
+pub counted : (o : Form) (f : List ℕ) (n : ℕ) → 0 < o .size → o .size * n ≤ length f → n ≤ countOf o f
+counted o f n h k = le-div-iff-mul-le {k = o .size} {x = n} {y = length f} h .1 (omega arith)
 
 -- an index that a step goes to
 to-by : (b fresh c : Bool) (m n : ℕ) → stepBy b (c && fresh) m ≡ Step.To n → (c ≡ true) × (m ≡ n)

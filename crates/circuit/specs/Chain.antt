@@ -8,8 +8,9 @@ use Rattle.refusal.specs.declared.Refusal.{Refusal}
 use Rattle.refusal.specs.declared.Outcome.{Outcome}
 use Rattle.refusal.specs.Number.{numberOf}
 use Rattle.circuit.specs.declared.Chain.{Chain}
+use Rattle.circuit.specs.declared.Form.{Form}
 use Rattle.circuit.specs.declared.Step.{Step}
-use Rattle.circuit.specs.Record.{Form, recordAt, kindOf, nextOf, allZero, fits}
+use Rattle.circuit.specs.Record.{recordAt, kindOf, nextOf, allZero, fits}
 
 -- the file's length is a multiple of the record size, and 2 to 64 records
 abbrev pub lengthGood : Form → List ℕ → Bool
@@ -85,7 +86,7 @@ byStep Step.Astray e on = refused Refusal.ChainStep
 
 -- The record that `left` more may follow: a point while all 48 of kind 3 are left, else one of these.
 abbrev pub soundBy : Form → Bool → List ℕ → Bool
-soundBy o true r = fits 2 (o .point) r
+soundBy o true r = fits 2 (15 + o .extra) r
 soundBy o false r = fits 3 12 r
 
 -- The chain from record `at` on, after the records of `order`, of which it is the last; `left` more may follow.

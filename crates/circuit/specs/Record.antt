@@ -1,18 +1,19 @@
 -- A record of a circuit file, and the numbers in it, least significant byte first (the paper, "Circuit file").
-use Prim.Native.Nat.{ℕ, zero, suc, _+_, _*_}
+use Prim.Native.Nat.{ℕ, zero, suc, _+_, _*_, _≤_, _<_}
 use mathlib.Core.List.{List, [], _∷_, _++_}
 use mathlib.Core.Bool.{Bool, true, _&&_}
 use lib.ListN.{getD, take, drop}
 use lib.Dec.{eqb}
+use Rattle.circuit.specs.declared.Form.{Form}
 
--- How a file is laid out: bytes in a record, the kind of record 0, words in a point.
-pub record Form : Type 0 where
-  pub size : ℕ
-  pub first : ℕ
-  pub point : ℕ
-
+-- the paper's form
 abbrev pub form64 : Form
-form64 = record { size = 64; first = 1; point = 15 }
+form64 = record { size = 64; first = 1; extra = 0 }
+
+-- What the reader and the writer ask of a form: a record has room for the words of a point, and its size and the kind of
+-- record 0 are numbers of two bytes.
+abbrev pub Fit : Form → Type 0
+Fit o = (64 + 4 * o .extra ≤ o .size) × (o .size < 0x1_0000) × (o .first < 0x1_0000)
 
 -- the bytes of record n
 abbrev pub recordAt : Form → List ℕ → ℕ → List ℕ
@@ -24,7 +25,7 @@ halfAt r at = getD r at 0 + 256 * getD r (at + 1) 0
 
 unfoldable pub wordAt : List ℕ → ℕ → ℕ
 wordAt r at =
-    getD r at 0 + 256 * getD r (at + 1) 0 + 65536 * getD r (at + 2) 0 + 16777216 * getD r (at + 3) 0
+    getD r at 0 + 256 * getD r (at + 1) 0 + 0x1_0000 * getD r (at + 2) 0 + 0x100_0000 * getD r (at + 3) 0
 
 abbrev pub kindOf : List ℕ → ℕ
 kindOf r = halfAt r 0

@@ -1,19 +1,28 @@
-// The circuit file: a chain of 64-byte records that holds the numbers of one circuit. Every number is held by its bits, so that a
-// NaN keeps its payload.
+// The circuit file: a chain of records that holds the numbers of one circuit; in the paper's form a record has 64 bytes. Every
+// number is held by its bits, so that a NaN keeps its payload.
 mod numbers;
 mod record;
 mod walk;
 
 ghost use mathlib.Core.Path.{_≡_};
+ghost use Prim.Native.Nat.{_<_};
 ghost use mathlib.Core.List.{map};
 ghost use mathlib.Core.Bool.{not};
 ghost use lib.Ieee.{ofBits, binary32};
 ghost use Rattle.circuit.specs.Record.{form64, allZero};
 ghost use Rattle.circuit.specs.Chain.{chainOf};
 ghost use Rattle.circuit.specs.Read.{readOf};
+ghost use Rattle.circuit.specs.Point.{pointNumber};
 pub use record::half;
 use refusal::Outcome;
 use refusal::Refusal;
+
+// How a file is laid out: bytes in a record, the kind of record 0, and the words that a point has after its fifteen.
+pub struct Form {
+    pub size: usize,
+    pub first: usize,
+    pub extra: usize,
+}
 
 // The records of a chain, in its order: `count` of them, then zeros. Beside a refusal all are zero.
 pub struct Chain {
@@ -48,18 +57,29 @@ pub enum Step {
     Astray,
 }
 
+// The paper's form.
+pub fn form64() -> Form
+    ensures { λ o. ⌜ o ≡ Rattle.circuit.specs.Record.form64 ⌝ }
+{
+    Form {
+        size: 64,
+        first: 1,
+        extra: 0,
+    }
+}
+
 // The chain of a file, or where it is turned away.
 pub fn follow(file: &[u8]) -> Chain
     ensures { λ c. ⌜ c ≡ chainOf form64 (now (file .entry)) ⌝ }
 {
-    walk::follow(file)
+    walk::follow(form64(), file)
 }
 
 // The circuit of a file, or where it is turned away. Records off the chain are not looked at.
 pub fn read(file: &[u8]) -> ReadAnswer
     ensures { λ r. ⌜ r ≡ readOf form64 (now (file .entry)) ⌝ }
 {
-    let c = walk::follow(file);
+    let c = follow(file);
     let outcome = c.outcome;
     match outcome {
         Outcome::Answered => {
@@ -85,6 +105,14 @@ pub fn has_deciles(c: Circuit) -> bool
 {
     let d = c.deciles;
     !numbers::all_zero(&d)
+}
+
+// Word j of point i, as the number whose bits it is.
+pub fn point_number(points: &[u32; 75], i: usize, j: usize) -> f32
+    requires { ⌜ (i < 5) × (j < 15) ⌝ }
+    ensures { λ r. ⌜ r ≡ pointNumber (now (points .entry)) i j ⌝ }
+{
+    scalar::number(points[15 * i + j])
 }
 
 // The flat decile table. It stays as it is made where every decile is +0, as without records of kind 3.

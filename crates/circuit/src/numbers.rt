@@ -1,18 +1,19 @@
-// The numbers of a circuit, read along its chain.
+// The numbers of a circuit, read along its chain. `read_point`, `read_deciles` and `joined` take a record of any form; `points`,
+// `deciles` and `circuit` hand them those of a file with 64-byte records.
 ghost use mathlib.Core.Path.{_≡_};
 ghost use Prim.Native.Nat.{ℕ, _+_, _*_, _≤_};
 ghost use lib.ListN.{length, getD};
 ghost use Rattle.refusal.specs.declared.Outcome.{Outcome};
 ghost use Rattle.circuit.specs.Record.{form64, wordsOf, allZero};
 ghost use Rattle.circuit.specs.Chain.{chainOf, padded};
-ghost use Rattle.circuit.specs.Read.{numbersOf, circuitOf, noCircuit};
+ghost use Rattle.circuit.specs.Read.{numbersOf, circuitBy, circuitOf, noCircuit};
 use crate::Chain;
 use crate::Circuit;
 use crate::record;
 
 // The fifteen words of a point.
 fn read_point(r: &[u8], out: &mut [u32])
-    requires { ⌜ (length (now r) ≡ 64) × (length (now out) ≡ 15) ⌝ }
+    requires { ⌜ (64 ≤ length (now r)) × (length (now out) ≡ 15) ⌝ }
     ensures { λ _. ⌜ now (out .exit) ≡ wordsOf (now (r .entry)) 15 ⌝ }
 {
     record::words(r, out);
@@ -20,7 +21,7 @@ fn read_point(r: &[u8], out: &mut [u32])
 
 // The twelve words of a record of kind 3.
 fn read_deciles(r: &[u8], out: &mut [u32])
-    requires { ⌜ (length (now r) ≡ 64) × (length (now out) ≡ 12) ⌝ }
+    requires { ⌜ (64 ≤ length (now r)) × (length (now out) ≡ 12) ⌝ }
     ensures { λ _. ⌜ now (out .exit) ≡ wordsOf (now (r .entry)) 12 ⌝ }
 {
     record::words(r, out);
@@ -42,7 +43,7 @@ pub fn all_zero(s: &[u32]) -> bool
 
 fn points(file: &[u8], order: &[usize], km: usize) -> [u32; 75]
     requires { ⌜ (km ≤ 5) × (length (now order) ≡ 64) × ((i : ℕ) → 64 * getD (now order) i 0 + 64 ≤ length (now file)) ⌝ }
-    ensures { λ p. ⌜ p ≡ padded 75 (numbersOf form64 (now (file .entry)) (now (order .entry)) 1 15 km) ⌝ }
+    ensures { λ p. ⌜ p ≡ padded 75 (numbersOf form64 (now (file .entry)) (now (order .entry)) 1 0 15 km) ⌝ }
 {
     let mut out = [0u32; 75];
     let mut i = 0;
@@ -56,7 +57,7 @@ fn points(file: &[u8], order: &[usize], km: usize) -> [u32; 75]
 
 fn deciles(file: &[u8], order: &[usize], from: usize, count: usize) -> [u32; 576]
     requires { ⌜ (from ≤ 6) × (count ≤ 48) × (length (now order) ≡ 64) × ((i : ℕ) → 64 * getD (now order) i 0 + 64 ≤ length (now file)) ⌝ }
-    ensures { λ d. ⌜ d ≡ padded 576 (numbersOf form64 (now (file .entry)) (now (order .entry)) from 12 count) ⌝ }
+    ensures { λ d. ⌜ d ≡ padded 576 (numbersOf form64 (now (file .entry)) (now (order .entry)) from 0 12 count) ⌝ }
 {
     let mut out = [0u32; 576];
     let mut i = 0;
@@ -66,6 +67,23 @@ fn deciles(file: &[u8], order: &[usize], from: usize, count: usize) -> [u32; 576
         i += 1;
     }
     out
+}
+
+// The numbers of record 0, with the words of the points and the deciles.
+fn joined(head: &[u8], points: [u32; 75], deciles: [u32; 576]) -> Circuit
+    requires { ⌜ 64 ≤ length (now head) ⌝ }
+    ensures { λ r. ⌜ r ≡ circuitBy (now (head .entry)) points deciles ⌝ }
+{
+    Circuit {
+        km: record::byte(head, 4),
+        shape: record::byte(head, 5),
+        gcd: record::word(head, 8),
+        gcdkm: record::word(head, 12),
+        amind: record::word(head, 16),
+        ssn: record::word(head, 20),
+        points,
+        deciles,
+    }
 }
 
 pub fn circuit(file: &[u8], c: Chain) -> Circuit
@@ -78,16 +96,7 @@ pub fn circuit(file: &[u8], c: Chain) -> Circuit
     let count = c.count;
     let points = points(file, &order, km);
     let deciles = deciles(file, &order, 1 + km, count - (1 + km));
-    Circuit {
-        km,
-        shape: record::byte(head, 5),
-        gcd: record::word(head, 8),
-        gcdkm: record::word(head, 12),
-        amind: record::word(head, 16),
-        ssn: record::word(head, 20),
-        points,
-        deciles,
-    }
+    joined(head, points, deciles)
 }
 
 // The circuit beside a refusal.

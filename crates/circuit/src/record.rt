@@ -30,9 +30,9 @@ fn two(a: u8, b: u8) -> usize
 }
 
 fn four(a: u8, b: u8, c: u8, d: u8) -> u32
-    ensures { λ n. ⌜ n ≡ a + 256 * b + 65536 * c + 16777216 * d ⌝ }
+    ensures { λ n. ⌜ n ≡ a + 256 * b + 0x1_0000 * c + 0x100_0000 * d ⌝ }
 {
-    (a as u32) + 256 * (b as u32) + 65536 * (c as u32) + 16777216 * (d as u32)
+    (a as u32) + 256 * (b as u32) + 0x1_0000 * (c as u32) + 0x100_0000 * (d as u32)
 }
 
 pub fn byte(r: &[u8], at: usize) -> usize

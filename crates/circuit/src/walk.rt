@@ -4,9 +4,10 @@ ghost use mathlib.Core.List.{[], _∷_};
 ghost use Prim.Native.Nat.{_+_, _*_, _≤_};
 ghost use lib.ListN.{length};
 ghost use lib.Dec.{leb};
-ghost use Rattle.circuit.specs.Record.{form64, recordAt, nextOf};
+ghost use Rattle.circuit.specs.Record.{Fit, recordAt, nextOf};
 ghost use Rattle.circuit.specs.Chain.{chainOf, headGood, member, stepOf, stepNumber, stepIndex, soundBy};
 use crate::Chain;
+use crate::Form;
 use crate::Step;
 use crate::record;
 use refusal::Outcome;
@@ -35,11 +36,12 @@ fn is_among(list: &[usize], n: usize) -> bool
     false
 }
 
-fn head_good(r: &[u8]) -> bool
-    requires { ⌜ length (now r) ≡ 64 ⌝ }
-    ensures { λ b. ⌜ b ≡ headGood form64 (now (r .entry)) ⌝ }
+fn head_good(o: Form, r: &[u8]) -> bool
+    requires { ⌜ 64 ≤ length (now r) ⌝ }
+    ensures { λ b. ⌜ b ≡ headGood o (now (r .entry)) ⌝ }
 {
-    if record::half(r, 0) != 1 {
+    let first = o.first;
+    if record::half(r, 0) != first {
         return false;
     }
     let km = record::byte(r, 4);
@@ -59,16 +61,17 @@ fn head_good(r: &[u8]) -> bool
 }
 
 // The step out of record `at`, after the records of `order`. Unless it is refused it goes where the record's next index says.
-fn step(file: &[u8], order: &[usize], at: usize) -> Step
-    requires { ⌜ 64 * at + 64 ≤ length (now file) ⌝ }
-    ensures { λ s. ⌜ s ≡ stepOf form64 (now (file .entry)) (now (order .entry)) at ⌝ }
-    ensures { λ s. ⌜ (stepNumber s ≡ 0 → stepIndex s ≡ nextOf (recordAt form64 (now (file .entry)) at)) ⌝ }
+fn step(o: Form, file: &[u8], order: &[usize], at: usize) -> Step
+    requires { ⌜ Fit o × (o .size * at + o .size ≤ length (now file)) ⌝ }
+    ensures { λ s. ⌜ s ≡ stepOf o (now (file .entry)) (now (order .entry)) at ⌝ }
+    ensures { λ s. ⌜ (stepNumber s ≡ 0 → stepIndex s ≡ nextOf (recordAt o (now (file .entry)) at)) ⌝ }
 {
-    let next = record::half(&file[64 * at..64 * at + 64], 2);
+    let size = o.size;
+    let next = record::half(&file[size * at..size * at + size], 2);
     if next == 0 {
         return Step::End;
     }
-    if next >= file.len() / 64 {
+    if next >= file.len() / size {
         return Step::Astray;
     }
     if is_among(order, next) {
@@ -78,12 +81,13 @@ fn step(file: &[u8], order: &[usize], at: usize) -> Step
 }
 
 // Whether the record that a step came to is the one that may stand where `left` more may follow.
-fn landed(r: &[u8], left: usize) -> bool
-    requires { ⌜ length (now r) ≡ 64 ⌝ }
-    ensures { λ b. ⌜ b ≡ soundBy form64 (leb 48 left) (now (r .entry)) ⌝ }
+fn may_stand(o: Form, r: &[u8], left: usize) -> bool
+    requires { ⌜ Fit o × (length (now r) ≡ o .size) ⌝ }
+    ensures { λ b. ⌜ b ≡ soundBy o (leb 48 left) (now (r .entry)) ⌝ }
 {
+    let words = 15 + o.extra;
     if 48 <= left {
-        return record::sound(r, 2, 15);
+        return record::sound(r, 2, words);
     }
     record::sound(r, 3, 12)
 }
@@ -101,16 +105,17 @@ fn ended(left: usize, c: Chain) -> Chain
     refused(Refusal::ChainRecord)
 }
 
-fn walk(file: &[u8], km: usize) -> Chain
-    requires { ⌜ (64 ≤ length (now file)) × (km ≤ 5) ⌝ }
-    ensures { λ c. ⌜ c ≡ Rattle.circuit.specs.Chain.walk form64 (now (file .entry)) (km + 48) (0 ∷ []) 0 ⌝ }
+fn walk(o: Form, file: &[u8], km: usize) -> Chain
+    requires { ⌜ Fit o × (o .size ≤ length (now file)) × (km ≤ 5) ⌝ }
+    ensures { λ c. ⌜ c ≡ Rattle.circuit.specs.Chain.walk o (now (file .entry)) (km + 48) (0 ∷ []) 0 ⌝ }
 {
+    let size = o.size;
     let mut order = [0usize; 64];
     let mut count: usize = 1;
     let mut at: usize = 0;
     let mut left = km + 48;
     loop {
-        let s = step(file, &order[..count], at);
+        let s = step(o, file, &order[..count], at);
         match s {
             Step::End => {
                 let c = Chain {
@@ -128,7 +133,7 @@ fn walk(file: &[u8], km: usize) -> Chain
                     return refused(Refusal::ChainRecord);
                 }
                 left = left - 1;
-                if !landed(&file[64 * next..64 * next + 64], left) {
+                if !may_stand(o, &file[size * next..size * next + size], left) {
                     return refused(Refusal::ChainRecord);
                 }
                 order[count] = next;
@@ -140,22 +145,24 @@ fn walk(file: &[u8], km: usize) -> Chain
 }
 
 // The chain of a file, or where it is turned away.
-pub fn follow(file: &[u8]) -> Chain
-    ensures { λ c. ⌜ c ≡ chainOf form64 (now (file .entry)) ⌝ }
+pub fn follow(o: Form, file: &[u8]) -> Chain
+    requires { ⌜ Fit o ⌝ }
+    ensures { λ c. ⌜ c ≡ chainOf o (now (file .entry)) ⌝ }
 {
     let n = file.len();
-    if n % 64 != 0 {
+    let size = o.size;
+    if n % size != 0 {
         return refused(Refusal::Length);
     }
-    if n < 128 {
+    if n < 2 * size {
         return refused(Refusal::Length);
     }
-    if n > 4096 {
+    if n > 64 * size {
         return refused(Refusal::Length);
     }
-    let head = &file[0..64];
-    if !head_good(head) {
+    let head = &file[0..size];
+    if !head_good(o, head) {
         return refused(Refusal::RecordZero);
     }
-    walk(file, record::byte(head, 4))
+    walk(o, file, record::byte(head, 4))
 }

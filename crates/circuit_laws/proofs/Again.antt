@@ -10,7 +10,8 @@ use lib.Seq.{take-add, drop-drop, getD-take, getD-drop}
 use lib.Dec.{eqb}
 use borrow.Author.Tests.{eqb-true}
 use Rattle.circuit.specs.declared.Circuit.{Circuit}
-use Rattle.circuit.specs.Record.{form64, halfAt, wordAt, kindOf, nextOf, wordsOf, allZero}
+use Rattle.circuit.specs.declared.Form.{Form}
+use Rattle.circuit.specs.Record.{Fit, halfAt, wordAt, kindOf, nextOf, wordsOf, allZero}
 use Rattle.circuit.specs.Chain.{kmOf, shapeOf}
 use Rattle.circuit.proofs.Lists.{both, zeros, length-words}
 use Rattle.circuit.proofs.Steps.{Head}
@@ -28,14 +29,14 @@ half-forth a b h k =
     rw (p, q, q′)
 
 word-forth : (a b c d : ℕ) → a < 256 → b < 256 → c < 256 → d < 256
-    → wordOf (a + 256 * b + 65536 * c + 16777216 * d) ≡ a ∷ b ∷ c ∷ d ∷ []
+    → wordOf (a + 256 * b + 0x1_0000 * c + 0x100_0000 * d) ≡ a ∷ b ∷ c ∷ d ∷ []
 word-forth a b c d h k l m =
-    let w = a + 256 * b + 65536 * c + 16777216 * d in
+    let w = a + 256 * b + 0x1_0000 * c + 0x100_0000 * d in
     let p : w % 256 ≡ a = omega arith in
-    let q : w / 256 ≡ b + 256 * c + 65536 * d = omega arith in
-    let r : w / 65536 ≡ c + 256 * d = omega arith in
-    let s : w / 16777216 ≡ d = omega arith in
-    let q′ : (b + 256 * c + 65536 * d) % 256 ≡ b = omega arith in
+    let q : w / 256 ≡ b + 256 * c + 0x1_0000 * d = omega arith in
+    let r : w / 0x1_0000 ≡ c + 256 * d = omega arith in
+    let s : w / 0x100_0000 ≡ d = omega arith in
+    let q′ : (b + 256 * c + 0x1_0000 * d) % 256 ≡ b = omega arith in
     let r′ : (c + 256 * d) % 256 ≡ c = omega arith in
     let s′ : d % 256 ≡ d = omega arith in
     rw (p, q, r, s, q′, r′, s′)
@@ -83,27 +84,26 @@ zero-at [] e i = refl
 zero-at (x ∷ l) e zero = eqb-true x 0 (both (eqb x 0) (allZero l) e .0)
 zero-at (x ∷ l) e (suc i) = zero-at l (both (eqb x 0) (allZero l) e .1) i
 
-module _ (r : List ℕ) (h : length r ≡ 64) (p : Each 256 r) where
-  pub record-again : (n : ℕ) → n ≤ 15 → allZero (drop (4 + 4 * n) r) ≡ true
-      → recordOf form64 (kindOf r) (nextOf r) (wordsOf r n) ≡ r
+module _ (r : List ℕ) (p : Each 256 r) where
+  pub record-again : (n : ℕ) → 4 + 4 * n ≤ length r → allZero (drop (4 + 4 * n) r) ≡ true
+      → recordOf (length r) (kindOf r) (nextOf r) (wordsOf r n) ≡ r
   unfolding recordOf
   record-again n k z =
-      let t : replicate (64 - (4 + 4 * length (wordsOf r n))) 0 ≡ drop (4 + 4 * n) r
-      = ap (λ (m : ℕ). replicate (64 - (4 + 4 * m)) 0) (length-words r n)
-      ∙ ap (λ (m : ℕ). replicate (m - (4 + 4 * n)) 0) (sym h)
+      let t : replicate (length r - (4 + 4 * length (wordsOf r n))) 0 ≡ drop (4 + 4 * n) r
+      = ap (λ (m : ℕ). replicate (length r - (4 + 4 * m)) 0) (length-words r n)
       ∙ ap (λ (m : ℕ). replicate m 0) (sym (length-drop (4 + 4 * n) r))
       ∙ sym (zeros (drop (4 + 4 * n) r) z) in
-      let X = bytesOf (wordsOf r n) ++ replicate (64 - (4 + 4 * length (wordsOf r n))) 0 in
+      let X = bytesOf (wordsOf r n) ++ replicate (length r - (4 + 4 * length (wordsOf r n))) 0 in
       let x : X ≡ drop 4 r
       = ap (λ (l : List ℕ). bytesOf (wordsOf r n) ++ l) (t ∙ sym (drop-drop (4 * n) 4 r))
-      ∙ ap (λ (l : List ℕ). l ++ drop (4 * n) (drop 4 r)) (bytes-forth r n (omega arith) p)
+      ∙ ap (λ (l : List ℕ). l ++ drop (4 * n) (drop 4 r)) (bytes-forth r n k p)
       ∙ take-append-drop (4 * n) (drop 4 r) in
       ap (λ (l : List ℕ). l ++ X) (halves-forth r (omega arith) p)
       ∙ ap (λ (l : List ℕ). take 4 r ++ l) x
       ∙ take-append-drop 4 r
 
   -- record 0, whose first word is km, shape and two zero bytes
-  module _ (t : Head form64 r) where
+  module _ (o : Form) (size : length r ≡ o .size) (fit : Fit o) (t : Head o r) where
     gap-at : (i : ℕ) → i < 2 → getD r (6 + i) 0 ≡ 0
     gap-at i k =
         sym (getD-drop 6 r i 0) ∙ sym (getD-take 2 (drop 6 r) i 0 k) ∙ zero-at (take 2 (drop 6 r)) (t .gap) i
@@ -114,12 +114,13 @@ module _ (r : List ℕ) (h : length r ≡ 64) (p : Each 256 r) where
 
     pub head-again : (c : Circuit) → c .km ≡ kmOf r → c .shape ≡ shapeOf r
         → c .gcd ∷ c .gcdkm ∷ c .amind ∷ c .ssn ∷ [] ≡ wordAt r 8 ∷ wordAt r 12 ∷ wordAt r 16 ∷ wordAt r 20 ∷ []
-        → headOf form64 c (nextOf r) ≡ r
+        → headOf o c (nextOf r) ≡ r
     unfolding wordsOf
     head-again c a b e =
         let first : c .km + 256 * c .shape ≡ wordAt r 4 = rw (a, b) first-word in
-        sym (head-put c (nextOf r) (omega (arith, t .most)) (omega (arith, t .form)))
-        ∙ ap (λ (l : List ℕ). recordOf form64 1 (nextOf r) ((c .km + 256 * c .shape) ∷ l)) e
-        ∙ ap (λ (m : ℕ). recordOf form64 1 (nextOf r) (m ∷ wordAt r 8 ∷ wordAt r 12 ∷ wordAt r 16 ∷ wordAt r 20 ∷ [])) first
-        ∙ ap (λ (m : ℕ). recordOf form64 m (nextOf r) (wordsOf r 5)) (sym (t .kind))
+        sym (head-put o c (nextOf r) (omega (arith, t .most)) (omega (arith, t .form)))
+        ∙ ap (λ (l : List ℕ). recordOf (o .size) (o .first) (nextOf r) ((c .km + 256 * c .shape) ∷ l)) e
+        ∙ ap (λ (m : ℕ). recordOf (o .size) (o .first) (nextOf r) (m ∷ wordAt r 8 ∷ wordAt r 12 ∷ wordAt r 16 ∷ wordAt r 20 ∷ [])) first
+        ∙ ap (λ (m : ℕ). recordOf (o .size) m (nextOf r) (wordsOf r 5)) (sym (t .kind))
+        ∙ ap (λ (m : ℕ). recordOf m (kindOf r) (nextOf r) (wordsOf r 5)) (sym size)
         ∙ record-again 5 (omega arith) (t .tail)

@@ -8,35 +8,35 @@ use lib.ListN.{length, getD, take, drop, replicate}
 use lib.Seq.{drop-cons, take-suc, take-length, getD-drop, drop-append-add, drop-length}
 use native.Mathlib.Nat.{add-zero, div-div-eq-div-mul}
 use borrow.Author.Tests.{eq-eqb}
-use Rattle.circuit.specs.Record.{form64, halfAt, wordAt, kindOf, nextOf, wordsOf, allZero, fits}
+use Rattle.circuit.specs.Record.{halfAt, wordAt, kindOf, nextOf, wordsOf, allZero, fits}
 use Rattle.circuit_write.specs.Written.{bytesOf, recordOf}
 use Rattle.circuit_laws.specs.Forms.{Each}
 
-pub half-back : (n : ℕ) → n < 65536 → n % 256 + 256 * (n / 256 % 256) ≡ n
+pub half-back : (n : ℕ) → n < 0x1_0000 → n % 256 + 256 * (n / 256 % 256) ≡ n
 half-back n h = omega arith
 
 low : (n : ℕ) → n % 256 + 256 * (n / 256) ≡ n
 low n = omega arith
 
 joined : (a b c d w x y z : ℕ) → a + 256 * x ≡ w → b + 256 * y ≡ x → c + 256 * z ≡ y → d ≡ z
-    → a + 256 * b + 65536 * c + 16777216 * d ≡ w
+    → a + 256 * b + 0x1_0000 * c + 0x100_0000 * d ≡ w
 joined a b c d w x y z p q r s = omega arith
 
 low-only : (n : ℕ) → n < 256 → n % 256 ≡ n
 low-only n h = omega arith
 
 pub word-back : (w : ℕ) → w < 2 ^ 32
-    → w % 256 + 256 * (w / 256 % 256) + 65536 * (w / 65536 % 256) + 16777216 * (w / 16777216 % 256) ≡ w
+    → w % 256 + 256 * (w / 256 % 256) + 0x1_0000 * (w / 0x1_0000 % 256) + 0x100_0000 * (w / 0x100_0000 % 256) ≡ w
 word-back w h =
     let x = w / 256 in
-    let y = w / 65536 in
-    let z = w / 16777216 in
+    let y = w / 0x1_0000 in
+    let z = w / 0x100_0000 in
     let p : x / 256 ≡ y = div-div-eq-div-mul w 256 256 in
-    let q : y / 256 ≡ z = div-div-eq-div-mul w 65536 256 in
+    let q : y / 256 ≡ z = div-div-eq-div-mul w 0x1_0000 256 in
     let s : z < 256 = omega arith in
     joined (w % 256) (x % 256) (y % 256) (z % 256) w x y z (low w) (rw p at (low x)) (rw q at (low y)) (low-only z s)
 
-each-at : (n : ℕ) (l : List ℕ) → 0 < n → Each n l → (i : ℕ) → getD l i 0 < n
+pub each-at : (n : ℕ) (l : List ℕ) → 0 < n → Each n l → (i : ℕ) → getD l i 0 < n
 each-at n [] h p i = h
 each-at n (x ∷ l) h p zero = p .0
 each-at n (x ∷ l) h p (suc i) = each-at n l h (p .1) i
@@ -82,24 +82,24 @@ unfolding allZero
 all-zeros zero = refl
 all-zeros (suc n) = all-zeros n
 
-module _ (kind next : ℕ) (ws : List ℕ) where
-  pub kind-back : kind < 65536 → kindOf (recordOf form64 kind next ws) ≡ kind
+module _ (size kind next : ℕ) (ws : List ℕ) where
+  pub kind-back : kind < 0x1_0000 → kindOf (recordOf size kind next ws) ≡ kind
   unfolding recordOf halfAt
   kind-back h = half-back kind h
 
-  pub next-back : next < 65536 → nextOf (recordOf form64 kind next ws) ≡ next
+  pub next-back : next < 0x1_0000 → nextOf (recordOf size kind next ws) ≡ next
   unfolding recordOf halfAt
   next-back h = half-back next h
 
-  pub record-words : Each (2 ^ 32) ws → wordsOf (recordOf form64 kind next ws) (length ws) ≡ ws
+  pub record-words : Each (2 ^ 32) ws → wordsOf (recordOf size kind next ws) (length ws) ≡ ws
   unfolding recordOf
   record-words p = words-back _ _ _ _ ws _ (length ws) (omega arith) p ∙ take-length ws
 
-  record-tail : drop (4 + 4 * length ws) (recordOf form64 kind next ws) ≡ replicate (64 - (4 + 4 * length ws)) 0
+  record-tail : drop (4 + 4 * length ws) (recordOf size kind next ws) ≡ replicate (size - (4 + 4 * length ws)) 0
   unfolding recordOf
   record-tail = tail-back _ _ _ _ ws _
 
-  pub record-fits : kind < 65536 → fits kind (length ws) (recordOf form64 kind next ws) ≡ true
+  pub record-fits : kind < 0x1_0000 → fits kind (length ws) (recordOf size kind next ws) ≡ true
   unfolding fits
   record-fits h =
-      rw (eq-eqb (kindOf (recordOf form64 kind next ws)) kind (kind-back h)) (ap allZero record-tail ∙ all-zeros (64 - (4 + 4 * length ws)))
+      rw (eq-eqb (kindOf (recordOf size kind next ws)) kind (kind-back h)) (ap allZero record-tail ∙ all-zeros (size - (4 + 4 * length ws)))

@@ -1,7 +1,10 @@
+-- The laws of the circuit file: off the chain, read back, written again, carried between layouts, and all at the paper's layout.
 pub mod Off
-pub mod Back
+mod Back
 pub mod ReadWritten
-pub mod Linked
-pub mod Again
+mod Linked
+mod Again
 pub mod WrittenRead
 pub mod WrittenForm
+pub mod Carried
+pub mod Paper

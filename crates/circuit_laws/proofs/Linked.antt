@@ -15,7 +15,8 @@ use Rattle.refusal.specs.declared.Refusal.{Refusal}
 use Rattle.refusal.specs.declared.Outcome.{Outcome}
 use Rattle.circuit.specs.declared.Chain.{Chain}
 use Rattle.circuit.specs.declared.Step.{Step}
-use Rattle.circuit.specs.Record.{Form, recordAt, nextOf}
+use Rattle.circuit.specs.declared.Form.{Form}
+use Rattle.circuit.specs.Record.{recordAt, nextOf}
 use Rattle.circuit.specs.Chain.{countOf, member, stepBy, stepOf, soundBy, answered, walk}
 use Rattle.circuit.proofs.Steps.{step-next}
 use Rattle.circuit.proofs.Followed.{walk-ind}

@@ -6,9 +6,10 @@ use mathlib.Core.List.{List, [], _∷_, _++_}
 use lib.ListN.{length, getD, replicate}
 use Rattle.circuit.specs.declared.Chain.{Chain}
 use Rattle.circuit.specs.declared.Step.{Step}
-use Rattle.circuit.specs.Record.{Form, recordAt}
+use Rattle.circuit.specs.declared.Form.{Form}
+use Rattle.circuit.specs.Record.{recordAt}
 use Rattle.circuit.specs.Chain.{lengthGood, headGood, kmOf, stepOf, byStep, walk, chainOf}
-use Rattle.circuit.specs.Read.{numbersOf, circuitOf, readOf}
+use Rattle.circuit.specs.Read.{numbersOf, circuitOf, readOf, besideOf}
 use Rattle.circuit.proofs.Steps.{step-to, step-next}
 use Rattle.circuit.proofs.Followed.{walk-ind, by-pick}
 use Rattle.circuit_laws.specs.Laws.{OffChain}
@@ -84,12 +85,12 @@ module _ (o : Form) (f g : List ℕ) (long : length f ≡ length g)
         z)
         z
 
-    same-numbers : (order : List ℕ) (from words n : ℕ) → All (OnChain o f) order
-        → numbersOf o f order from words n ≡ numbersOf o g order from words n
+    same-numbers : (order : List ℕ) (from skip words n : ℕ) → All (OnChain o f) order
+        → numbersOf o f order from skip words n ≡ numbersOf o g order from skip words n
     unfolding numbersOf
-    same-numbers order from words zero p = refl
-    same-numbers order from words (suc n) p =
-        rw (same-numbers order from words n p, same (getD order (from + n) 0) (all-at (OnChain o f) order first p (from + n)))
+    same-numbers order from skip words zero p = refl
+    same-numbers order from skip words (suc n) p =
+        rw (same-numbers order from skip words n p, same (getD order (from + n) 0) (all-at (OnChain o f) order first p (from + n)))
 
     same-circuit : circuitOf o f (chainOf o f) ≡ circuitOf o g (chainOf o f)
     unfolding circuitOf
@@ -98,8 +99,8 @@ module _ (o : Form) (f g : List ℕ) (long : length f ≡ length g)
         let km = kmOf (recordAt o g 0) in
         rw (
           same 0 first,
-          same-numbers (c .order) 1 15 km reached-all,
-          same-numbers (c .order) (1 + km) 12 (c .count - (1 + km)) reached-all,
+          same-numbers (c .order) 1 0 15 km reached-all,
+          same-numbers (c .order) (1 + km) 0 12 (c .count - (1 + km)) reached-all,
         )
         refl
 
@@ -107,5 +108,15 @@ module _ (o : Form) (f g : List ℕ) (long : length f ≡ length g)
     unfolding readOf
     same-read = rw (same-circuit, same-chain) refl
 
+    same-beside : besideOf o f ≡ besideOf o g
+    unfolding besideOf
+    same-beside =
+        rw (
+          same 0 first,
+          same-numbers (chainOf o f .order) 1 15 (o .extra) (kmOf (recordAt o g 0)) reached-all,
+          same-chain,
+        )
+        refl
+
 pub off-chain : OffChain
-off-chain = same-read
+off-chain o f g long same = (same-read o f g long same, same-beside o f g long same)

@@ -1,14 +1,15 @@
--- What the laws of the circuit file speak of: a circuit that is a value of its type, what a file holds of it, and a file in the
--- writer's form.
-use Prim.Native.Nat.{ℕ, zero, suc, _+_, _*_, _/_, _^_, _<_}
+-- What the laws of the circuit file speak of: a circuit and the words beside it that are values of their types, what a file
+-- holds of them, and a file in the writer's form.
+use Prim.Native.Nat.{ℕ, zero, suc, _+_, _*_, _^_, _<_}
 use mathlib.Core.Path.{_≡_}
 use mathlib.Core.List.{List, [], _∷_, _++_}
 use mathlib.Core.Bool.{false}
 use lib.ListN.{length, take}
 use Rattle.circuit.specs.declared.Circuit.{Circuit}
+use Rattle.circuit.specs.declared.Form.{Form}
 use Rattle.refusal.specs.declared.Outcome.{Outcome}
-use Rattle.circuit.specs.Record.{form64, allZero}
-use Rattle.circuit.specs.Chain.{padded, chainOf}
+use Rattle.circuit.specs.Record.{allZero}
+use Rattle.circuit.specs.Chain.{padded, countOf, chainOf}
 use Rattle.circuit.specs.Read.{readOf}
 
 -- each number of a list is below n
@@ -27,6 +28,12 @@ pub record Whole (c : Circuit) : Type 0 where
   pub five : length (c .points) ≡ 75
   pub all : length (c .deciles) ≡ 576
 
+-- and what the type of the words beside it says: each is a u32, and there is room for those of five points. In the paper's
+-- form there are none.
+pub record Beside (o : Form) (beside : List ℕ) : Type 0 where
+  pub words : Each (2 ^ 32) beside
+  pub five : length beside ≡ 5 * o .extra
+
 -- A circuit is the numbers of record 0, its km points of fifteen words and the 576 deciles. The words past its km points are
 -- no part of it: here they are zero.
 unfoldable pub heldOf : Circuit → Circuit
@@ -42,6 +49,10 @@ heldOf c =
       deciles = c .deciles;
     }
 
+-- So it is with the words beside it.
+unfoldable pub heldBeside : Form → Circuit → List ℕ → List ℕ
+heldBeside o c beside = padded (5 * o .extra) (take (o .extra * c .km) beside)
+
 -- 0, 1, 2, .., n - 1
 unfoldable pub upTo : ℕ → List ℕ
 upTo zero = []
@@ -49,8 +60,8 @@ upTo (suc n) = upTo n ++ (n ∷ [])
 
 -- A file in the writer's form, said without the writer: bytes, read without refusal, the chain is 0, 1, 2, .. to the last
 -- record, and deciles are there only if not all are +0.
-pub record InForm (f : List ℕ) : Type 0 where
+pub record InForm (o : Form) (f : List ℕ) : Type 0 where
   pub bytes : Each 256 f
-  pub read : readOf form64 f .outcome ≡ Outcome.Answered
-  pub order : take (chainOf form64 f .count) (chainOf form64 f .order) ≡ upTo (length f / 64)
-  pub deciles : readOf form64 f .circuit .km + 1 < length f / 64 → allZero (readOf form64 f .circuit .deciles) ≡ false
+  pub read : readOf o f .outcome ≡ Outcome.Answered
+  pub order : take (chainOf o f .count) (chainOf o f .order) ≡ upTo (countOf o f)
+  pub deciles : readOf o f .circuit .km + 1 < countOf o f → allZero (readOf o f .circuit .deciles) ≡ false

@@ -3,7 +3,8 @@
 use Prim.Native.Nat.{ℕ, _<_}
 use mathlib.Core.Path.{_≡_}
 use mathlib.Core.List.{List}
-use Rattle.circuit.specs.Record.{Form, recordAt, nextOf}
+use Rattle.circuit.specs.declared.Form.{Form}
+use Rattle.circuit.specs.Record.{recordAt, nextOf}
 use Rattle.circuit.specs.Chain.{countOf}
 
 pub data OnChain (o : Form) (f : List ℕ) : ℕ → Type 0 where

@@ -9,16 +9,15 @@ use lib.Dec.{leb, eqb}
 use lib.IntN.{pos}
 use lib.ListN.{getD, length, length-map, replicate, take}
 use lib.Ieee.{Float, binary32, ofBits}
-use Rattle.scalar.specs.F32.{_-f_, _<f_, _≤f_, _>f_, _≥f_}
+use Rattle.scalar.specs.F32.{_-f_, _<f_, _≤f_, _>f_, _≥f_, at}
 use Rattle.scalar.specs.Literals.{f0, f8·5, f10}
 use Rattle.refusal.specs.declared.Outcome.{Outcome}
 use Rattle.circuit.specs.declared.Chain.{Chain}
 use Rattle.circuit.specs.Record.{form64}
 use Rattle.circuit.specs.Chain.{chainOf}
 use Rattle.circuit.specs.Read.{readOf, circuitOf, noCircuit}
-use Rattle.circuit.proofs.Followed.{Followed, followed, count-range, read-answered, read-refused, small}
+use Rattle.circuit.proofs.Followed.{fit64, Followed, followed, count-range, read-answered, read-refused, small}
 use Rattle.circuit.proofs.Lists.{length-read}
-use Rattle.layers.specs.State.{at}
 use Rattle.layers.specs.FromLayers.{countTaken, pointSet, pointsSet, emptyOf, fromLayersBy, fromLayersOf}
 use Rattle.layers.specs.Ionset.{layerFrom, twoSlots, threeSlots, assignedBy, assignedOf, tooClose, f1KeptBy, f1By, f1Settled, f2Settled, slotSettled, slotsSettled, ionsetBy, ionsetOf}
 use Rattle.layers.specs.declared.IonoState.{IonoState}
@@ -28,11 +27,11 @@ use Rattle.layers.specs.declared.StateAnswer.{StateAnswer}
 use Rattle.layers.proofs.Counts.{three-at-most}
 use Rattle.layer_mufs.specs.Controlling.{compareEBy, compareE, controllingOf}
 use Rattle.layer_mufs.proofs.Small.{controlling-small}
-use Rattle.ionogram.specs.Angles.{ANG, NANGX, stepOf, raisedBy, raisedFrom, countBy, countOf, scanBy, sangOf}
-use Rattle.ionogram.specs.Fobby.{roomFor}
-use Rattle.ionogram.specs.declared.Scan.{Scan}
-use Rattle.ionogram.proofs.Counts.{step-range, nangx-range}
-use Rattle.hour.specs.Sheet.{slotSheetOf}
+use Rattle.reflectrix.specs.Angles.{ANG, NANGX, stepOf, raisedBy, raisedFrom, countBy, countOf, scanBy, sangOf}
+use Rattle.reflectrix.specs.Fobby.{roomFor}
+use Rattle.reflectrix.specs.declared.Scan.{Scan}
+use Rattle.reflectrix.proofs.Counts.{step-range, nangx-range}
+use Rattle.slot_sheet.specs.Sheet.{slotSheetWith, slotSheetOf}
 use Rattle.muf.specs.Curmuf.{listsReach}
 use Rattle.circuit_sheet.specs.CircuitSheet.{Circuit, paramsOf, columnOf, shapedOf, slotsOf}
 use Rattle.circuit_sheet.proofs.Sizes.{column-lent}
@@ -42,10 +41,10 @@ use Rattle.circuit_sheet.proofs.Sizes.{column-lent}
 some-km : (f : List ℕ) (k : Chain) → k ≡ chainOf form64 f → (o : Outcome) → k .outcome ≡ o → readOf form64 f .outcome ≡ Outcome.Answered → 1 ≤ readOf form64 f .circuit .km
 unfolding circuitOf
 some-km f k e Outcome.Answered a q =
-    let h = followed f (ap (λ (c : Chain). c .outcome) (sym e) ∙ a) .head in
-    rw (read-answered f k e a) (h .some)
+    let h = followed form64 fit64 f (ap (λ (c : Chain). c .outcome) (sym e) ∙ a) .head in
+    rw (read-answered form64 f k e a) (h .some)
 some-km f k e (Outcome.Refused r) a q =
-    let n : Outcome.Refused r ≡ Outcome.Answered = rw (read-refused f k e r a) at q in
+    let n : Outcome.Refused r ≡ Outcome.Answered = rw (read-refused form64 f k e r a) at q in
     let z : _≡_ {A = ℕ} 0 1 = cc in
     absurd (omega arith)
 
@@ -165,10 +164,10 @@ set-kfx t n e k = set-by-km (countTaken (t .km)) t (ap countTaken e ∙ k) ∙ a
 deciles-by : (f : List ℕ) (k : Chain) → k ≡ chainOf form64 f → (o : Outcome) → k .outcome ≡ o → length (readOf form64 f .circuit .deciles) ≡ 576
 unfolding circuitOf noCircuit
 deciles-by f k e Outcome.Answered a =
-    let t : Followed f k = rw e (followed f (rw (← e) a)) in
-    let n = count-range f k t a in
-    rw (read-answered f k e a) (length-read 576 form64 f (k .order) _ 12 _ (omega arith))
-deciles-by f k e (Outcome.Refused r) a = rw (read-refused f k e r a)
+    let t : Followed form64 f k = rw e (followed form64 fit64 f (rw (← e) a)) in
+    let n = count-range form64 f k t a in
+    rw (read-answered form64 f k e a) (length-read form64 f (k .order) _ 0 12 576 _ (omega arith))
+deciles-by f k e (Outcome.Refused r) a = rw (read-refused form64 f k e r a)
 
 -- ---- so nothing is refused but by the file, `sang`, and the MUF's input, hops and deciles
 
@@ -186,7 +185,7 @@ module _ (f : List ℕ) (answered : readOf form64 f .outcome ≡ Outcome.Answere
 
   taken : countTaken (circuit .km) ≡ true
   unfolding countTaken
-  taken = rw (le-leb _ _ (points-some f answered), le-leb _ _ (small f .0))
+  taken = rw (le-leb _ _ (points-some f answered), le-leb _ _ (small form64 fit64 f .0))
 
   pub made-answered : made .outcome ≡ Outcome.Answered
   unfolding fromLayersOf
@@ -214,11 +213,11 @@ module _ (f : List ℕ) (answered : readOf form64 f .outcome ≡ Outcome.Answere
   unfolding listsReach
   lists-reach =
       let d = length-map (circuit .deciles) (ofBits binary32) ∙ deciles-by f (chainOf form64 f) refl (chainOf form64 f .outcome) refl in
-      let m = small f .0 in
+      let m = small form64 fit64 f .0 in
       let u = controlling-under in
       rw (eq-eqb _ _ d, ← column-lent (circuit .points) 13 _ (circuit .km) refl m, ← column-lent (circuit .points) 14 _ (circuit .km) refl m, lt-ltb _ _ u)
 
 pub sheet-answered : (s : IonoState) (k nang : ℕ) (lines : List LayerMuf) → k ≤ 2 → nang ≤ 40
     → slotSheetOf s k nang lines (replicate 1200 (pos 0)) .outcome ≡ Outcome.Answered
-unfolding slotSheetOf roomFor
+unfolding slotSheetWith roomFor
 sheet-answered s k nang lines h n = rw (le-leb k 2 h, le-leb nang 40 n, le-leb (30 * nang) 1200 (omega arith))

@@ -6,10 +6,10 @@ use native.Mathlib.Omega.{arith}
 use lib.ListN.{length, take}
 use lib.Seq.{length-take-le}
 use lib.Ieee.{Float}
-use Rattle.circuit_sheet.specs.CircuitSheet.{esOf, columnOf}
+use Rattle.circuit_sheet.specs.CircuitSheet.{esUpTo, esOf, columnOf}
 
 pub es-lent : (w : List ℕ) (es : List Float) (km : ℕ) → es ≡ esOf w → km ≤ 5 → 4 * km ≡ length (take (4 * km) es)
-unfolding esOf
+unfolding esOf esUpTo
 es-lent w es km e h =
     let l : length es ≡ 20 = ap length e in
     sym (length-take-le (4 * km) es (omega arith))

@@ -1,15 +1,16 @@
 -- The sheet of a circuit file. MUF and slot sheets each start from the slots as `ionset` left them, over the state that `from_layers` makes of the points. The paper's refusals: 1 to 4 for the file, then 7, then the MUF's.
 use mathlib.Core.Bool.{Bool, true, false}
-use mathlib.Core.List.{List, [], _∷_, map}
-use Prim.Native.Nat.{ℕ, _+_, _*_}
+use mathlib.Core.List.{List, [], _∷_, _++_, map}
+use Prim.Native.Nat.{ℕ, zero, suc, _+_, _*_, _/_, _%_}
 use lib.Dec.{eqb, ltb}
 use lib.IntN.{ℤ, pos, negsuc}
-use lib.ListN.{getD, take, replicate}
+use lib.ListN.{take, replicate}
 use lib.Ieee.{Float, binary32, ofBits}
 use Rattle.refusal.specs.declared.Refusal.{Refusal}
 use Rattle.refusal.specs.declared.Outcome.{Outcome}
 use Rattle.circuit.specs.Record.{form64}
 use Rattle.circuit.specs.Read.{readOf}
+use Rattle.circuit.specs.Point.{pointNumber}
 use Rattle.circuit.specs.declared.Circuit as file
 use Rattle.layers.specs.State.{withIedp}
 use Rattle.layers.specs.FromLayers.{fromLayersOf}
@@ -17,45 +18,43 @@ use Rattle.layers.specs.Ionset.{ionsetOf}
 use Rattle.layers.specs.declared.IonoState.{IonoState}
 use Rattle.layers.specs.declared.LayerParams.{LayerParams}
 use Rattle.layers.specs.declared.LayerMuf.{LayerMuf}
-use Rattle.layer_mufs.specs.declared.Circuit as path
+use Rattle.layer_mufs.specs.declared.PathNumbers as path
 use Rattle.muf.specs.Hour.{zeroHour}
 use Rattle.muf.specs.Curmuf.{curmufOf}
 use Rattle.muf.specs.declared.MufHour.{MufHour}
 use Rattle.muf.specs.declared.MufAnswer.{MufAnswer}
-use Rattle.ionogram.specs.Angles.{sangOf}
-use Rattle.ionogram.specs.declared.Scan.{Scan}
-use Rattle.ionogram.specs.declared.Ionogram.{Ionogram}
-use Rattle.sounding.specs.Genion.{noRows}
-use Rattle.hour.specs.Sheet.{slotSheetOf}
+use Rattle.reflectrix.specs.Angles.{sangOf}
+use Rattle.reflectrix.specs.declared.Scan.{Scan}
+use Rattle.reflectrix.specs.declared.Ionogram.{Ionogram}
+use Rattle.reflectrix.specs.Rows.{noRows}
+use Rattle.slot_sheet.specs.Sheet.{slotSheetOf}
 use Rattle.circuit_sheet.specs.declared.Sheet.{Sheet}
 
 abbrev pub Circuit : Type 0
 Circuit = file.Circuit
 
--- the number whose bits are word i of the points, fifteen words a point: fi, yi, hi, Es fs, hs, clat, clck
-unfoldable pub numberAt : List ℕ → ℕ → Float
-numberAt words i = ofBits binary32 (getD words i 0)
+-- three numbers of point i, from word j on
+unfoldable pub threeAt : List ℕ → ℕ → ℕ → List Float
+threeAt words i j = pointNumber words i j ∷ pointNumber words i (j + 1) ∷ pointNumber words i (j + 2) ∷ []
 
-unfoldable pub threeAt : List ℕ → ℕ → List Float
-threeAt words i = numberAt words i ∷ numberAt words (i + 1) ∷ numberAt words (i + 2) ∷ []
-
--- a point's layers, from its word 0 on
+-- the layers of point i
 unfoldable pub layersAt : List ℕ → ℕ → LayerParams
-layersAt words i = record { fi = threeAt words i; yi = threeAt words (i + 3); hi = threeAt words (i + 6) }
+layersAt words i = record { fi = threeAt words i 0; yi = threeAt words i 3; hi = threeAt words i 6 }
 
 unfoldable pub paramsOf : List ℕ → List LayerParams
-paramsOf words = map (layersAt words) (0 ∷ 15 ∷ 30 ∷ 45 ∷ 60 ∷ [])
+paramsOf words = map (layersAt words) (0 ∷ 1 ∷ 2 ∷ 3 ∷ 4 ∷ [])
 
--- of each point Es fs and hs
+-- the first n of the points' Es numbers: of each point its words 9 to 12, Es fs and hs
+unfoldable pub esUpTo : List ℕ → ℕ → List Float
+esUpTo words zero = []
+esUpTo words (suc n) = esUpTo words n ++ (pointNumber words (n / 4) (9 + n % 4) ∷ [])
+
 unfoldable pub esOf : List ℕ → List Float
-esOf words =
-    map (numberAt words)
-    (9 ∷ 10 ∷ 11 ∷ 12 ∷ 24 ∷ 25 ∷ 26 ∷ 27 ∷ 39 ∷ 40 ∷ 41 ∷ 42 ∷ 54 ∷ 55 ∷ 56 ∷ 57 ∷ 69 ∷ 70 ∷ 71 ∷ 72 ∷ [])
+esOf words = esUpTo words 20
 
 -- of each point clat (word 13) or clck (word 14)
 unfoldable pub columnOf : List ℕ → ℕ → List Float
-columnOf words j =
-    numberAt words j ∷ numberAt words (j + 15) ∷ numberAt words (j + 30) ∷ numberAt words (j + 45) ∷ numberAt words (j + 60) ∷ []
+columnOf words j = map (λ i. pointNumber words i j) (0 ∷ 1 ∷ 2 ∷ 3 ∷ 4 ∷ [])
 
 -- shape 0: `iedp` -1; 1: `iedp` 0
 abbrev pub iedpBy : Bool → ℤ
@@ -71,7 +70,7 @@ slotsOf c =
     let s = fromLayersOf (paramsOf (c .points)) (c .km) .state in
     ionsetOf (shapedOf s (c .shape)) .state
 
-unfoldable pub pathOf : Circuit → path.Circuit
+unfoldable pub pathOf : Circuit → path.PathNumbers
 pathOf c =
     record { gcd = ofBits binary32 (c .gcd); gcdkm = ofBits binary32 (c .gcdkm); amind = ofBits binary32 (c .amind); ssn = ofBits binary32 (c .ssn) }
 
@@ -86,12 +85,12 @@ mufOf c s =
     (pathOf c)
 
 -- The rows of a slot below kfx; each sheet has its own cells, thirty for each of 40 angles, so that none is refused.
-abbrev pub rowsBy : Bool → IonoState → ℕ → ℕ → List LayerMuf → Ionogram
-rowsBy true s k nang lines = slotSheetOf s k nang lines (replicate 1200 (pos 0)) .ion
-rowsBy false s k nang lines = noRows
+abbrev pub slotRowsBy : Bool → IonoState → ℕ → ℕ → List LayerMuf → Ionogram
+slotRowsBy true s k nang lines = slotSheetOf s k nang lines (replicate 1200 (pos 0)) .ion
+slotRowsBy false s k nang lines = noRows
 
-unfoldable pub rowsOf : IonoState → ℕ → ℕ → List LayerMuf → Ionogram
-rowsOf s k nang lines = rowsBy (ltb k (s .kfx)) s k nang lines
+unfoldable pub slotRowsOf : IonoState → ℕ → ℕ → List LayerMuf → Ionogram
+slotRowsOf s k nang lines = slotRowsBy (ltb k (s .kfx)) s k nang lines
 
 unfoldable pub refusedOf : Refusal → Sheet
 refusedOf r = record { outcome = Outcome.Refused r; hour = zeroHour; slots = 0; rows = noRows ∷ noRows ∷ noRows ∷ [] }
@@ -103,7 +102,7 @@ answeredOf s nang h =
       outcome = Outcome.Answered;
       hour = h;
       slots = s .kfx;
-      rows = rowsOf s 0 nang (h .layers) ∷ rowsOf s 1 nang (h .layers) ∷ rowsOf s 2 nang (h .layers) ∷ [];
+      rows = slotRowsOf s 0 nang (h .layers) ∷ slotRowsOf s 1 nang (h .layers) ∷ slotRowsOf s 2 nang (h .layers) ∷ [];
     }
 
 abbrev pub mufThen : Outcome → IonoState → ℕ → MufHour → Sheet

@@ -1,1 +1,2 @@
+-- The sheet of a circuit file.
 pub mod CircuitSheet

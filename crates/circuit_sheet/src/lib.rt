@@ -1,15 +1,14 @@
 // The sheet of a circuit file: the hour's MUF, and the thirty rows of each slot.
 ghost use mathlib.Core.Path.{_≡_};
 ghost use Prim.Native.Nat.{_+_, _<_, _≤_};
-ghost use Rattle.circuit_sheet.specs.CircuitSheet.{numberAt, threeAt, layersAt, paramsOf, esOf, columnOf, shapedOf, slotsOf, pathOf, mufOf, rowsOf, refusedOf, answeredOf, scannedOf, circuitSheetOf, sheetOf};
-ghost use Rattle.sounding.specs.Genion.{noRows};
-use ionogram::Ionogram;
-use ionogram::Scan;
+ghost use Rattle.circuit_sheet.specs.CircuitSheet.{threeAt, layersAt, paramsOf, esOf, columnOf, shapedOf, slotsOf, pathOf, mufOf, slotRowsOf, refusedOf, answeredOf, scannedOf, circuitSheetOf, sheetOf};
 use layers::IonoState;
 use layers::LayerMuf;
 use layers::LayerParams;
 use muf::MufAnswer;
 use muf::MufHour;
+use reflectrix::Ionogram;
+use reflectrix::Scan;
 use refusal::Outcome;
 use refusal::Refusal;
 
@@ -21,32 +20,24 @@ pub struct Sheet {
     pub rows: [Ionogram; 3],
 }
 
-fn number_at(words: &[u32; 75], i: usize) -> f32
-    requires { ⌜ i < 75 ⌝ }
-    ensures { λ r. ⌜ r ≡ numberAt (now (words .entry)) i ⌝ }
-{
-    scalar::number(words[i])
-}
-
-fn three_at(words: &[u32; 75], i: usize) -> [f32; 3]
-    requires { ⌜ i + 2 < 75 ⌝ }
-    ensures { λ r. ⌜ r ≡ threeAt (now (words .entry)) i ⌝ }
+fn three_at(words: &[u32; 75], i: usize, j: usize) -> [f32; 3]
+    requires { ⌜ (i < 5) × (j + 2 < 15) ⌝ }
+    ensures { λ r. ⌜ r ≡ threeAt (now (words .entry)) i j ⌝ }
 {
     [
-        number_at(words, i),
-        number_at(words, i + 1),
-        number_at(words, i + 2),
+        circuit::point_number(words, i, j),
+        circuit::point_number(words, i, j + 1),
+        circuit::point_number(words, i, j + 2),
     ]
 }
 
-// The layers of the point whose words start at i.
 fn layers_at(words: &[u32; 75], i: usize) -> LayerParams
-    requires { ⌜ i + 8 < 75 ⌝ }
+    requires { ⌜ i < 5 ⌝ }
     ensures { λ r. ⌜ r ≡ layersAt (now (words .entry)) i ⌝ }
 {
-    let fi = three_at(words, i);
-    let yi = three_at(words, i + 3);
-    let hi = three_at(words, i + 6);
+    let fi = three_at(words, i, 0);
+    let yi = three_at(words, i, 3);
+    let hi = three_at(words, i, 6);
     LayerParams { fi, yi, hi }
 }
 
@@ -54,38 +45,24 @@ fn params(words: &[u32; 75]) -> [LayerParams; 5]
     ensures { λ r. ⌜ r ≡ paramsOf (now (words .entry)) ⌝ }
 {
     let p0 = layers_at(words, 0);
-    let p1 = layers_at(words, 15);
-    let p2 = layers_at(words, 30);
-    let p3 = layers_at(words, 45);
-    let p4 = layers_at(words, 60);
+    let p1 = layers_at(words, 1);
+    let p2 = layers_at(words, 2);
+    let p3 = layers_at(words, 3);
+    let p4 = layers_at(words, 4);
     [p0, p1, p2, p3, p4]
 }
 
+// Of each point Es fs and hs.
 fn es_rows(words: &[u32; 75]) -> [f32; 20]
     ensures { λ r. ⌜ r ≡ esOf (now (words .entry)) ⌝ }
 {
-    [
-        number_at(words, 9),
-        number_at(words, 10),
-        number_at(words, 11),
-        number_at(words, 12),
-        number_at(words, 24),
-        number_at(words, 25),
-        number_at(words, 26),
-        number_at(words, 27),
-        number_at(words, 39),
-        number_at(words, 40),
-        number_at(words, 41),
-        number_at(words, 42),
-        number_at(words, 54),
-        number_at(words, 55),
-        number_at(words, 56),
-        number_at(words, 57),
-        number_at(words, 69),
-        number_at(words, 70),
-        number_at(words, 71),
-        number_at(words, 72),
-    ]
+    let mut es = [0.0; 20];
+    let mut n = 0;
+    while n < 20 {
+        es[n] = circuit::point_number(words, n / 4, 9 + n % 4);
+        n += 1;
+    }
+    es
 }
 
 // Word j of each point.
@@ -94,11 +71,11 @@ fn column(words: &[u32; 75], j: usize) -> [f32; 5]
     ensures { λ r. ⌜ r ≡ columnOf (now (words .entry)) j ⌝ }
 {
     [
-        number_at(words, j),
-        number_at(words, j + 15),
-        number_at(words, j + 30),
-        number_at(words, j + 45),
-        number_at(words, j + 60),
+        circuit::point_number(words, 0, j),
+        circuit::point_number(words, 1, j),
+        circuit::point_number(words, 2, j),
+        circuit::point_number(words, 3, j),
+        circuit::point_number(words, 4, j),
     ]
 }
 
@@ -124,10 +101,10 @@ fn slots(c: circuit::Circuit) -> IonoState
     set.state
 }
 
-fn path(c: circuit::Circuit) -> layer_mufs::Circuit
+fn path(c: circuit::Circuit) -> layer_mufs::PathNumbers
     ensures { λ r. ⌜ r ≡ pathOf c ⌝ }
 {
-    layer_mufs::Circuit {
+    layer_mufs::PathNumbers {
         gcd: scalar::number(c.gcd),
         gcdkm: scalar::number(c.gcdkm),
         amind: scalar::number(c.amind),
@@ -150,27 +127,16 @@ fn circuit_muf(c: circuit::Circuit, s: IonoState) -> MufAnswer
     muf::curmuf(s, &mut es[..numbers], &f2d, &clat[..km], &clck[..km], path)
 }
 
-fn no_rows() -> Ionogram
-    ensures { λ r. ⌜ r ≡ noRows ⌝ }
-{
-    Ionogram {
-        fvert: [0.0; 30],
-        hprim: [0.0; 30],
-        htrue: [0.0; 30],
-        afac: [0.0; 30],
-    }
-}
-
 // The rows of slot k, with cells of its own.
 fn slot_rows(s: IonoState, k: usize, nang: usize, lines: [LayerMuf; 4]) -> Ionogram
-    ensures { λ r. ⌜ r ≡ rowsOf s k nang lines ⌝ }
+    ensures { λ r. ⌜ r ≡ slotRowsOf s k nang lines ⌝ }
 {
     if k < s.kfx {
         let mut cells = [0i32; 1200];
-        let a = hour::slot_sheet(s, k, nang, lines, &mut cells);
+        let a = slot_sheet::slot_sheet(s, k, nang, lines, &mut cells);
         return a.ion;
     }
-    no_rows()
+    reflectrix::no_rows()
 }
 
 fn refused(r: Refusal) -> Sheet
@@ -178,7 +144,7 @@ fn refused(r: Refusal) -> Sheet
 {
     let m = muf::refused(layers::zero_state(), r);
     let hour = m.hour;
-    let none = no_rows();
+    let none = reflectrix::no_rows();
     Sheet {
         outcome: Outcome::Refused(r),
         hour,
@@ -225,7 +191,7 @@ fn of_circuit(c: circuit::Circuit) -> Sheet
 {
     let gcdkm = scalar::number(c.gcdkm);
     let amind = scalar::number(c.amind);
-    let scan = ionogram::sang(gcdkm, amind);
+    let scan = reflectrix::sang(gcdkm, amind);
     match scan {
         Scan::Angles(nang) => scanned(c, nang),
         Scan::Refused(r) => refused(r),

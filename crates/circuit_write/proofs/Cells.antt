@@ -4,7 +4,7 @@ use mathlib.Core.Path.{_≡_, refl, ap, _∙_}
 use mathlib.Core.List.{List, [], _∷_, _++_, append-assoc, append-nil}
 use native.Mathlib.Omega.{arith}
 use native.Mathlib.Numerals.{add-one}
-use native.Mathlib.Nat.{add-sub-cancel-left}
+use native.Mathlib.Nat.{add-sub-cancel-left, mul-le-mul-left}
 use lib.ListN.{length, getD, take, drop, set, replicate, length-take, length-replicate, length-append, length-drop, drop-of-length-le}
 use lib.Seq.{take-at, drop-at, take-all, drop-drop, take-suc, length-take-le}
 use mathlib.Core.Bool.{Bool, true, false}
@@ -13,9 +13,10 @@ use borrow.Author.Tests.{eq-eqb, ne-eqb, le-leb, lt-leb}
 use Rattle.refusal.specs.declared.Refusal.{Refusal}
 use Rattle.circuit.specs.declared.Circuit.{Circuit}
 use Rattle.circuit_write.specs.declared.WriteAnswer.{WriteAnswer}
-use Rattle.circuit.specs.Record.{form64, allZero}
-use Rattle.circuit.proofs.Lists.{rest}
-use Rattle.circuit_write.specs.Written.{halfOf, wordOf, bytesOf, recordOf, headOf, pointAt, twelveAt, nextIn, entryBy, entryOf, entriesOf, decileRecords, recordsOf, fileOf, goodOf, answerOf, leftOf}
+use Rattle.circuit.specs.declared.Form.{Form}
+use Rattle.circuit.specs.Record.{Fit, allZero}
+use Rattle.circuit.proofs.Lists.{rest, drop-replicate}
+use Rattle.circuit_write.specs.Written.{halfOf, wordOf, bytesOf, recordOf, headOf, pointAt, extraAt, twelveAt, nextIn, entryBy, entryOf, entriesOf, decileRecords, recordsOf, fileOf, goodOf, answerOf, leftOf}
 
 pub two-cells : (l : List ℕ) (a b : ℕ) → length l ≡ 2 → set (set l 0 a) 1 b ≡ a ∷ b ∷ []
 two-cells [] a b e = absurd (omega arith)
@@ -82,7 +83,7 @@ pub length-filled : (p l₀ : List ℕ) (a : ℕ) → length p ≡ a → a ≤ l
 length-filled p l₀ a n h = simp (length-append, length-drop) (omega arith)
 
 -- a record put in four parts
-module _ (l ws : List ℕ) (kind next : ℕ) (h : length l ≡ 64) (k : length ws ≤ 15) where
+module _ (l ws : List ℕ) (kind next : ℕ) (k : 4 + 4 * length ws ≤ length l) where
   unfoldable pub one : List ℕ
   one = halfOf kind ++ drop 2 l
 
@@ -105,87 +106,129 @@ module _ (l ws : List ℕ) (kind next : ℕ) (h : length l ≡ 64) (k : length w
   unfolding front
   front-long = omega (arith, length-bytes ws)
 
-  three-long : length three ≡ 64
-  three-long = ap length three-is ∙ length-filled front l (4 + 4 * length ws) front-long (omega arith) ∙ h
+  three-long : length three ≡ length l
+  three-long = ap length three-is ∙ length-filled front l (4 + 4 * length ws) front-long k
 
   pub put-all :
       take (4 + 4 * length ws) three
       ++ (replicate (length (take (length three - (4 + 4 * length ws)) (drop (4 + 4 * length ws) three))) 0
       ++ drop (length three - (4 + 4 * length ws)) (drop (4 + 4 * length ws) three))
-      ≡ recordOf form64 kind next ws
+      ≡ recordOf (length l) kind next ws
   unfolding recordOf front
   put-all =
-      let q : length (take (length three - (4 + 4 * length ws)) (drop (4 + 4 * length ws) three)) ≡ 64 - (4 + 4 * length ws)
+      let q : length (take (length three - (4 + 4 * length ws)) (drop (4 + 4 * length ws) three)) ≡ length l - (4 + 4 * length ws)
       = ap length (rest (4 + 4 * length ws) three) ∙ simp (length-drop, three-long) in
       fill-end three l front (4 + 4 * length ws) three-is front-long _
       ∙ ap (λ (n : ℕ). front ++ replicate n 0) q
       ∙ rw append-assoc refl
 
+-- a point: the words that the form adds, put over the zeros after its fifteen
+pub point-put : (size next : ℕ) (ws extra : List ℕ) → length ws ≡ 15
+    → take 64 (recordOf size 2 next ws)
+    ++ (bytesOf extra ++ drop (64 + 4 * length extra - 64) (drop 64 (recordOf size 2 next ws)))
+    ≡ recordOf size 2 next (ws ++ extra)
+unfolding recordOf
+point-put size next ws extra h =
+    let zeros : List ℕ = replicate (size - (4 + 4 * length ws)) 0 in
+    let n : length (bytesOf ws) ≡ 60 = omega (arith, length-bytes ws) in
+    let q : size - (4 + 4 * length ws) - 4 * length extra ≡ size - (4 + 4 * length (ws ++ extra))
+    = simp length-append (omega arith) in
+    rw (
+      add-sub-cancel-left 64 (4 * length extra),
+      take-at (bytesOf ws) zeros 60 n,
+      drop-at (bytesOf ws) zeros 60 n,
+      drop-replicate (size - (4 + 4 * length ws)) (4 * length extra),
+      q,
+      bytes-append,
+      append-assoc,
+    )
+
 -- the first word of record 0 is km, shape and two zero bytes
-pub head-put : (c : Circuit) (next : ℕ) → c .km ≤ 5 → c .shape ≤ 1
-    → recordOf form64 1 next ((c .km + 256 * c .shape) ∷ c .gcd ∷ c .gcdkm ∷ c .amind ∷ c .ssn ∷ []) ≡ headOf form64 c next
+pub head-put : (o : Form) (c : Circuit) (next : ℕ) → c .km ≤ 5 → c .shape ≤ 1
+    → recordOf (o .size) (o .first) next ((c .km + 256 * c .shape) ∷ c .gcd ∷ c .gcdkm ∷ c .amind ∷ c .ssn ∷ [])
+    ≡ headOf o c next
 unfolding recordOf headOf bytesOf
-head-put c next h k =
+head-put o c next h k =
     let a : (c .km + 256 * c .shape) % 256 ≡ c .km = omega arith in
     let b : (c .km + 256 * c .shape) / 256 ≡ c .shape = omega arith in
     let b′ : c .shape % 256 ≡ c .shape = omega arith in
-    let d : (c .km + 256 * c .shape) / 65536 ≡ 0 = omega arith in
-    let e : (c .km + 256 * c .shape) / 16777216 ≡ 0 = omega arith in
+    let d : (c .km + 256 * c .shape) / 0x1_0000 ≡ 0 = omega arith in
+    let e : (c .km + 256 * c .shape) / 0x100_0000 ≡ 0 = omega arith in
     rw (a, b, b′, d, e)
 
-pub length-record : (kind next : ℕ) (ws : List ℕ) → length ws ≤ 15 → length (recordOf form64 kind next ws) ≡ 64
+pub length-record : (size kind next : ℕ) (ws : List ℕ) → 4 + 4 * length ws ≤ size → length (recordOf size kind next ws) ≡ size
 unfolding recordOf
-length-record kind next ws h = simp (length-append, length-bytes, length-replicate) (omega arith)
+length-record size kind next ws h = simp (length-append, length-bytes, length-replicate) (omega arith)
 
 took : (n : ℕ) (l : List ℕ) → length (take n l) ≤ n
 took n l = simp length-take (omega arith)
 
-entry-by : (first point : Bool) (c : Circuit) (n i : ℕ) → length (entryBy first point form64 c n i) ≡ 64
-unfolding headOf bytesOf
-entry-by true point c n i = refl
-entry-by false true c n i = length-record 2 (nextIn n i) (pointAt c (i - 1)) (took 15 (drop (15 * (i - 1)) (c .points)))
-entry-by false false c n i = length-record 3 (nextIn n i) (twelveAt c (i - (c .km + 1))) (omega (arith, took 12 (drop (12 * (i - (c .km + 1))) (c .deciles))))
+module _ (o : Form) (fit : Fit o) (c : Circuit) (beside : List ℕ) (n : ℕ) where
+  entry-by : (first point : Bool) (i : ℕ) → length (entryBy first point o c beside n i) ≡ o .size
+  unfolding headOf bytesOf
+  entry-by true point i = simp length-replicate (omega arith)
+  entry-by false true i =
+      let p = pointAt c (i - 1) in
+      let x = extraAt o beside (i - 1) in
+      length-record (o .size) 2 (nextIn n i) (p ++ x)
+      (omega (arith, length-append p x, took 15 (drop (15 * (i - 1)) (c .points)), took (o .extra) (drop (o .extra * (i - 1)) beside)))
+  entry-by false false i =
+      length-record (o .size) 3 (nextIn n i) (twelveAt c (i - (c .km + 1)))
+      (omega (arith, took 12 (drop (12 * (i - (c .km + 1))) (c .deciles))))
 
-pub length-entry : (c : Circuit) (n i : ℕ) → length (entryOf form64 c n i) ≡ 64
-unfolding entryOf
-length-entry c n i = entry-by (eqb i 0) (leb i (c .km)) c n i
-
-pub length-entries : (c : Circuit) (n k : ℕ) → length (entriesOf form64 c n k) ≡ 64 * k
-unfolding entriesOf
-length-entries c n zero = omega arith
-length-entries c n (suc k) = simp (length-append, length-entries c n k, length-entry) (omega arith)
-
-pub length-file : (c : Circuit) → length (fileOf form64 c) ≡ 64 * recordsOf c
-unfolding fileOf
-length-file c = length-entries c (recordsOf c) (recordsOf c)
-
--- one more record put
-pub entry-more : (c : Circuit) (n i : ℕ) (l l₀ ys : List ℕ) → l ≡ entriesOf form64 c n i ++ drop (64 * i) l₀
-    → ys ≡ entryOf form64 c n i
-    → take (64 * i) l ++ (ys ++ drop (64 * i + 64 - 64 * i) (drop (64 * i) l)) ≡ entriesOf form64 c n (i + 1) ++ drop (64 * (i + 1)) l₀
-unfolding entriesOf
-entry-more c n i l l₀ ys e y =
-    let q : 64 * i + 64 ≡ 64 * (i + 1) = omega arith in
-    fill-on l l₀ (entriesOf form64 c n i) (64 * i) e (length-entries c n i) ys 64 ∙ rw (y, q, add-one i) refl
-
--- which record it is that is put
-module _ (c : Circuit) (n i next : ℕ) (k : next ≡ nextIn n i) where
-  pub entry-head : i ≡ 0 → headOf form64 c next ≡ entryOf form64 c n i
+  pub length-entry : (i : ℕ) → length (entryOf o c beside n i) ≡ o .size
   unfolding entryOf
-  entry-head e = rw (k, eq-eqb i 0 e)
+  length-entry i = entry-by (eqb i 0) (leb i (c .km)) i
 
-  pub entry-point : (i ≡ 0 → ⊥) → i ≤ c .km
-      → recordOf form64 2 next (take (15 * (i - 1) + 15 - 15 * (i - 1)) (drop (15 * (i - 1)) (c .points))) ≡ entryOf form64 c n i
-  unfolding entryOf
-  entry-point e h = rw (k, ne-eqb i 0 e, le-leb i (c .km) h, add-sub-cancel-left (15 * (i - 1)) 15)
+  pub length-entries : (k : ℕ) → length (entriesOf o c beside n k) ≡ o .size * k
+  unfolding entriesOf
+  length-entries zero = omega arith
+  length-entries (suc k) = simp (length-append, length-entries k, length-entry) (omega arith)
 
-  pub entry-twelve : (i ≡ 0 → ⊥) → c .km < i
-      → recordOf form64 3 next
-      (take (12 * (i - (c .km + 1)) + 12 - 12 * (i - (c .km + 1))) (drop (12 * (i - (c .km + 1))) (c .deciles)))
-      ≡ entryOf form64 c n i
-  unfolding entryOf
-  entry-twelve e h =
-      rw (k, ne-eqb i 0 e, lt-leb i (c .km) h, add-sub-cancel-left (12 * (i - (c .km + 1))) 12)
+  -- one more record put
+  pub entry-more : (i : ℕ) (l l₀ ys : List ℕ) → l ≡ entriesOf o c beside n i ++ drop (o .size * i) l₀
+      → ys ≡ entryOf o c beside n i
+      → take (o .size * i) l ++ (ys ++ drop (o .size * i + o .size - o .size * i) (drop (o .size * i) l))
+      ≡ entriesOf o c beside n (i + 1) ++ drop (o .size * (i + 1)) l₀
+  unfolding entriesOf
+  entry-more i l l₀ ys e y =
+      let q : o .size * i + o .size ≡ o .size * (i + 1) = omega arith in
+      fill-on l l₀ (entriesOf o c beside n i) (o .size * i) e (length-entries i) ys (o .size) ∙ rw (y, q, add-one i) refl
+
+  -- which record it is that is put
+  module _ (i next : ℕ) (k : next ≡ nextIn n i) where
+    pub entry-head : i ≡ 0 → headOf o c next ≡ entryOf o c beside n i
+    unfolding entryOf
+    entry-head e = rw (k, eq-eqb i 0 e)
+
+    pub entry-point : (i ≡ 0 → ⊥) → i ≤ c .km
+        → recordOf (o .size) 2 next
+        (take (15 * (i - 1) + 15 - 15 * (i - 1)) (drop (15 * (i - 1)) (c .points))
+        ++ take (o .extra * (i - 1) + o .extra - o .extra * (i - 1)) (drop (o .extra * (i - 1)) beside))
+        ≡ entryOf o c beside n i
+    unfolding entryOf
+    entry-point e h =
+        rw (
+          k,
+          ne-eqb i 0 e,
+          le-leb i (c .km) h,
+          add-sub-cancel-left (15 * (i - 1)) 15,
+          add-sub-cancel-left (o .extra * (i - 1)) (o .extra),
+        )
+
+    pub entry-twelve : (i ≡ 0 → ⊥) → c .km < i
+        → recordOf (o .size) 3 next
+        (take (12 * (i - (c .km + 1)) + 12 - 12 * (i - (c .km + 1))) (drop (12 * (i - (c .km + 1))) (c .deciles)))
+        ≡ entryOf o c beside n i
+    unfolding entryOf
+    entry-twelve e h =
+        rw (k, ne-eqb i 0 e, lt-leb i (c .km) h, add-sub-cancel-left (12 * (i - (c .km + 1))) 12)
+
+-- part i of n parts of one length lies within them
+pub part-within : (size n i : ℕ) → i < n → size * i + size ≤ size * n
+part-within size n i h =
+    let a : size * (i + 1) ≤ size * n = mul-le-mul-left size (omega arith) in
+    omega arith
 
 most-by : (b : Bool) (m : ℕ) → 1 + m + decileRecords b ≤ m + 49
 most-by true m = omega arith
@@ -194,26 +237,37 @@ most-by false m = omega arith
 pub records-most : (c : Circuit) → recordsOf c ≤ c .km + 49
 records-most c = most-by (allZero (c .deciles)) (c .km)
 
--- the answer and the cells left, by the tests
-module _ (c : Circuit) (out : List ℕ) where
-  pub write-bad : goodOf c ≡ false
-      → (WriteAnswer.Refused Refusal.RecordZero ≡ answerOf form64 c out) × (out ≡ leftOf form64 c out)
-  unfolding answerOf leftOf
-  write-bad e = (rw e, rw e)
+-- a file has at most 64 records
+pub size-most : (o : Form) (c : Circuit) → c .km ≤ 5 → o .size * recordsOf c ≤ 64 * o .size
+size-most o c h =
+    let a : o .size * recordsOf c ≤ o .size * 64 = mul-le-mul-left (o .size) (omega (arith, records-most c)) in
+    omega arith
 
-  pub write-small : goodOf c ≡ true → length out < 64 * recordsOf c
-      → (WriteAnswer.Refused Refusal.Length ≡ answerOf form64 c out) × (out ≡ leftOf form64 c out)
-  unfolding answerOf leftOf
-  write-small e h = let t = lt-leb (64 * recordsOf c) (length out) h in (rw (e, t), rw (e, t))
+module _ (o : Form) (fit : Fit o) (c : Circuit) (beside : List ℕ) where
+  pub length-file : length (fileOf o c beside) ≡ o .size * recordsOf c
+  unfolding fileOf
+  length-file = length-entries o fit c beside (recordsOf c) (recordsOf c)
 
-  pub write-good : goodOf c ≡ true → 64 * recordsOf c ≤ length out
-      → (WriteAnswer.Written (64 * recordsOf c) ≡ answerOf form64 c out)
-      × (fileOf form64 c ++ drop (64 * recordsOf c) out ≡ leftOf form64 c out)
-  unfolding answerOf leftOf
-  write-good e h =
-      let t = le-leb (64 * recordsOf c) (length out) h in
-      let all = take-all (64 * recordsOf c) (fileOf form64 c) (omega (arith, length-file c)) in
-      (rw (e, t), rw (e, t, all))
+  -- the answer and the cells left, by the tests
+  module _ (out : List ℕ) where
+    pub write-bad : goodOf c ≡ false
+        → (WriteAnswer.Refused Refusal.RecordZero ≡ answerOf o c out) × (out ≡ leftOf o c beside out)
+    unfolding answerOf leftOf
+    write-bad e = (rw e, rw e)
+
+    pub write-small : goodOf c ≡ true → length out < o .size * recordsOf c
+        → (WriteAnswer.Refused Refusal.Length ≡ answerOf o c out) × (out ≡ leftOf o c beside out)
+    unfolding answerOf leftOf
+    write-small e h = let t = lt-leb (o .size * recordsOf c) (length out) h in (rw (e, t), rw (e, t))
+
+    pub write-good : goodOf c ≡ true → o .size * recordsOf c ≤ length out
+        → (WriteAnswer.Written (o .size * recordsOf c) ≡ answerOf o c out)
+        × (fileOf o c beside ++ drop (o .size * recordsOf c) out ≡ leftOf o c beside out)
+    unfolding answerOf leftOf
+    write-good e h =
+        let t = le-leb (o .size * recordsOf c) (length out) h in
+        let all = take-all (o .size * recordsOf c) (fileOf o c beside) (omega (arith, length-file)) in
+        (rw (e, t), rw (e, t, all))
 
 pub good-is : (c : Circuit) → 1 ≤ c .km → c .km ≤ 5 → c .shape ≤ 1 → goodOf c ≡ true
 good-is c a b d = rw (le-leb 1 (c .km) a, le-leb (c .km) 5 b, le-leb (c .shape) 1 d)

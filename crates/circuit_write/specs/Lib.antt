@@ -1,1 +1,2 @@
+-- The bytes that the writer leaves.
 pub mod Written

@@ -4,10 +4,11 @@ mod put;
 ghost use mathlib.Core.Path.{_≡_};
 ghost use Prim.Native.Nat.{_+_, _*_, _≤_, _<_};
 ghost use lib.ListN.{length, drop};
-ghost use mathlib.Core.List.{_++_};
-ghost use Rattle.circuit.specs.Record.{form64};
+ghost use mathlib.Core.List.{[], _++_};
+ghost use Rattle.circuit.specs.Record.{form64, Fit};
 ghost use Rattle.circuit_write.specs.Written.{recordsOf, nextIn, entryOf, fileOf, answerOf, leftOf, numberIn};
 use circuit::Circuit;
+use circuit::Form;
 use refusal::Refusal;
 
 pub enum WriteAnswer {
@@ -47,21 +48,23 @@ fn next_in(n: usize, i: usize) -> usize
     i + 1
 }
 
-// Record i of n.
-fn entry(c: Circuit, n: usize, i: usize, out: &mut [u8])
-    requires { ⌜ (c .km ≤ 5) × (c .shape ≤ 1) × (i < n) × (n ≤ c .km + 49) × (length (now out) ≡ 64) ⌝ }
-    ensures { λ _. ⌜ now (out .exit) ≡ entryOf form64 c n i ⌝ }
+// Record i of n. `beside` are the words that the form adds, room for those of five points.
+fn entry(o: Form, c: Circuit, beside: &[u32], n: usize, i: usize, out: &mut [u8])
+    requires { ⌜ Fit o × (c .km ≤ 5) × (c .shape ≤ 1) × (length (now beside) ≡ 5 * o .extra) × (i < n) × (n ≤ c .km + 49) × (length (now out) ≡ o .size) ⌝ }
+    ensures { λ _. ⌜ now (out .exit) ≡ entryOf o c (now (beside .entry)) n i ⌝ }
 {
     let next = next_in(n, i);
     let km = c.km;
     if i == 0 {
-        put::head(c, next, out);
+        put::head(o, c, next, out);
         return;
     }
     if i <= km {
         let a = 15 * (i - 1);
         let points = c.points;
-        put::record(2, next, &points[a..a + 15], out);
+        let extra = o.extra;
+        let b = extra * (i - 1);
+        put::point(next, &points[a..a + 15], &beside[b..b + extra], out);
         return;
     }
     let a = 12 * (i - (km + 1));
@@ -69,21 +72,23 @@ fn entry(c: Circuit, n: usize, i: usize, out: &mut [u8])
     put::record(3, next, &deciles[a..a + 12], out);
 }
 
-fn entries(c: Circuit, n: usize, out: &mut [u8])
-    requires { ⌜ (c .km ≤ 5) × (c .shape ≤ 1) × (n ≡ recordsOf c) × (64 * n ≤ length (now out)) ⌝ }
-    ensures { λ _. ⌜ now (out .exit) ≡ fileOf form64 c ++ drop (64 * n) (now (out .entry)) ⌝ }
+fn entries(o: Form, c: Circuit, beside: &[u32], n: usize, out: &mut [u8])
+    requires { ⌜ Fit o × (c .km ≤ 5) × (c .shape ≤ 1) × (length (now beside) ≡ 5 * o .extra) × (n ≡ recordsOf c) × (o .size * n ≤ length (now out)) ⌝ }
+    ensures { λ _. ⌜ now (out .exit) ≡ fileOf o c (now (beside .entry)) ++ drop (o .size * n) (now (out .entry)) ⌝ }
 {
+    let size = o.size;
     let mut i = 0;
     while i < n {
-        entry(c, n, i, &mut out[64 * i..64 * i + 64]);
+        entry(o, c, beside, n, i, &mut out[size * i..size * i + size]);
         i += 1;
     }
 }
 
-// Writes a circuit's file into the cells lent. Cells past its end, and all cells at a refusal, stay.
-pub fn write(c: Circuit, out: &mut [u8]) -> WriteAnswer
-    ensures { λ a. ⌜ a ≡ answerOf form64 c (now (out .entry)) ⌝ }
-    ensures { λ _. ⌜ now (out .exit) ≡ leftOf form64 c (now (out .entry)) ⌝ }
+// The writer, in any form.
+fn write_form(o: Form, c: Circuit, beside: &[u32], out: &mut [u8]) -> WriteAnswer
+    requires { ⌜ Fit o × (length (now beside) ≡ 5 * o .extra) ⌝ }
+    ensures { λ a. ⌜ a ≡ answerOf o c (now (out .entry)) ⌝ }
+    ensures { λ _. ⌜ now (out .exit) ≡ leftOf o c (now (beside .entry)) (now (out .entry)) ⌝ }
 {
     if c.km < 1 {
         return WriteAnswer::Refused(Refusal::RecordZero);
@@ -95,9 +100,19 @@ pub fn write(c: Circuit, out: &mut [u8]) -> WriteAnswer
         return WriteAnswer::Refused(Refusal::RecordZero);
     }
     let n = records(c);
-    if out.len() < 64 * n {
+    let length = o.size * n;
+    if out.len() < length {
         return WriteAnswer::Refused(Refusal::Length);
     }
-    entries(c, n, out);
-    WriteAnswer::Written(64 * n)
+    entries(o, c, beside, n, out);
+    WriteAnswer::Written(length)
+}
+
+// Writes a circuit's file into the cells lent. Cells past its end, and all cells at a refusal, stay.
+pub fn write(c: Circuit, out: &mut [u8]) -> WriteAnswer
+    ensures { λ a. ⌜ a ≡ answerOf form64 c (now (out .entry)) ⌝ }
+    ensures { λ _. ⌜ now (out .exit) ≡ leftOf form64 c [] (now (out .entry)) ⌝ }
+{
+    let none = [0u32; 0];
+    write_form(circuit::form64(), c, &none, out)
 }

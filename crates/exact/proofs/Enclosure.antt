@@ -7,7 +7,7 @@ use lib.Dec.{lit<, lit≤}
 use lib.Pow.{pow-pos}
 use Rattle.series.specs.Series.{Sums, sums, Close, Ksin, Kcos}
 use Rattle.series.proofs.Alternating.{Low, High, stay-low, stay-high}
-use Rattle.series.proofs.Cases.{split}
+use Rattle.cases.proofs.Cases.{split}
 use Rattle.exact.specs.Enclosure.{Below, Above, Nested, Narrow, Less}
 
 module _ (K : ℕ → ℕ) (n d a b : ℕ) (D : 0 < d) (small : n ≤ 4 * d) (big : (k : ℕ) → 2 ≤ k → 30 ≤ K k) (more : (k : ℕ) → 3 ≤ k → 32 ≤ K k) (first : 0 < K 0) (second : 0 < K 1) where

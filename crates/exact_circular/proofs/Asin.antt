@@ -13,7 +13,7 @@ use lib.Ieee.Fits.{down-pos}
 use lib.Ieee.Bits.{ofBits-toBits, toBits-lt}
 use lib.Ieee.Exact.{HasValue}
 use Rattle.series.specs.Series.{full, num, class, Later, SinLe, SinGe}
-use Rattle.series.proofs.Cases.{split}
+use Rattle.cases.proofs.Cases.{split}
 use Rattle.series.proofs.Waves.{Enc4}
 use Rattle.series.proofs.Bounds.{cos-plus, cos-minus, sine-le, sine-ge, enc-scaled}
 use Rattle.fixed.specs.Fixed.{mant, pattern, digits}
@@ -23,10 +23,10 @@ use Rattle.fixed.proofs.Sizes.{finite-value, size-lt}
 use Rattle.exact.specs.Unit.{steps}
 use Rattle.exact.specs.Near.{NearAsin}
 use Rattle.exact.proofs.Unit.{steps-is}
-use Rattle.circular.specs.Asin.{sixthOf, arcOf, asinMag, asinBits, asinOf}
-use Rattle.circular.proofs.Cosine.{Cosine}
-use Rattle.circular.proofs.Angle.{Sizes, sizes, o, v, low-is, high-is}
-use Rattle.circular.proofs.AsinBits.{mag-fits, small-bits, mid-bits, one-bits, outside-bits}
+use Rattle.arcs.specs.Asin.{sixthOf, arcOf, asinMag, asinBits, asinOf}
+use Rattle.arcs.proofs.Cosine.{Cosine}
+use Rattle.arcs.proofs.Angle.{Sizes, sizes, o, v, low-is, high-is}
+use Rattle.arcs.proofs.AsinBits.{mag-fits, small-bits, mid-bits, one-bits, outside-bits}
 use Rattle.exact_circular.proofs.Ends.{small-cos, small-sine-le, small-sine-ge, half-plus, half-minus, half-sine}
 use Rattle.exact_circular.proofs.Fine.{fine, enc}
 use Rattle.exact_circular.proofs.AsinEnds.{Turned, end-2, lower, upper}

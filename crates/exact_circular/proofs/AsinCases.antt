@@ -7,16 +7,18 @@ use native.Mathlib.Omega.{arith}
 use lib.Dec.{lit≤, lit<}
 use lib.ListN.{getD}
 use Rattle.series.specs.Series.{full, num, class}
-use Rattle.series.proofs.Cases.{split}
+use Rattle.cases.proofs.Cases.{split}
 use Rattle.series.proofs.Sharp.{portion}
 use Rattle.fixed.specs.Fixed.{digits, scaledOf}
 use Rattle.scalar.specs.Root.{root}
-use Rattle.circular.specs.Asin.{cosineOf, cosines, arcs, halfPi, arcOf, asinMag}
-use Rattle.circular.proofs.Angles.{Entry, entry, good}
-use Rattle.circular.proofs.Cosine.{under, Cosine, cosine-of}
-use Rattle.circular.proofs.Arcs.{Norm, Placed, node, node-slope, cosine-norm, gentle-placed, steep-placed, turn-size}
-use Rattle.circular.proofs.Reduce.{powers}
-use Rattle.circular.proofs.AsinBits.{gentle-is, steep-is, low-is, mid-is, low-range, mid-range}
+use Rattle.arc_tables.specs.Tables.{cosines, arcs, halfPi}
+use Rattle.arcs.specs.Asin.{cosineOf, arcOf, asinMag}
+use Rattle.arc_tables.proofs.Angles.{Entry, entry, good}
+use Rattle.arcs.proofs.Cosine.{under, Cosine, cosine-of}
+use Rattle.arc_tables.proofs.Nodes.{Norm, node, node-slope}
+use Rattle.arcs.proofs.Arcs.{Placed, cosine-norm, gentle-placed, steep-placed, turn-size}
+use Rattle.arcs.proofs.Reduce.{powers}
+use Rattle.arcs.proofs.AsinBits.{gentle-is, steep-is, low-is, mid-is, low-range, mid-range}
 use Rattle.exact_circular.proofs.Nodes.{gentle-node, steep-node}
 use Rattle.exact_circular.proofs.AsinEnds.{Turned}
 

@@ -9,12 +9,12 @@ use native.Mathlib.Omega.{arith}
 use lib.Dec.{lit≤}
 use lib.Pow.{pow-pos}
 use Rattle.series.specs.Series.{SinLe, SinGe}
-use Rattle.series.proofs.Cases.{split}
-use Rattle.circular.specs.Asin.{sixthOf, arcOf}
-use Rattle.circular.proofs.Angle.{Sizes, wide-le, wide-ok}
-use Rattle.circular.proofs.Angles.{Entry}
-use Rattle.circular.proofs.Cosine.{Cosine}
-use Rattle.circular.proofs.Step as step
+use Rattle.cases.proofs.Cases.{split}
+use Rattle.arcs.specs.Asin.{sixthOf, arcOf}
+use Rattle.arcs.proofs.Angle.{Sizes, wide-le, wide-ok}
+use Rattle.arc_tables.proofs.Angles.{Entry}
+use Rattle.arcs.proofs.Cosine.{Cosine}
+use Rattle.arcs.proofs.Step as step
 use Rattle.exact_circular.proofs.SmallCircle.{root-le, twice, W², g-w, circle-low, circle-high, under-tangent, over-tangent, sides}
 
 -- the sine X and the cosine 8 r, brought by the table's angle A to a small angle whose sine is s * 2 ^ -56

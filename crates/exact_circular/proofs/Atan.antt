@@ -11,18 +11,18 @@ use lib.Ieee.Digits.{size-le}
 use lib.Ieee.Bits.{ofBits-toBits, toBits-lt}
 use lib.Ieee.Exact.{HasValue}
 use Rattle.fixed.specs.Fixed.{mant, pattern, digits}
-use Rattle.circular.specs.Atan.{angleOf, atanBits, atanOf}
+use Rattle.arcs.specs.Atan.{angleOf, atanBits, atanOf}
 use Rattle.exact.specs.Unit.{steps}
 use Rattle.series.specs.Series.{Later, SinLe, SinGe, num, class}
 use Rattle.exact.specs.Near.{NearAtan}
 use Rattle.fixed.proofs.Round.{place, pattern-lt}
-use Rattle.series.proofs.Cases.{split}
+use Rattle.cases.proofs.Cases.{split}
 use Rattle.fixed.proofs.Values.{value, bits-255, v-small, ulps, packed-value, normal-value, sign-plus}
 use Rattle.exact.proofs.Unit.{steps-is}
 use Rattle.series.proofs.Bounds.{le-same, ge-same}
-use Rattle.circular.proofs.Angle.{angle-le, angle-ge, angle-2}
-use Rattle.circular.proofs.Reduce.{case}
-use Rattle.circular.proofs.AtanBits.{small-bits, mid-bits, big-bits, nan-bits, angle-big}
+use Rattle.arcs.proofs.Angle.{angle-le, angle-ge, angle-2}
+use Rattle.arcs.proofs.Reduce.{case}
+use Rattle.arcs.proofs.AtanBits.{small-bits, mid-bits, big-bits, nan-bits, angle-big}
 use Rattle.exact_circular.proofs.Ends.{small-le, small-ge, half-le, half-ge, nearest-plus, nearest-minus}
 
 -- ---- what is asked of the value v of r, in units of 2 ^ -149, where x = n / c

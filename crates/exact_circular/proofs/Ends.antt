@@ -6,7 +6,7 @@ use native.Mathlib.Omega.{arith}
 use lib.Pow.{pow-pos}
 use lib.Dec.{T, lit≤}
 use Rattle.series.specs.Series.{full, num, class, Later, SinLe, SinGe}
-use Rattle.series.proofs.Cases.{split}
+use Rattle.cases.proofs.Cases.{split}
 use Rattle.series.proofs.Waves.{Enc4}
 use Rattle.series.proofs.SmallAngle.{Parts, parts-of, small-enc}
 use Rattle.series.proofs.Bounds.{sin-le, sin-ge, cos-plus, cos-minus, sine-le, enc-scaled, sine-ge}

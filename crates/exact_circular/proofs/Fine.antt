@@ -7,7 +7,7 @@ use lib.Dec.{lit≤}
 use lib.Pow.{pow-pos}
 use Rattle.series.specs.Series.{full, num, class, SinLe, SinGe}
 use Rattle.series.proofs.Addition.{full-pos}
-use Rattle.series.proofs.Cases.{split}
+use Rattle.cases.proofs.Cases.{split}
 use Rattle.series.proofs.Fractions.{num-mono}
 use Rattle.series.proofs.Weighted.{grows, above, low-later}
 use Rattle.series.proofs.Waves.{Enc4}

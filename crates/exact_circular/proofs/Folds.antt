@@ -9,7 +9,7 @@ use Rattle.series.specs.Series.{sums, Close, Limit, Ksin, Kcos, Kind, sine, cos
 use Rattle.series.proofs.Addition.{full-pos}
 use Rattle.series.proofs.Alternating.{limit}
 use Rattle.exact.proofs.Enclosure.{sine-nested, cosine-nested}
-use Rattle.circular.specs.SinCos.{ratioOf}
+use Rattle.waves.specs.SinCos.{ratioOf}
 use Rattle.exact_circular.proofs.Kernel.{kernel}
 use Rattle.exact_circular.proofs.Quads.{quad, sin-same, cos-same}
 use Rattle.exact_circular.proofs.Turns.{whole, whole-pos, part, gap, gap-small, Alike}

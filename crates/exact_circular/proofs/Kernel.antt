@@ -8,8 +8,8 @@ use lib.Dec.{lit<, lit≤}
 use lib.Pow.{pow-pos}
 use Rattle.series.specs.Series.{sums, Limit, Ksin}
 use Rattle.series.proofs.Alternating.{Low, High, limit}
-use Rattle.circular.specs.SinCos.{times, added, taken, squareOf, ratioOf}
-use Rattle.circular.proofs.Patterns.{times-lt, times-le, square-lt, taken-le, ratio-in}
+use Rattle.waves.specs.SinCos.{times, added, taken, squareOf, ratioOf}
+use Rattle.waves.proofs.Patterns.{times-lt, times-le, square-lt, taken-le, ratio-in}
 
 -- ---- one step of a nested sum, in units of 1 / b: A / b stands for N / D, w / b for X / (b * G), and c / b for g / (D * b * G)
 step-low : (b c A w G X D N g : ℕ) → w * G ≤ X → A * D ≤ b * N → c * (D * (b * G)) ≤ b * g → (c + w * A / b) * (D * (b * G)) ≤ b * (g + X * N)

@@ -12,14 +12,14 @@ use lib.Ieee.Fits.{down-pos}
 use lib.Ieee.Bits.{ofBits-toBits}
 use lib.Ieee.Exact.{HasValue}
 use Rattle.series.specs.Series.{Ksin, Kcos, sine, cosine}
-use Rattle.series.proofs.Cases.{split}
+use Rattle.cases.proofs.Cases.{split}
 use Rattle.fixed.proofs.Sizes.{finite-value, size-le}
 use Rattle.exact.specs.Unit.{steps}
 use Rattle.exact.specs.Near.{NearSin, NearCos}
 use Rattle.exact.specs.Enclosure.{LiteralSin, LiteralCos}
 use Rattle.exact.proofs.Enclosure.{sine-nested, cosine-nested, less}
-use Rattle.circular.specs.SinCos.{waveBits, sinOf, cosOf}
-use Rattle.circular.proofs.Patterns.{outside-bits}
+use Rattle.waves.specs.SinCos.{waveBits, sinOf, cosOf}
+use Rattle.waves.proofs.Patterns.{outside-bits}
 use Rattle.exact_circular.proofs.Folds.{den-pos, sin-pos, cos-pos}
 use Rattle.exact_circular.proofs.Waves.{sin-near, cos-near}
 

@@ -7,11 +7,11 @@ use native.Mathlib.Omega.{arith}
 use lib.Dec.{T, eqb, eqb→eq}
 use lib.ListN.{getD}
 use Rattle.series.specs.Series.{full, num, class}
-use Rattle.series.proofs.Entries as table
+use Rattle.cases.proofs.Entries as table
 use Rattle.series.proofs.Sharp.{portion}
-use Rattle.circular.specs.Asin.{cosines, arcs, halfPi}
-use Rattle.circular.proofs.Angles.{good, Entry, entry}
-use Rattle.circular.proofs.AtanMost.{or-cases}
+use Rattle.arc_tables.specs.Tables.{cosines, arcs, halfPi}
+use Rattle.arc_tables.proofs.Angles.{good, Entry, entry}
+use Rattle.arcs.proofs.AtanMost.{or-cases}
 
 gentle-test : (i : ℕ) → i < 183 → T (good (2 ^ 25) (getD cosines i 0) (i * 2 ^ 24) (getD arcs i 0))
 unfolding good cosines arcs portion num full class

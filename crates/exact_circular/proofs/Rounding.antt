@@ -11,8 +11,8 @@ use lib.Count.{leadingZeros}
 use Rattle.series.specs.Series.{Close, Limit, sums}
 use Rattle.fixed.specs.Fixed.{mant}
 use Rattle.fixed.proofs.Round.{Rounded, rounded}
-use Rattle.circular.specs.SinCos.{ratioOf}
-use Rattle.circular.proofs.Patterns.{Top, top-of, ratio-in, Packed, packed}
+use Rattle.waves.specs.SinCos.{ratioOf}
+use Rattle.waves.proofs.Patterns.{Top, top-of, ratio-in, Packed, packed}
 
 -- ---- closeness in a finer unit, to a number that is X off
 close-plus : (m a u f v x u' p q c : ℕ) → v ≤ a * f + x → a * f ≤ v + x → u * f + x ≤ u' → Close m a 0 u p q c → Close (m * f) v 0 u' p q c

@@ -8,9 +8,9 @@ use native.Mathlib.Omega.{arith}
 use lib.Dec.{lit<, lit≤}
 use lib.Pow.{pow-pos}
 use Rattle.series.specs.Series.{SinLe, SinGe}
-use Rattle.series.proofs.Cases.{split}
+use Rattle.cases.proofs.Cases.{split}
 use Rattle.series.proofs.Circle.{circle-above, circle-below, sine-under, sine-over}
-use Rattle.circular.proofs.Cosine.{Cosine}
+use Rattle.arcs.proofs.Cosine.{Cosine}
 use Rattle.exact_circular.proofs.Fine.{fine, enc, most, apart, from-le, from-ge}
 
 -- the width of the circle's enclosure

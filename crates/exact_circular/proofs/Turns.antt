@@ -13,7 +13,7 @@ use Rattle.series.proofs.Weighted.{above}
 use Rattle.series.proofs.Waves.{Enc4, plus}
 use Rattle.series.proofs.SmallAngle.{class-le}
 use Rattle.series.proofs.Pythagoras.{pythagoras}
-use Rattle.circular.specs.SinCos.{quarterTurn, halfTurn, threeQuarters}
+use Rattle.waves.specs.SinCos.{quarterTurn, halfTurn, threeQuarters}
 
 unfoldable pub whole : ℕ
 unfolding full

@@ -15,7 +15,7 @@ use lib.Ieee.Fits.{down-pos}
 use lib.Ieee.Bits.{ofBits-toBits, toBits-lt}
 use lib.Ieee.Exact.{HasValue}
 use Rattle.series.specs.Series.{sums, Limit, Ksin, Kcos, Kind, sine, cosine, shift, top, bottom, Kat}
-use Rattle.circular.specs.SinCos.{ratioOf, sineAt, quarterTurn, halfTurn, threeQuarters, magOf, atSmall, waveAt, waveBits, sinOf, cosOf}
+use Rattle.waves.specs.SinCos.{ratioOf, sineAt, quarterTurn, halfTurn, threeQuarters, magOf, atSmall, waveAt, waveBits, sinOf, cosOf}
 use Rattle.fixed.specs.Fixed.{mant}
 use Rattle.exact.specs.Unit.{steps, ulp}
 use Rattle.exact.specs.Near.{NearSin, NearCos}
@@ -29,9 +29,9 @@ use Rattle.series.proofs.WaveFraction.{same-limit, wider-limit, later}
 use Rattle.fixed.proofs.Values.{value, v-small, ulp-ge, ulps, bits-255, sign-plus}
 use Rattle.fixed.proofs.Sizes.{finite-value, size-lt}
 use Rattle.exact.proofs.Unit.{steps-is}
-use Rattle.series.proofs.Cases.{split}
-use Rattle.circular.proofs.Magnitude.{mag-le, mag-ge, grain}
-use Rattle.circular.proofs.Patterns.{top-of, packed, sine-at-lt, sin-direct, sin-below, sin-above, cos-below, cos-above, cos-beyond, small-bits, large-bits, outside-bits}
+use Rattle.cases.proofs.Cases.{split}
+use Rattle.waves.proofs.Magnitude.{mag-le, mag-ge, grain}
+use Rattle.waves.proofs.Patterns.{top-of, packed, sine-at-lt, sin-direct, sin-below, sin-above, cos-below, cos-above, cos-beyond, small-bits, large-bits, outside-bits}
 
 -- ---- one statement for both: the sign of r (t) is taken as it stands, or turned where x's sign s turns a sine
 abbrev agrees : Kind → Bool → Bool → Bool

@@ -173,7 +173,7 @@ module _ (D : ℕ) (big : 2 ^ 48 ≤ D) where
         six =
             let a : 32 * n ≤ D = omega arith in
             let b : 1024 * (n * n) ≤ E = omega (arith, mul-le-mul a a) in
-            let c : 1048576 * (n * n * (n * n)) ≤ E * E = omega (arith, mul-le-mul b b) in
+            let c : 0x10_0000 * (n * n * (n * n)) ≤ E * E = omega (arith, mul-le-mul b b) in
             omega (arith, mul-le-mul c b)
 
         seven : (D + n) * slope n E ≤ 4 * (E * E * D)

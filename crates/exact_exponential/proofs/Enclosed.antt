@@ -14,7 +14,7 @@ use Rattle.series.proofs.Weighted.{grows, above}
 use Rattle.exponential.specs.Exp.{expOf}
 use Rattle.exact.specs.Unit.{steps, ulp}
 use Rattle.exact.specs.Near.{NearExp}
-use Rattle.exact_exponential.specs.Enclosure.{Within, upperSum, Inside, Enclosed, EnclosedBelow, EnclosedExp, OneNumber, Rising}
+use Rattle.exact_exponential.specs.Enclosure.{NearerThan, upperSum, Inside, Enclosed, EnclosedBelow, EnclosedExp, OneNumber, Rising}
 use Rattle.exact_exponential.proofs.Terms.{full-1, num-1}
 use Rattle.exact_exponential.proofs.ExpTheorem.{exp-near}
 
@@ -99,7 +99,7 @@ module _ (v u a b : ℕ) (U : 0 < u) (B : 0 < b) (c : Close (16 * 2 ^ 149) (16 *
   unit-pos : 0 < u * b
   unit-pos = mul-pos U B
 
-  within : Within v u a b
+  within : NearerThan v u a b
   within = record { low = low (2 ^ 149 * a) (v * b) (u * b) unit-pos (first (2 ^ 149) (c .low)); high = high (2 ^ 149 * a) (v * b) (u * b) unit-pos (second (2 ^ 149) (c .high)) (line v u b) }
     where
       first : (P : ℕ) → 16 * v * b + 16 * P * 0 ≤ 16 * P * a + (0 + 15 * u) * b → 16 * (v * b) ≤ 16 * (P * a) + 15 * (u * b)
@@ -118,7 +118,7 @@ module _ (v u a b : ℕ) (U : 0 < u) (B : 0 < b) (c : Close (16 * 2 ^ 149) (16 *
       high x y z p h e = omega arith
 
   -- with t more above, where 32 * 2 ^ 149 * t is at most b
-  within-more : (t : ℕ) → 32 * 2 ^ 149 * t ≤ b → Within v u (a + t) b
+  within-more : (t : ℕ) → 32 * 2 ^ 149 * t ≤ b → NearerThan v u (a + t) b
   within-more t h =
       record {
         low = more (within .low) (2 ^ 149);
@@ -135,7 +135,7 @@ module _ (v u a b : ℕ) (U : 0 < u) (B : 0 < b) (c : Close (16 * 2 ^ 149) (16 *
       high P k l = omega (arith, k, l, mul-le-mul-right b U, B)
 
   -- with t more below, where 32 * v * t is at most b
-  within-less : (t : ℕ) → 32 * v * t ≤ b → Within v u a (b + t)
+  within-less : (t : ℕ) → 32 * v * t ≤ b → NearerThan v u a (b + t)
   within-less t h =
       record {
         low = low (2 ^ 149) (c .low) h;

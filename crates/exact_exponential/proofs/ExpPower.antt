@@ -9,7 +9,7 @@ use lib.Pow.{pow-pos}
 use lib.ListN.{getD}
 use Rattle.series.specs.Series.{full, num, one}
 use Rattle.series.proofs.Addition.{full-pos}
-use Rattle.series.proofs.Entries.{entry}
+use Rattle.cases.proofs.Entries.{entry}
 use Rattle.series.proofs.Exponential.{Enc, ok, tested, enclosed, times}
 use Rattle.series.proofs.ExpFraction.{scale, weaken}
 use Rattle.series.proofs.Fractions.{num-mono}

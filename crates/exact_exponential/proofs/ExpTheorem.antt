@@ -12,7 +12,7 @@ use lib.Ieee.Fits.{down-pos}
 use lib.Ieee.Bits.{ofBits-toBits, toBits-lt}
 use lib.Ieee.Exact.{HasValue}
 use Rattle.series.specs.Series.{full, num, one, Close}
-use Rattle.series.proofs.Cases.{split}
+use Rattle.cases.proofs.Cases.{split}
 use Rattle.series.proofs.WaveFraction.{wider}
 use Rattle.series.proofs.ExpFraction.{same-sum, same-rec}
 use Rattle.fixed.specs.Fixed.{scaledOf, digits}

@@ -1,14 +1,15 @@
-pub mod Terms
-pub mod PowerOfTwo
-pub mod ExpPower
-pub mod ExpNear
-pub mod Special
-pub mod ExpEnds
+-- exp and ln are less than one unit from the exact value: exp by powers and enclosures, ln by the area tangent.
+mod Terms
+mod PowerOfTwo
+mod ExpPower
+mod ExpNear
+mod Special
+mod ExpEnds
 pub mod ExpTheorem
-pub mod Exponents
-pub mod Atanh
-pub mod Twice
-pub mod LnRest
-pub mod LnSum
+mod Exponents
+mod Atanh
+mod Twice
+mod LnRest
+mod LnSum
 pub mod LnTheorem
 pub mod Enclosed

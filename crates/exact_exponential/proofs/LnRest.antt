@@ -8,7 +8,7 @@ use lib.Dec.{leb, leb→le, lit<}
 use lib.Pow.{pow-pos}
 use lib.ListN.{getD}
 use Rattle.series.specs.Series.{full, num}
-use Rattle.series.proofs.Entries.{entry}
+use Rattle.cases.proofs.Entries.{entry}
 use Rattle.series.proofs.Exponential.{ok, tested}
 use Rattle.exponential.specs.Tables.{ln2, eighths}
 use Rattle.exponential.specs.Ln.{twiceOf, index, centre, restOf}

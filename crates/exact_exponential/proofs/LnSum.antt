@@ -7,7 +7,7 @@ use lib.Dec.{lit≤, lit<}
 use lib.Pow.{pow-pos}
 use lib.Count.{leadingZeros}
 use lib.ListN.{getD}
-use Rattle.series.proofs.Cases.{split}
+use Rattle.cases.proofs.Cases.{split}
 use Rattle.fixed.specs.Fixed.{mant}
 use Rattle.fixed.proofs.Round.{rounded, place, place-is}
 use Rattle.exponential.specs.Tables.{ln2, eighths}

@@ -15,7 +15,7 @@ use lib.Ieee.Fits.{down-pos}
 use lib.Ieee.Bits.{ofBits-toBits, toBits-lt}
 use lib.Ieee.Exact.{HasValue}
 use Rattle.series.specs.Series.{full, num}
-use Rattle.series.proofs.Cases.{split}
+use Rattle.cases.proofs.Cases.{split}
 use Rattle.fixed.specs.Fixed.{mant, pattern}
 use Rattle.fixed.proofs.Round.{rounded, place, pattern-lt}
 use Rattle.fixed.proofs.Values.{value-normal, subnormal, packed-value, ulp-ge}

@@ -6,7 +6,7 @@ use native.Mathlib.Omega.{arith}
 use lib.Dec.{lit<}
 use lib.Pow.{pow-pos}
 use Rattle.series.specs.Series.{full, num, one}
-use Rattle.series.proofs.Cases.{split}
+use Rattle.cases.proofs.Cases.{split}
 use Rattle.series.proofs.Exponential.{Enc, ok, tested, times}
 use Rattle.series.proofs.ExpFraction.{weaken}
 use Rattle.exponential.specs.Tables.{ln2}

@@ -6,7 +6,7 @@ use native.Mathlib.Omega.{arith}
 use lib.Dec.{lit≤, lit<}
 use lib.Pow.{pow-pos}
 use lib.Count.{leadingZeros}
-use Rattle.series.proofs.Cases.{split}
+use Rattle.cases.proofs.Cases.{split}
 use Rattle.exponential.specs.Ln.{quotient, lengthened, twiceOf}
 use Rattle.exponential.proofs.LnRange as range
 use Rattle.exact.specs.Near.{ExpLe, ExpGe}

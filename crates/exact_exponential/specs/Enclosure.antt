@@ -8,7 +8,7 @@ use Rattle.exact.specs.Unit.{steps, ulp}
 use Rattle.exact.specs.Near.{NearExp}
 
 -- a / b is less than u / 2 ^ 149 from v / 2 ^ 149
-pub record Within (v u a b : ℕ) : Type 0 where
+pub record NearerThan (v u a b : ℕ) : Type 0 where
   pub low : v * b < 2 ^ 149 * a + u * b
   pub high : 2 ^ 149 * a < (v + u) * b
 
@@ -24,15 +24,15 @@ Inside n d N = (k : ℕ) → N ≤ k → (num one n d N * full d k ≤ num one n
 pub record Enclosed (n d v u : ℕ) : Type 0 where
   pub terms : ℕ
   pub inside : Inside n d terms
-  pub lower : Within v u (num one n d terms) (full d terms)
-  pub upper : Within v u (upperSum n d terms) (full d terms)
+  pub lower : NearerThan v u (num one n d terms) (full d terms)
+  pub upper : NearerThan v u (upperSum n d terms) (full d terms)
 
 -- e ^ -(n / d): the reciprocals of both are
 pub record EnclosedBelow (n d v u : ℕ) : Type 0 where
   pub terms : ℕ
   pub inside : Inside n d terms
-  pub upper : Within v u (full d terms) (num one n d terms)
-  pub lower : Within v u (full d terms) (upperSum n d terms)
+  pub upper : NearerThan v u (full d terms) (num one n d terms)
+  pub lower : NearerThan v u (full d terms) (upperSum n d terms)
 
 -- every case of an f32 x and a result r
 abbrev pub EnclosedExp : Float → Float → Type 0

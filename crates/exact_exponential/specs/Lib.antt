@@ -1,1 +1,2 @@
+-- exp enclosed by two fractions.
 pub mod Enclosure

@@ -7,7 +7,7 @@ use native.Mathlib.Omega.{arith}
 use lib.Dec.{ltb, lit≤, lit<}
 use lib.Pow.{pow-mono}
 use borrow.Author.Tests.{le-ltb, lt-ltb, le-leb, lt-leb}
-use Rattle.series.proofs.Cases.{split}
+use Rattle.cases.proofs.Cases.{split}
 use Rattle.fixed.specs.Fixed.{pick, scaledOf}
 use Rattle.exponential.specs.Exp.{grown, shrunk, rounded, lowered, upper, lower, sized, expBits}
 

@@ -8,7 +8,7 @@ use lib.Dec.{T, leb, leb→le, lit≤}
 use lib.Pow.{pow-mono}
 use lib.Ieee.Fits.{and-l, and-r}
 use lib.ListN.{getD}
-use Rattle.series.proofs.Entries.{entry}
+use Rattle.cases.proofs.Entries.{entry}
 use Rattle.exponential.specs.Tables.{ln2, sixteenths}
 use Rattle.exponential.specs.Exp.{term, sumTo, riseOf, factor, left, powerOf}
 

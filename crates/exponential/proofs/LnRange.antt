@@ -9,8 +9,8 @@ use lib.Pow.{pow-pos, pow-mono, pow-add}
 use lib.Count.{leadingZeros, leading-top}
 use lib.ListN.{getD}
 use borrow.Author.Tests.{le-leb, lt-leb}
-use Rattle.series.proofs.Cases.{split}
-use Rattle.series.proofs.Entries.{entry}
+use Rattle.cases.proofs.Cases.{split}
+use Rattle.cases.proofs.Entries.{entry}
 use Rattle.fixed.specs.Fixed.{pick}
 use Rattle.exponential.specs.Tables.{ln2, eighths}
 use Rattle.exponential.specs.Ln.{excessOf, quotient, lengthened, twiceOf, index, centre, restOf}

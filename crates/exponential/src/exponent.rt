@@ -37,9 +37,9 @@ fn rise(u: u64) -> u64
     requires { ⌜ u < 2 ^ 32 ⌝ }
     ensures { λ r. ⌜ r ≡ riseOf u ⌝ }
 {
-    let t2 = u * u / 137438953472;
+    let t2 = u * u / 0x20_0000_0000;
     let t3 = t2 * u / 206158430208;
-    let t4 = t3 * u / 274877906944;
+    let t4 = t3 * u / 0x40_0000_0000;
     let t5 = t4 * u / 343597383680;
     u + t2 + t3 + t4 + t5
 }
@@ -50,9 +50,9 @@ fn power(r: u64) -> u64
     ensures { λ h. ⌜ h ≡ powerOf r ⌝ }
 {
     // the sixteenths of r, and 32 bits of what is left
-    let f = sixteenth(r / 4503599627370496);
-    let p = rise(r % 4503599627370496 / 1048576);
-    f + f / 4294967296 * p / 16
+    let f = sixteenth(r / 0x10_0000_0000_0000);
+    let p = rise(r % 0x10_0000_0000_0000 / 0x10_0000);
+    f + f / 0x1_0000_0000 * p / 16
 }
 
 // What depends on the sign s of x alone stands in small functions of its own, which compile to no branch.
@@ -105,7 +105,7 @@ fn packed(s: u32, e: u64, h: u64) -> u32
     if 1125 < e + (s as u64) * 1000 {
         return (((h >> (e - 87)) + 1) / 2) as u32;
     }
-    field(s, e as u32) * 8388608 + (((h >> 38) + 1) / 2) as u32
+    field(s, e as u32) * 0x80_0000 + (((h >> 38) + 1) / 2) as u32
 }
 
 // the pattern of e^x, or of e^-x, x in units of 2^-56
@@ -120,14 +120,14 @@ fn signed(s: u32, x: u64) -> u32
 pub fn exp_bits(b: u32) -> u32
     ensures { λ r. ⌜ r ≡ expBits b ⌝ }
 {
-    let a = b % 2147483648;
+    let a = b % 0x8000_0000;
     if 0x7f800000 < a {
         return 0x7fc00000;
     }
     if a < 0x33000000 {
         return 0x3f800000;
     }
-    let s = b / 2147483648;
+    let s = b / 0x8000_0000;
     if limit(s) <= a {
         return past(s);
     }

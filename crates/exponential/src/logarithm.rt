@@ -33,8 +33,8 @@ fn excess(s: u64) -> u64
     requires { ⌜ s ≤ 2 ^ 29 ⌝ }
     ensures { λ r. ⌜ r ≡ excessOf s ⌝ }
 {
-    let u = s * s / 17179869184;
-    u / 3 + u * u / 17179869184 / 5
+    let u = s * s / 0x4_0000_0000;
+    u / 3 + u * u / 0x4_0000_0000 / 5
 }
 
 // ln ((d + n) / (d - n)) in units of 2^-56. The quotient n / d has as many places as fit: it is in units of 2^-l.
@@ -48,7 +48,7 @@ fn twice(n: u64, d: u64) -> u64
     let l = u64::leading_zeros(n);
     let q = (n << l) / d;
     let g = excess(q >> (l - 34));
-    ((q + q * g / 17179869184) * 1048576) >> (l - 37)
+    ((q + q * g / 0x4_0000_0000) * 0x10_0000) >> (l - 37)
 }
 
 // a small function of its own, so that it compiles to no branch: which of the two is larger cannot be foreseen
@@ -66,8 +66,8 @@ fn rest(m: u64) -> u64
     requires { ⌜ (2 ^ 23 ≤ m) × (m < 2 ^ 24) ⌝ }
     ensures { λ r. ⌜ r ≡ restOf m ⌝ }
 {
-    let i = (m - 7864320) / 1048576;
-    let c = (8 + i) * 1048576;
+    let i = (m - 7864320) / 0x10_0000;
+    let c = (8 + i) * 0x10_0000;
     let y = eighth(i);
     let a = twice(distance(m, c), m + c);
     if c <= m {
@@ -91,14 +91,14 @@ fn below_bits(m: u64, e: u64) -> u32
     ensures { λ v. ⌜ v ≡ below m e ⌝ }
 {
     let y = rest(m);
-    2147483648 + pack(e * LN2 - y)
+    0x8000_0000 + pack(e * LN2 - y)
 }
 
 // from the pattern of x to that of its logarithm
 pub fn ln_bits(b: u32) -> u32
     ensures { λ r. ⌜ r ≡ lnBits b ⌝ }
 {
-    if b % 2147483648 == 0 {
+    if b % 0x8000_0000 == 0 {
         return 0xff800000;
     }
     if 0x7f800000 < b {
@@ -111,10 +111,16 @@ pub fn ln_bits(b: u32) -> u32
         if b == 0x3f800000 {
             return 0;
         }
-        return above_bits((8388608 + b % 8388608) as u64, (b / 8388608 - 127) as u64);
+        return above_bits(
+            (0x80_0000 + b % 0x80_0000) as u64,
+            (b / 0x80_0000 - 127) as u64,
+        );
     }
-    if 8388608 <= b {
-        return below_bits((8388608 + b % 8388608) as u64, (127 - b / 8388608) as u64);
+    if 0x80_0000 <= b {
+        return below_bits(
+            (0x80_0000 + b % 0x80_0000) as u64,
+            (127 - b / 0x80_0000) as u64,
+        );
     }
     let z = u32::leading_zeros(b);
     below_bits((b << (z - 8)) as u64, (118 + z) as u64)

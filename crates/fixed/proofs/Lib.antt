@@ -1,3 +1,4 @@
+-- Products, rounding, values and sizes of packed numbers.
 pub mod Product
 pub mod Round
 pub mod Values

@@ -8,7 +8,7 @@ use lib.Dec.{leb}
 use lib.Pow.{pow-pos, pow-mono, pow-add}
 use lib.Ieee.{binary32, ofBits}
 use lib.Ieee.Exact.{HasValue}
-use Rattle.series.proofs.Cases.{split}
+use Rattle.cases.proofs.Cases.{split}
 use Rattle.fixed.specs.Fixed.{digits}
 use Rattle.fixed.proofs.Values.{normal-value, subnormal}
 

@@ -1,18 +1,18 @@
 -- What a bit pattern stands for, and the unit of the last place of a value: the exponent field moves the significand up, and a significand of 2 ^ 24 carries into it.
 use mathlib.Core.Path.{_≡_, refl, sym, ap, ap₂, _∙_, subst, subst₂}
-use mathlib.Core.Bool.{Bool, cond}
-use Prim.Native.Nat.{ℕ, suc, _+_, _-_, _*_, _/_, _%_, _^_, _≤_, _<_}
-use native.Mathlib.Nat.{le-trans, le-of-eq, le-of-lt, lt-of-not-le, lt-of-le-of-lt, lt-of-lt-of-le, not-le-of-lt, mul-le-mul, mul-le-mul-right, mul-lt-mul-of-pos-right}
+use mathlib.Core.Bool.{Bool, true, false, cond}
+use Prim.Native.Nat.{ℕ, zero, suc, _+_, _-_, _*_, _/_, _%_, _^_, _≤_, _<_}
+use native.Mathlib.Nat.{le-trans, le-of-eq, le-of-lt, lt-of-not-le, lt-of-le-of-lt, lt-of-lt-of-le, not-le-of-lt, not-suc-le-zero, mul-le-mul, mul-le-mul-right, mul-lt-mul-of-pos-right}
 use native.Mathlib.Omega.{arith}
-use lib.Dec.{T, leb, eqb, not-T, eqb→eq, lit<, lit≤}
+use lib.Dec.{T, leb, eqb, eqb·suc-zero, not-T, eqb→eq, lit<, lit≤}
 use lib.Pow.{pow-pos, pow-mono, pow-add}
-use lib.Ieee.{Float, nan, inf, binary32, up, size, odd, ofFields, ofBits}
+use lib.Ieee.{Float, nan, inf, binary32, up, size, odd, ofFields, ofBits, isNan}
 use lib.Ieee.Digits.{size-lt, size-le}
 use lib.Ieee.Bits.{cond-no}
 use lib.Ieee.Exact.{HasValue, odd-sign}
 use borrow.Author.Tests.{le-leb, lt-leb}
 use lib.Count.{leadingZeros}
-use Rattle.series.proofs.Cases.{split}
+use Rattle.cases.proofs.Cases.{split}
 use Rattle.fixed.specs.Fixed.{digits, mant, pattern}
 use Rattle.fixed.proofs.Round.{rounded, place, pattern-lt}
 
@@ -22,7 +22,7 @@ differ x h e = omega arith
 
 fields-is : (s : Bool) (t x : ℕ) → suc x < 255 → ofFields binary32 s (suc x) t ≡ odd 24 s (2 ^ 23 + t) x 149
 unfolding ofFields
-fields-is s t x h = cond-no (eqb (suc x) 255) (cond (eqb t 0) (inf s) nan) (odd 24 s (8388608 + t) x 149) (not-T (eqb (suc x) 255) (λ (u : T (eqb (suc x) 255)). differ x h (eqb→eq (suc x) 255 u)))
+fields-is s t x h = cond-no (eqb (suc x) 255) (cond (eqb t 0) (inf s) nan) (odd 24 s (0x80_0000 + t) x 149) (not-T (eqb (suc x) 255) (λ (u : T (eqb (suc x) 255)). differ x h (eqb→eq (suc x) 255 u)))
 
 fields-zero : (s : Bool) (t : ℕ) → ofFields binary32 s 0 t ≡ odd 24 s t 0 149
 unfolding ofFields
@@ -56,6 +56,20 @@ bits-255 b h = bits-is b ∙ ap (λ (y : ℕ). ofFields binary32 (leb (2 ^ 31) b
   where
     fields-255 : (s : Bool) (t : ℕ) → ofFields binary32 s 255 t ≡ cond (eqb t 0) (inf s) nan
     fields-255 s t = refl
+
+not-zero : (t : ℕ) → 1 ≤ t → eqb t 0 ≡ false
+not-zero zero h = absurd (not-suc-le-zero h)
+not-zero (suc t) h = eqb·suc-zero t
+
+pub is-nan : (b : ℕ) → 0x7f80_0000 < b % 2 ^ 31 → isNan (ofBits binary32 b) ≡ true
+unfolding isNan
+is-nan b h = ap isNan (bits-255 b (omega arith) ∙ ap (λ (y : Bool). cond y (inf (leb (2 ^ 31) b)) nan) (not-zero (b % 2 ^ 23) (omega arith)))
+
+pub is-inf : (b : ℕ) → b % 2 ^ 31 ≡ 0x7f80_0000 → ofBits binary32 b ≡ inf (leb (2 ^ 31) b)
+is-inf b e = bits-255 b (omega arith) ∙ ap (λ (t : ℕ). cond (eqb t 0) (inf (leb (2 ^ 31) b)) nan) (zero-rest e)
+  where
+    zero-rest : b % 2 ^ 31 ≡ 0x7f80_0000 → b % 2 ^ 23 ≡ 0
+    zero-rest e = omega arith
 
 pub subnormal : (b : ℕ) → b % 2 ^ 31 < 2 ^ 23 → HasValue (ofBits binary32 b) (leb (2 ^ 31) b) (b % 2 ^ 23 * 1) (2 ^ 149)
 subnormal b h =

@@ -1,1 +1,2 @@
+-- Whole-number helpers: high product, rounded packing, shifts.
 pub mod Fixed

@@ -7,14 +7,14 @@ ghost use Rattle.fixed.specs.Fixed.{scaledOf, mant, pattern};
 pub fn high_product(u: u64, v: u64) -> u64
     ensures { λ r. ⌜ r ≡ u * v / 2 ^ 64 ⌝ }
 {
-    let p = u / 4294967296;
-    let q = u % 4294967296;
-    let s = v / 4294967296;
-    let t = v % 4294967296;
+    let p = u / 0x1_0000_0000;
+    let q = u % 0x1_0000_0000;
+    let s = v / 0x1_0000_0000;
+    let t = v % 0x1_0000_0000;
     let x = p * t;
     let y = q * s;
-    let column = x % 4294967296 + y % 4294967296 + q * t / 4294967296;
-    p * s + x / 4294967296 + y / 4294967296 + column / 4294967296
+    let column = x % 0x1_0000_0000 + y % 0x1_0000_0000 + q * t / 0x1_0000_0000;
+    p * s + x / 0x1_0000_0000 + y / 0x1_0000_0000 + column / 0x1_0000_0000
 }
 
 // 2^k
@@ -30,8 +30,8 @@ pub fn scaled(a: u32, k: u32) -> u64
     requires { ⌜ (k ≤ a / 2 ^ 23) × (a / 2 ^ 23 ≤ k + 39) ⌝ }
     ensures { λ r. ⌜ r ≡ scaledOf a k ⌝ }
 {
-    let m = (8388608 + a % 8388608) as u64;
-    let e = a / 8388608 - k;
+    let m = (0x80_0000 + a % 0x80_0000) as u64;
+    let e = a / 0x80_0000 - k;
     m << e
 }
 
@@ -49,5 +49,5 @@ pub fn pack(s: u64) -> u32
     requires { ⌜ (2 ^ 30 ≤ s) × (s < 2 ^ 64) ⌝ }
     ensures { λ r. ⌜ r ≡ pattern s ⌝ }
 {
-    (133 - u64::leading_zeros(s)) * 8388608 + significand(s)
+    (133 - u64::leading_zeros(s)) * 0x80_0000 + significand(s)
 }

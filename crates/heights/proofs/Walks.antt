@@ -10,11 +10,11 @@ use native.Mathlib.Omega.{arith}
 use lib.Dec.{T, eqb, ltb, eqb→eq, ltb→lt}
 use lib.Ieee.{Float, binary32, fits}
 use lib.Ieee.Fits.{and-l, and-r, sub-fits}
-use Rattle.scalar.specs.F32.{_+f_, _-f_, _*f_, _<f_, _≤f_, _≥f_}
+use Rattle.scalar.specs.F32.{_+f_, _-f_, _*f_, _<f_, _≤f_, _≥f_, at}
 use Rattle.scalar.specs.Literals.{f0}
 use Rattle.layers.specs.declared.IonoState.{IonoState}
 use Rattle.profile.specs.Rising.{risesFrom, risesOf}
-use Rattle.readings.specs.Scan.{at, readingOf, profileInterpolateOf}
+use Rattle.readings.specs.Scan.{readingOf, profileInterpolateOf}
 use Rattle.readings.specs.Cursor.{countOf}
 use Rattle.readings.specs.declared.Reading.{Reading}
 use Rattle.readings.specs.declared.Read.{Read}

@@ -6,12 +6,12 @@ use native.Mathlib.Omega.{arith}
 use lib.Dec.{T}
 use lib.Ieee.{Float, binary32}
 use lib.Ieee.Fits.{sub-fits}
-use Rattle.scalar.specs.F32.{_-f_, _*f_, _≤f_}
+use Rattle.scalar.specs.F32.{_-f_, _*f_, _≤f_, at}
 use Rattle.scalar.specs.Literals.{f0}
 use Rattle.layers.specs.declared.IonoState.{IonoState}
 use Rattle.layers.specs.State.{withProfile}
 use Rattle.profile.specs.Rising.{risesOf}
-use Rattle.readings.specs.Scan.{at, profileInterpolateOf}
+use Rattle.readings.specs.Scan.{profileInterpolateOf}
 use Rattle.readings.specs.Cursor.{countOf}
 use Rattle.walk.specs.Walk.{Held}
 use Rattle.walk.proofs.Cursor.{count-bound}

@@ -4,14 +4,13 @@ use mathlib.Core.List.{List, [], _∷_}
 use Prim.Native.Nat.{ℕ, _+_, _*_}
 use lib.Dec.{ltb}
 use lib.Ieee.{Float}
-use Rattle.scalar.specs.F32.{_+f_, _-f_, _*f_, _/f_}
+use Rattle.scalar.specs.F32.{_+f_, _-f_, _*f_, _/f_, at}
 use Rattle.scalar.specs.Literals.{f0·5, f0·999, f1, f1·001}
 use Rattle.scalar.specs.Scalar.{minOf, maxOf}
 use Rattle.exponential.specs.Ln.{lnOf}
 use Rattle.refusal.specs.declared.Refusal.{Refusal}
 use Rattle.refusal.specs.Number.{numberOf}
 use Rattle.layers.specs.declared.IonoState.{IonoState}
-use Rattle.readings.specs.Scan.{at}
 use Rattle.heights.specs.declared.LayerNumber.{LayerNumber}
 
 unfoldable pub bendyOf : IonoState → ℕ → ℕ → Float → Float

@@ -4,13 +4,13 @@ use mathlib.Core.Bool.{Bool, true, false}
 use mathlib.Core.List.{List}
 use Prim.Native.Nat.{ℕ, zero, suc}
 use lib.Ieee.{Float}
-use Rattle.scalar.specs.F32.{_+f_, _-f_, _*f_, _/f_, _≤f_}
+use Rattle.scalar.specs.F32.{_+f_, _-f_, _*f_, _/f_, _≤f_, at}
 use Rattle.scalar.specs.Literals.{f0, f0·9999, f1}
 use Rattle.scalar.specs.Scalar.{minOf}
 use Rattle.scalar.specs.Root.{sqrtOf}
 use Rattle.layers.specs.declared.IonoState.{IonoState}
 use Rattle.profile.specs.Rising.{risesOf}
-use Rattle.readings.specs.Scan.{at, valueOf, profileInterpolateOf, readingOf}
+use Rattle.readings.specs.Scan.{valueOf, profileInterpolateOf, readingOf}
 use Rattle.readings.specs.Cursor.{countOf}
 use Rattle.readings.specs.declared.Reading.{Reading}
 use Rattle.heights.specs.Nodes.{wt, xnpl, twdiv, heightOf, heightAt}
@@ -48,7 +48,11 @@ unfoldable pub cursorBy : Bool → List Float → Float → ℕ
 cursorBy true htr ht = countOf htr (heightAt (at htr 0) ht 39)
 cursorBy false htr ht = 0
 
-unfoldable pub gethpOf : IonoState → Float → Heights
+-- ---- ways of finding the two heights of a frequency on a state. A definition that takes one, as `find`, is named With; with `gethpOf`, the contracts' way, it is named Of
+abbrev pub Finder : Type 0
+Finder = IonoState → Float → Heights
+
+unfoldable pub gethpOf : Finder
 gethpOf s fxx =
     let htr = s .htr in
     let fnsq = s .fnsq in
@@ -56,7 +60,7 @@ gethpOf s fxx =
     gethpBy (fr -f at fnsq 0 ≤f f0) htr fnsq fr (λ ht. ysqOf htr fnsq ht fr) (λ ht. cursorBy (risesOf htr) htr ht)
 
 -- by forty scans on every profile: no walk, so no cursor
-unfoldable pub gethpScanOf : IonoState → Float → Heights
+unfoldable pub gethpScanOf : Finder
 gethpScanOf s fxx =
     let htr = s .htr in
     let fnsq = s .fnsq in

@@ -1,3 +1,4 @@
+-- Heights of reflection: the nodes of the sum, `gethp`, its walk, `bendy` and `pen`, `xlin`, and what is said of the forty reads.
 pub mod Nodes
 pub mod Gethp
 pub mod Walk

@@ -4,11 +4,10 @@ use mathlib.Core.List.{List, [], _∷_}
 use Prim.Native.Nat.{ℕ, _-_}
 use lib.Dec.{ltb, eqb}
 use lib.Ieee.{Float}
-use Rattle.scalar.specs.F32.{_+f_, _-f_, _*f_, _≥f_}
+use Rattle.scalar.specs.F32.{_+f_, _-f_, _*f_, _≥f_, at}
 use Rattle.scalar.specs.Literals.{f0, f0·5, f1}
 use Rattle.scalar.specs.Literals.{f0·0387724175, f0·1160840707, f0·1926975807, f0·268152185, f0·3419940908, f0·4137792043, f0·4830758017, f0·5494671251, f0·6125538897, f0·6719566846, f0·7273182552, f0·7783056514, f0·8246122308, f0·8659595032, f0·902098807, f0·9328128083, f0·9579168192, f0·97725995, f0·9907262387, f0·9982377097}
 use Rattle.scalar.specs.Literals.{f0·077505948, f0·0770398182, f0·0761103619, f0·0747231691, f0·0728865824, f0·0706116474, f0·0679120458, f0·0648040135, f0·0613062425, f0·0574397691, f0·053227847, f0·0486958076, f0·0438709082, f0·038782168, f0·0334601953, f0·027937007, f0·0222458492, f0·0164210584, f0·0104982845, f0·0045212771}
-use Rattle.readings.specs.Scan.{at}
 
 -- XT: how far the nodes of each pair lie from the middle
 unfoldable pub xt : List Float

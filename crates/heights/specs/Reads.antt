@@ -5,11 +5,11 @@ use mathlib.Core.Bool.{false}
 use lib.Dec.{T}
 use lib.Ieee.{Float}
 use lib.Ieee.Scale.{finite}
-use Rattle.scalar.specs.F32.{_-f_, _*f_, _≤f_}
+use Rattle.scalar.specs.F32.{_-f_, _*f_, _≤f_, at}
 use Rattle.scalar.specs.Literals.{f0}
 use Rattle.order.specs.Units.{real}
 use Rattle.layers.specs.declared.IonoState.{IonoState}
-use Rattle.readings.specs.Scan.{at, profileInterpolateOf, readingOf}
+use Rattle.readings.specs.Scan.{profileInterpolateOf, readingOf}
 use Rattle.readings.specs.Cursor.{countOf}
 use Rattle.walk.specs.Walk.{movesOf}
 use Rattle.heights.specs.Nodes.{heightAt}

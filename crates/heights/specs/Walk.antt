@@ -5,13 +5,13 @@ use Prim.Native.Nat.{ℕ, zero, suc, _+_, _-_, _*_, _/_, _%_}
 use lib.Dec.{eqb}
 use lib.ListN.{set, replicate}
 use lib.Ieee.{Float}
-use Rattle.scalar.specs.F32.{_-f_, _*f_, _≤f_, _≥f_}
+use Rattle.scalar.specs.F32.{_-f_, _*f_, _≤f_, _≥f_, at}
 use Rattle.scalar.specs.Literals.{f0}
-use Rattle.readings.specs.Scan.{at}
+use Rattle.profile.specs.Rising.{risesOf}
 use Rattle.readings.specs.declared.Read.{Read}
 use Rattle.walk.specs.Walk.{cursorBefore, walkRead}
 use Rattle.heights.specs.Nodes.{igAt, ibAt, heightAt}
-use Rattle.heights.specs.Gethp.{cutOf, ysqOf, gethpBy}
+use Rattle.heights.specs.Gethp.{cutOf, ysqOf, gethpBy, Finder}
 use Rattle.heights.specs.declared.Heights.{Heights}
 
 -- read k of the walk, and the cursor after n reads
@@ -49,10 +49,14 @@ gethpReadOf rises htr fnsq fxx =
     let fr = fxx *f fxx in
     gethpBy (fr -f at fnsq 0 ≤f f0) htr fnsq fr (λ ht. ysqReadBy rises htr fnsq ht fr) (λ ht. cursorReadBy rises htr fnsq ht)
 
+-- the code's way of finding heights: one walk where the heights pass the rising test, and forty scans where they do not
+unfoldable pub gethpWalkOf : Finder
+gethpWalkOf s fxx = gethpReadOf (risesOf (s .htr)) (s .htr) (s .fnsq) fxx
+
 -- ---- the densities in a flat table, ysq[ig][ib] at 2 * ig + ib: after n reads, each put at its place
-unfoldable pub filled : (ℕ → ℕ) → (ℕ → Float) → ℕ → List Float
-filled place density zero = replicate 40 f0
-filled place density (suc n) = set (filled place density n) (place n) (density n)
+unfoldable pub placed : (ℕ → ℕ) → (ℕ → Float) → ℕ → List Float
+placed place density zero = replicate 40 f0
+placed place density (suc n) = set (placed place density n) (place n) (density n)
 
 abbrev pub placeAt : Bool → ℕ → ℕ
 placeAt up k = 2 * igAt k + ibAt up k
@@ -61,10 +65,10 @@ abbrev pub flat : List Float → ℕ → ℕ → Float
 flat ysq ig ib = at ysq (2 * ig + ib)
 
 unfoldable pub walkTable : List Float → List Float → Float → Float → ℕ → List Float
-walkTable htr fnsq ht fr n = filled (placeAt (ht ≥f f0)) (λ k. cutOf (readAt htr fnsq ht k .reading) fr) n
+walkTable htr fnsq ht fr n = placed (placeAt (ht ≥f f0)) (λ k. cutOf (readAt htr fnsq ht k .reading) fr) n
 
 unfoldable pub scanTable : List Float → List Float → Float → Float → ℕ → List Float
-scanTable htr fnsq ht fr n = filled (λ k. k) (λ k. ysqOf htr fnsq ht fr (k / 2) (k % 2)) n
+scanTable htr fnsq ht fr n = placed (λ k. k) (λ k. ysqOf htr fnsq ht fr (k / 2) (k % 2)) n
 
 abbrev pub tableBy : Bool → List Float → List Float → Float → Float → List Float
 tableBy true htr fnsq ht fr = walkTable htr fnsq ht fr 40

@@ -2,9 +2,9 @@
 use mathlib.Core.Bool.{Bool, true, false}
 use mathlib.Core.List.{List}
 use lib.Ieee.{Float}
-use Rattle.scalar.specs.F32.{_-f_, _>f_}
+use Rattle.scalar.specs.F32.{_-f_, _>f_, at}
 use Rattle.scalar.specs.Literals.{f0}
-use Rattle.readings.specs.Scan.{at, profileInterpolateOf}
+use Rattle.readings.specs.Scan.{profileInterpolateOf}
 
 abbrev pub xlinBy : Bool → Float → List Float → List Float → Float
 xlinBy true x xn yn = at yn 0

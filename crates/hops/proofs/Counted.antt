@@ -18,5 +18,5 @@ next-fits (negsuc n) p q = let e : _≡_ {A = ℕ} 0 1 = cc in omega arith
 
 pub next-float : (z : ℤ) → ltZ z (pos 0) ≡ false → ltZ (pos 999) z ≡ false → T (inFloat binary32 (z +ℤ pos 1))
 unfolding inFloat
-next-float (pos n) p q = let h = ltb-false 999 n q in le→leb (n + 1) 16777216 (le-trans {m = 1024} (omega arith) (lit≤ tt))
+next-float (pos n) p q = let h = ltb-false 999 n q in le→leb (n + 1) 0x100_0000 (le-trans {m = 1024} (omega arith) (lit≤ tt))
 next-float (negsuc n) p q = let e : _≡_ {A = ℕ} 0 1 = cc in absurd (omega arith)

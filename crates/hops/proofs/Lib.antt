@@ -1,1 +1,2 @@
-pub mod Counted
+-- A hop count is a whole number within its bounds.
+mod Counted

@@ -5,26 +5,18 @@ use lib.IntN.{ℤ, pos, _+ℤ_}
 use lib.Signed.{ltZ}
 use lib.Ieee.{Float, binary32, ofInt}
 use Rattle.scalar.specs.F32.{_+f_, _-f_, _*f_, _/f_}
-use Rattle.scalar.specs.Literals.{f0, f0·01745329251, f0·5, f1, f1·570796326, f2, f6370}
+use Rattle.scalar.specs.Literals.{f0, f0·5, f1, f2}
 use Rattle.scalar.specs.Scalar.{maxOf, truncOf}
 use Rattle.scalar.specs.Root.{sqrtOf}
-use Rattle.circular.specs.SinCos.{sinOf, cosOf}
-use Rattle.circular.specs.Asin.{asinOf}
-use Rattle.circular.specs.Atan.{atanOf}
+use Rattle.constants.specs.Constants.{D2R, PIO2, RZ}
+use Rattle.waves.specs.SinCos.{sinOf, cosOf}
+use Rattle.arcs.specs.Asin.{asinOf}
+use Rattle.arcs.specs.Atan.{atanOf}
 use Rattle.refusal.specs.declared.Refusal.{Refusal}
 use Rattle.refusal.specs.Number.{numberOf}
 use Rattle.hops.specs.declared.Hops.{Hops}
 use Rattle.hops.specs.declared.HopGeometry.{HopGeometry}
 use Rattle.hops.specs.declared.Geometry.{Geometry}
-
-abbrev pub D2R : Float
-D2R = f0·01745329251
-
-abbrev pub PIO2 : Float
-PIO2 = f1·570796326
-
-abbrev pub RZ : Float
-RZ = f6370
 
 -- The hop count before it is cut to a whole number, for a layer at height h.
 unfoldable pub hopRatioOf : Float → Float → Float → Float

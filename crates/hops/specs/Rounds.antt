@@ -5,7 +5,8 @@ use lib.Ieee.{Float}
 use Rattle.scalar.specs.F32.{_+f_, _-f_, _*f_, _/f_, _≤f_}
 use Rattle.scalar.specs.Literals.{f0, f0·1, f2}
 use Rattle.scalar.specs.Scalar.{absOf}
-use Rattle.hops.specs.Geometry.{RZ, delOf, spheOf, secpOf}
+use Rattle.constants.specs.Constants.{RZ}
+use Rattle.hops.specs.Geometry.{delOf, spheOf, secpOf}
 use Rattle.hops.specs.declared.Ray.{Ray}
 use Rattle.hops.specs.declared.Round.{Round}
 

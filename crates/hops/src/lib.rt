@@ -2,14 +2,10 @@
 ghost use mathlib.Core.Path.{_≡_};
 ghost use Rattle.hops.specs.Geometry.{hopRatioOf, hopsOf, hopsNumber, hopsValue, psiOf, delOf, spheOf, secpOf, hopGeometryOf, geometryOf, geometryNumber, geometryValue};
 ghost use Rattle.hops.specs.Rounds.{sphOf, roundOf, settledOf, roundsOf};
+use constants::D2R;
+use constants::PIO2;
+use constants::RZ;
 use refusal::Refusal;
-
-// degrees to radians
-const D2R: f32 = 0.01745329251;
-// half pi
-const PIO2: f32 = 1.570796326;
-// the Earth's radius, km
-const RZ: f32 = 6370.0;
 
 // The number of hops, as the float that the geometry takes.
 pub enum Hops {
@@ -60,7 +56,7 @@ fn hop_ratio(gcdkm: f32, amind: f32, h: f32) -> f32
 {
     let dele = scalar::max(amind, 0.0);
     let del = dele * D2R;
-    let phe = circular::asin(RZ * circular::cos(del) / (RZ + h));
+    let phe = arcs::asin(RZ * waves::cos(del) / (RZ + h));
     0.5 * gcdkm / ((PIO2 - del - phe) * RZ)
 }
 
@@ -115,7 +111,7 @@ fn takeoff(psi: f32, cpsi: f32, spsi: f32, hp: f32) -> f32
     ensures { λ r. ⌜ r ≡ delOf psi cpsi spsi hp ⌝ }
 {
     let tanp = spsi / (1.0 - cpsi + hp / RZ);
-    let phe = circular::atan(tanp);
+    let phe = arcs::atan(tanp);
     PIO2 - phe - psi
 }
 
@@ -123,7 +119,7 @@ fn takeoff(psi: f32, cpsi: f32, spsi: f32, hp: f32) -> f32
 fn incidence(del: f32, ht: f32) -> f32
     ensures { λ r. ⌜ r ≡ spheOf del ht ⌝ }
 {
-    let cdel = circular::cos(del);
+    let cdel = waves::cos(del);
     RZ * cdel / (RZ + ht)
 }
 
@@ -138,8 +134,8 @@ fn hop_angles(gcdkm: f32, xhops: f32, hp: f32, ht: f32, split_first: bool) -> Ho
     ensures { λ r. ⌜ r ≡ hopGeometryOf gcdkm xhops hp ht «split_first» ⌝ }
 {
     let psi = half_angle(gcdkm, xhops, split_first);
-    let cpsi = circular::cos(psi);
-    let spsi = circular::sin(psi);
+    let cpsi = waves::cos(psi);
+    let spsi = waves::sin(psi);
     let del = takeoff(psi, cpsi, spsi, hp);
     let sphe = incidence(del, ht);
     let secp = secant(sphe);

@@ -1,3 +1,4 @@
+-- The controlling slot, the tangent frequencies, and the layer lines.
 pub mod Controlling
 pub mod Tangents
 pub mod Lines

@@ -1,9 +1,11 @@
 // The slot that controls a MUF hour, and its E, F2 and F1 lines.
 ghost use mathlib.Core.Path.{_≡_};
 ghost use Prim.Native.Nat.{_<_};
+ghost use Rattle.heights.specs.Gethp.{gethpOf};
 ghost use Rattle.layer_mufs.specs.Controlling.{compareE, controllingOf};
 ghost use Rattle.layer_mufs.specs.Tangents.{xtOf, fx1Of, betaOf, f2TangentOf, tangentsOf};
-ghost use Rattle.layer_mufs.specs.Lines.{tenthOf, lineOf, zeroLine, lineNumber, lineValue, byProfileOf, eHeightsOf, eFoundOf, eLineOf, parabolicOf, f2HeightsOf, bentOf, deviationsNumber, lowerValue, upperValue, deviationsOf, f2BentOf, f2LineOf, f1FoundOf, f1OwnOf, f1LineOf};
+ghost use Rattle.layer_mufs.specs.Lines.{tenthOf, layerLineOf, zeroLine, lineNumber, lineValue, eHeightsWith, eFoundOf, eLineOf, parabolicOf, f2HeightsWith, bentOf, deviationsNumber, lowerValue, upperValue, deviationsOf, f2BentOf, f2LineOf, f1FoundOf, f1OwnWith, f1LineOf};
+use constants::R2D;
 use deciles::Deviation;
 use hops::Geometry;
 use hops::HopGeometry;
@@ -14,12 +16,9 @@ use layers::LayerMuf;
 use profile::Slot;
 use refusal::Refusal;
 
-// radians to degrees
-const R2D: f32 = 57.295779513;
-
 // The numbers of a circuit: path length in radians and in kilometres, least takeoff angle in
 // degrees, sunspot number.
-pub struct Circuit {
+pub struct PathNumbers {
     pub gcd: f32,
     pub gcdkm: f32,
     pub amind: f32,
@@ -40,7 +39,7 @@ pub struct Tangents {
 }
 
 // Virtual and true height.
-pub struct Pair {
+pub struct HeightPair {
     pub hp: f32,
     pub ht: f32,
 }
@@ -161,7 +160,7 @@ pub fn line(
     xhops: f32,
     muf: f32,
 ) -> LayerMuf
-    ensures { λ r. ⌜ r ≡ lineOf sigl sigu del hp ht fv xhops muf ⌝ }
+    ensures { λ r. ⌜ r ≡ layerLineOf sigl sigu del hp ht fv xhops muf ⌝ }
 {
     let nhopmf = scalar::trunc(xhops);
     LayerMuf {
@@ -218,30 +217,22 @@ pub fn line_value(a: LineAnswer) -> LayerMuf
     }
 }
 
-// Whether the profile alone gives heights.
-fn by_profile(t: IonoState) -> bool
-    ensures { λ r. ⌜ r ≡ byProfileOf t ⌝ }
-{
-    let iedp = t.iedp;
-    iedp < 0
-}
-
 // Off the profile, or fixed: those of a parabola that peaks at 110 km and is 20 km in
 // semi-thickness.
-fn e_heights(t: IonoState, fxe: f32) -> Pair
-    ensures { λ r. ⌜ r ≡ eHeightsOf t fxe ⌝ }
+fn e_heights(t: IonoState, fxe: f32) -> HeightPair
+    ensures { λ r. ⌜ r ≡ eHeightsWith gethpOf t fxe ⌝ }
 {
-    if by_profile(t) {
+    if layers::profile_only(t) {
         let h = heights::gethp(t, fxe);
-        return Pair { hp: h.hp, ht: h.ht };
+        return HeightPair { hp: h.hp, ht: h.ht };
     }
-    Pair {
+    HeightPair {
         hp: 125.30,
         ht: 104.25,
     }
 }
 
-fn e_found(g: HopGeometry, h: Pair, fxe: f32) -> LayerMuf
+fn e_found(g: HopGeometry, h: HeightPair, fxe: f32) -> LayerMuf
     ensures { λ r. ⌜ r ≡ eFoundOf g h fxe ⌝ }
 {
     let emuf = fxe * g.secp;
@@ -264,37 +255,37 @@ pub fn e_line(t: IonoState, fxe: f32, gcdkm: f32, amind: f32) -> LineAnswer
 }
 
 // Parabolic F2 over a parabolic E layer.
-fn parabolic(t: IonoState, l: Slot, ks: usize, x: Tangents) -> Pair
+fn parabolic(t: IonoState, l: Slot, ks: usize, x: Tangents) -> HeightPair
     requires { ⌜ ks < 3 ⌝ }
     ensures { λ r. ⌜ r ≡ parabolicOf t l ks x ⌝ }
 {
     let bend = heights::bendy_at(t, 2, ks, x.fx2);
     let pass = heights::pen_at(t, 0, ks, x.fx2);
     let root = scalar::sqrt(1.0 - x.xt2 * x.xt2);
-    Pair {
+    HeightPair {
         hp: l.hi2 - l.yi2 + bend + (pass - 2.0 * l.yi0),
         ht: l.hi2 - l.yi2 + l.yi2 * (1.0 - root),
     }
 }
 
 // By parabolas only if F1 is missing: the closed form is of E and F2 alone.
-fn f2_heights(t: IonoState, l: Slot, ks: usize, x: Tangents) -> Pair
+fn f2_heights(t: IonoState, l: Slot, ks: usize, x: Tangents) -> HeightPair
     requires { ⌜ ks < 3 ⌝ }
-    ensures { λ r. ⌜ r ≡ f2HeightsOf t l ks x ⌝ }
+    ensures { λ r. ⌜ r ≡ f2HeightsWith gethpOf t l ks x ⌝ }
 {
-    if by_profile(t) {
+    if layers::profile_only(t) {
         let h = heights::gethp(t, x.fx2);
-        return Pair { hp: h.hp, ht: h.ht };
+        return HeightPair { hp: h.hp, ht: h.ht };
     }
     if l.fi1 > 0.0 {
         let h = heights::gethp(t, x.fx2);
-        return Pair { hp: h.hp, ht: h.ht };
+        return HeightPair { hp: h.hp, ht: h.ht };
     }
     parabolic(t, l, ks, x)
 }
 
 // The rounds of a layer with critical frequency `fc`.
-fn bent(fc: f32, fx: f32, h: Pair, g: HopGeometry) -> Round
+fn bent(fc: f32, fx: f32, h: HeightPair, g: HopGeometry) -> Round
     ensures { λ r. ⌜ r ≡ bentOf fc fx h g ⌝ }
 {
     let p = Ray {
@@ -397,7 +388,7 @@ pub fn f2_line(
     f2d: &[f32],
     clat: f32,
     clck: f32,
-    c: Circuit,
+    c: PathNumbers,
 ) -> LineAnswer
     requires { ⌜ ks < 3 ⌝ }
     ensures { λ r. ⌜ r ≡ f2LineOf t l ks x (now (f2d .entry)) clat clck c ⌝ }
@@ -413,7 +404,7 @@ pub fn f2_line(
     }
 }
 
-fn f1_found(g: HopGeometry, h: Pair, fc: f32, fx1: f32) -> LayerMuf
+fn f1_found(g: HopGeometry, h: HeightPair, fc: f32, fx1: f32) -> LayerMuf
     ensures { λ r. ⌜ r ≡ f1FoundOf g h fc fx1 ⌝ }
 {
     let b = bent(fc, fx1, h, g);
@@ -423,10 +414,10 @@ fn f1_found(g: HopGeometry, h: Pair, fc: f32, fx1: f32) -> LayerMuf
 
 // Where there is an F1 layer.
 fn f1_own(t: IonoState, fc: f32, fx1: f32, gcdkm: f32, amind: f32) -> LineAnswer
-    ensures { λ r. ⌜ r ≡ f1OwnOf t fc fx1 gcdkm amind ⌝ }
+    ensures { λ r. ⌜ r ≡ f1OwnWith gethpOf t fc fx1 gcdkm amind ⌝ }
 {
     let at = heights::gethp(t, fx1);
-    let h = Pair {
+    let h = HeightPair {
         hp: at.hp,
         ht: at.ht,
     };

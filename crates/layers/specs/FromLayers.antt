@@ -8,7 +8,8 @@ use lib.ListN.{getD, set}
 use lib.Ieee.{Float}
 use Rattle.refusal.specs.declared.Refusal.{Refusal}
 use Rattle.refusal.specs.declared.Outcome.{Outcome}
-use Rattle.layers.specs.State.{at, zeroState, withTables, withKm, withIedp}
+use Rattle.scalar.specs.F32.{at}
+use Rattle.layers.specs.State.{zeroState, withTables, withKm, withIedp}
 use Rattle.layers.specs.declared.IonoState.{IonoState}
 use Rattle.layers.specs.declared.LayerParams.{LayerParams}
 use Rattle.layers.specs.declared.StateAnswer.{StateAnswer}

@@ -4,12 +4,12 @@ use Prim.Native.Nat.{ℕ, zero, suc, _+_, _*_}
 use lib.Dec.{leb}
 use lib.ListN.{set}
 use lib.Ieee.{Float}
-use Rattle.scalar.specs.F32.{_-f_, _≤f_, _>f_}
+use Rattle.scalar.specs.F32.{_-f_, _≤f_, _>f_, at}
 use Rattle.scalar.specs.Literals.{f0, f0·2, f2}
 use Rattle.scalar.specs.Scalar.{minOf}
 use Rattle.refusal.specs.declared.Refusal.{Refusal}
 use Rattle.refusal.specs.declared.Outcome.{Outcome}
-use Rattle.layers.specs.State.{at, withTables, withKfx}
+use Rattle.layers.specs.State.{withTables, withKfx}
 use Rattle.layers.specs.FromLayers.{countTaken}
 use Rattle.layers.specs.declared.IonoState.{IonoState}
 use Rattle.layers.specs.declared.StateAnswer.{StateAnswer}

@@ -3,14 +3,15 @@ use mathlib.Core.Bool.{Bool, false}
 use mathlib.Core.List.{List}
 use Prim.Native.Nat.{ℕ}
 use lib.IntN.{ℤ, pos}
-use lib.ListN.{getD, replicate}
-use lib.Ieee.{Float, nan}
+use lib.Signed.{ltZ}
+use lib.ListN.{replicate}
+use lib.Ieee.{Float}
 use Rattle.scalar.specs.Literals.{f0}
 use Rattle.layers.specs.declared.IonoState.{IonoState}
 
--- `l[i]`: NaN past the end, where no code reads
-abbrev pub at : List Float → ℕ → Float
-at l i = getD l i nan
+-- `iedp < 0`: the profile alone gives heights
+unfoldable pub profileOnly : IonoState → Bool
+profileOnly s = ltZ (s .iedp) (pos 0)
 
 -- every number +0, nothing set
 abbrev pub zeroState : IonoState

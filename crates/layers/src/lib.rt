@@ -2,7 +2,7 @@
 // Fortran shares COMMON blocks, made by `from_layers` and divided into slots by `ionset`.
 ghost use mathlib.Core.Path.{_≡_};
 ghost use Prim.Native.Nat.{_<_, _≤_};
-ghost use Rattle.layers.specs.State.{zeroState, withIedp, withIelect};
+ghost use Rattle.layers.specs.State.{profileOnly, zeroState, withIedp, withIelect};
 ghost use Rattle.layers.specs.FromLayers.{countTaken, rowSet, pointSet, pointsSet, emptyOf, fromLayersOf};
 ghost use Rattle.layers.specs.Ionset.{layerFrom, twoSlots, threeSlots, assignedOf, tooClose, f1Settled, f2Settled, slotSettled, slotsSettled, ionsetOf};
 use refusal::Outcome;
@@ -182,6 +182,14 @@ pub fn with_iedp(mut s: IonoState, iedp: i32) -> IonoState
 {
     s.iedp = iedp;
     s
+}
+
+// Whether the profile alone gives heights.
+pub fn profile_only(s: IonoState) -> bool
+    ensures { λ r. ⌜ r ≡ profileOnly s ⌝ }
+{
+    let iedp = s.iedp;
+    iedp < 0
 }
 
 // Whether the profile is supplied from outside.

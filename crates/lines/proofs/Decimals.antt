@@ -10,9 +10,7 @@ use borrow.Author.Tests.{lt-ltb, le-ltb, ltb-true, ltb-false}
 use lib.Dec.{ltb}
 use lib.ListN.{length, length-append}
 use Rattle.io.specs.Digits.{glyph, digits, Fewest}
-use Rattle.lines.specs.Text.{tensBy, decimalIn, decimalOf, lineFeed, refusedWord, refusedText}
-use Rattle.refusal.specs.declared.Refusal.{Refusal}
-use Rattle.refusal.specs.Number.{numberOf}
+use Rattle.lines.specs.Text.{tensBy, decimalIn, decimalOf}
 
 pub length-digits : (b k n : ℕ) → length (digits b k n) ≡ k
 length-digits b zero n = refl
@@ -75,9 +73,3 @@ below-by false (suc places) (suc k) n e h =
 pub length-below : (k n : ℕ) → n < 10 ^ suc k → length (decimalOf n) ≤ suc k
 unfolding decimalOf
 length-below k n h = below-by (ltb n 10) 20 k n refl h
-
-pub length-refused : (r : Refusal) → length (refusedText r) ≤ 29
-unfolding refusedText
-length-refused r =
-    omega
-    (arith, length-append refusedWord (decimalOf (numberOf r) ++ (lineFeed ∷ [])), length-append (decimalOf (numberOf r)) (lineFeed ∷ []), length-decimal (numberOf r))

@@ -1,2 +1,4 @@
+-- Text placed in lent bytes: places, decimals, sizes.
 pub mod Placing
-pub mod Decimals
+mod Decimals
+pub mod Sizes

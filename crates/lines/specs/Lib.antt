@@ -1,1 +1,2 @@
+-- Text in lent bytes.
 pub mod Text

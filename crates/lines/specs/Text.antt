@@ -1,5 +1,5 @@
 -- The programs' text as lists of bytes, and what it is to put a text into lent bytes.
-use Prim.Native.Nat.{ℕ, zero, suc, _+_, _/_, _%_}
+use Prim.Native.Nat.{ℕ, zero, suc, _+_, _-_, _/_, _%_, min}
 use mathlib.Core.Path.{_≡_}
 use mathlib.Core.Bool.{Bool, true, false}
 use mathlib.Core.List.{List, [], _∷_, _++_}
@@ -36,7 +36,7 @@ unfoldable pub hexOf : ℕ → List ℕ
 hexOf n = digits 16 8 n
 
 -- a field after another: one space, then the number
-abbrev pub fieldOf : ℕ → List ℕ
+unfoldable pub fieldOf : ℕ → List ℕ
 fieldOf n = space ∷ decimalOf n
 
 -- `refused ` in ASCII
@@ -47,7 +47,17 @@ refusedWord = 114 ∷ 101 ∷ 102 ∷ 117 ∷ 115 ∷ 101 ∷ 100 ∷ space ∷ 
 unfoldable pub refusedText : Refusal → List ℕ
 refusedText r = refusedWord ++ (decimalOf (numberOf r) ++ (lineFeed ∷ []))
 
+-- the first n of many texts, one after the other
+unfoldable pub joined : (ℕ → List ℕ) → ℕ → List ℕ
+joined text zero = []
+joined text (suc n) = joined text n ++ text n
+
 -- The text was put into the bytes l from the place `at`: l′ is what they hold then, every other byte as it was, and r the place after the text.
 pub record Put (text l : List ℕ) (at : ℕ) (l′ : List ℕ) (r : ℕ) : Type 0 where
   pub next : r ≡ at + length text
+  pub cells : l′ ≡ sets l at text
+
+-- As much of the text was put there as there is room for (`sets` changes nothing past the end), and r is the place after what was put.
+pub record Clipped (text l : List ℕ) (at : ℕ) (l′ : List ℕ) (r : ℕ) : Type 0 where
+  pub next : r ≡ at + min (length text) (length l - at)
   pub cells : l′ ≡ sets l at text

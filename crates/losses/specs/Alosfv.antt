@@ -6,17 +6,16 @@ use lib.Dec.{leb}
 use lib.ListN.{getD, set}
 use lib.IntN.{pos}
 use lib.Ieee.{Float, nan}
-use Rattle.scalar.specs.F32.{_-f_, _*f_, _/f_, _<f_, _≤f_, negf}
+use Rattle.scalar.specs.F32.{_-f_, _*f_, _/f_, _<f_, _≤f_, negf, at}
 use Rattle.scalar.specs.Literals.{f0, f0·05, f0·1, f0·2, f0·5, f2, f10}
 use Rattle.scalar.specs.Scalar.{maxOf}
 use Rattle.exponential.specs.Exp.{expOf}
 use Rattle.refusal.specs.declared.Refusal.{Refusal}
 use Rattle.refusal.specs.declared.Outcome.{Outcome}
-use Rattle.layers.specs.State.{at}
 use Rattle.layers.specs.declared.IonoState.{IonoState}
 use Rattle.layers.specs.declared.LayerMuf.{LayerMuf}
-use Rattle.ionogram.specs.declared.Ionogram.{Ionogram}
-use Rattle.ionogram.specs.declared.IonogramAnswer.{IonogramAnswer}
+use Rattle.reflectrix.specs.declared.Ionogram.{Ionogram}
+use Rattle.reflectrix.specs.declared.IonogramAnswer.{IonogramAnswer}
 use Rattle.losses.specs.declared.Factors.{Factors}
 use Rattle.losses.specs.declared.Decay.{Decay}
 use Rattle.losses.specs.declared.Loss.{Loss}

@@ -1,1 +1,2 @@
+-- `alosfv`: the deviative loss factors.
 pub mod Alosfv

@@ -4,10 +4,10 @@
 ghost use mathlib.Core.Path.{_≡_};
 ghost use Prim.Native.Nat.{_+_, _<_, _≤_};
 ghost use Rattle.losses.specs.Alosfv.{decayOf, factorOf, eLoss, eRows, cuspLoss, cuspOf, tailLoss, tailRows, withoutF1, withF1, aboveOf, notBelowZero, notBelowZeros, withAfac, alosfvOf, alosfvAnswer};
-use ionogram::Ionogram;
-use ionogram::IonogramAnswer;
 use layers::IonoState;
 use layers::LayerMuf;
+use reflectrix::Ionogram;
+use reflectrix::IonogramAnswer;
 use refusal::Outcome;
 use refusal::Refusal;
 

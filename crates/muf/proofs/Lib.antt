@@ -1,2 +1,3 @@
+-- The lists that a MUF reads, and the Es row that it rewrites, are there.
 pub mod Lists
 pub mod Rows

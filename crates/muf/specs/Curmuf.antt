@@ -1,34 +1,34 @@
--- `curmuf` whole: what is refused and in which order, the hour, the state and the Es rows after. The Es rows enter by their number and what each holds, so that one definition serves flat rows and rows of records.
+-- `curmuf` whole: what is refused and in which order, the hour, the state and the Es rows after. The Es rows enter by their number and what each holds, so that one definition serves flat rows and rows of records; `find` is the way of finding heights off the profile.
 use mathlib.Core.Bool.{Bool, true, false, _&&_}
 use mathlib.Core.List.{List}
 use Prim.Native.Nat.{ℕ, _*_, _/_}
 use lib.Dec.{ltb, eqb}
 use lib.ListN.{length, set}
 use lib.Ieee.{Float}
-use Rattle.scalar.specs.F32.{_≤f_, _>f_}
+use Rattle.scalar.specs.F32.{_≤f_, _>f_, at}
 use Rattle.scalar.specs.Literals.{f0, f6·3, f90, f40100}
 use Rattle.refusal.specs.Number.{numberOf}
 use Rattle.refusal.specs.declared.Refusal.{Refusal}
 use Rattle.refusal.specs.declared.Outcome.{Outcome}
-use Rattle.layers.specs.State.{at}
 use Rattle.layers.specs.declared.IonoState.{IonoState}
 use Rattle.layers.specs.declared.LayerMuf.{LayerMuf}
 use Rattle.profile.specs.Lecden.{slotAt, lecdenOf}
 use Rattle.profile.specs.declared.Slot.{Slot}
+use Rattle.heights.specs.Gethp.{Finder, gethpOf}
 use Rattle.layer_mufs.specs.Controlling.{controllingOf}
 use Rattle.layer_mufs.specs.Tangents.{tangentsOf}
-use Rattle.layer_mufs.specs.Lines.{zeroLine, eLineOf, f2LineOf, f1LineOf}
-use Rattle.layer_mufs.specs.declared.Circuit.{Circuit}
+use Rattle.layer_mufs.specs.Lines.{zeroLine, eLineWith, f2LineWith, f1LineWith}
+use Rattle.layer_mufs.specs.declared.PathNumbers.{PathNumbers}
 use Rattle.layer_mufs.specs.declared.Tangents.{Tangents}
 use Rattle.layer_mufs.specs.declared.LineAnswer.{LineAnswer}
-use Rattle.muf.specs.Sporadic.{startOf, rowAt, esFrom, esLineOf}
+use Rattle.sporadic.specs.Sporadic.{startOf, rowAt, esFrom, esLineOf}
 use Rattle.muf.specs.Hour.{hourOf, refusedOf}
-use Rattle.muf.specs.declared.EsRow.{EsRow}
-use Rattle.muf.specs.declared.EsStep.{EsStep}
-use Rattle.muf.specs.declared.Three.{Three}
-use Rattle.muf.specs.declared.ThreeAnswer.{ThreeAnswer}
+use Rattle.sporadic.specs.declared.EsRow.{EsRow}
+use Rattle.sporadic.specs.declared.EsStep.{EsStep}
+use Rattle.muf.specs.declared.RegularLines.{RegularLines}
+use Rattle.muf.specs.declared.RegularAnswer.{RegularAnswer}
 use Rattle.muf.specs.declared.MufAnswer.{MufAnswer}
-use Rattle.muf.specs.declared.Done.{Done}
+use Rattle.muf.specs.declared.AnswerAndRow.{AnswerAndRow}
 
 -- 9
 
@@ -40,7 +40,7 @@ abbrev pub aminBy : Bool → Bool
 aminBy true = false
 aminBy false = true
 
-unfoldable pub inDomain : Circuit → Bool
+unfoldable pub inDomain : PathNumbers → Bool
 inDomain c = withinOf (c .gcdkm) f40100 && withinOf (c .gcd) f6·3 && aminBy (c .amind >f f90)
 
 -- 10: the deciles are 576, and clat and clck reach to the controlling slot; the lists by their lengths
@@ -49,38 +49,38 @@ listsReach ks deciles lats clocks = eqb deciles 576 && ltb ks lats && ltb ks clo
 
 -- E, then F2, then F1
 
-abbrev pub f1Then : LineAnswer → LayerMuf → LayerMuf → ThreeAnswer
-f1Then (LineAnswer.Found f1) e f2 = ThreeAnswer.Found (record { e = e; f1 = f1; f2 = f2 })
-f1Then (LineAnswer.Refused r) e f2 = ThreeAnswer.Refused r
+abbrev pub f1Then : LineAnswer → LayerMuf → LayerMuf → RegularAnswer
+f1Then (LineAnswer.Found f1) e f2 = RegularAnswer.Found (record { e = e; f1 = f1; f2 = f2 })
+f1Then (LineAnswer.Refused r) e f2 = RegularAnswer.Refused r
 
-abbrev pub f2Then : LineAnswer → IonoState → Slot → Tangents → Circuit → LayerMuf → ThreeAnswer
-f2Then (LineAnswer.Found f2) t l x c e = f1Then (f1LineOf t l (x .fx1) e (c .gcdkm) (c .amind)) e f2
-f2Then (LineAnswer.Refused r) t l x c e = ThreeAnswer.Refused r
+abbrev pub f2Then : LineAnswer → Finder → IonoState → Slot → Tangents → PathNumbers → LayerMuf → RegularAnswer
+f2Then (LineAnswer.Found f2) find t l x c e = f1Then (f1LineWith find t l (x .fx1) e (c .gcdkm) (c .amind)) e f2
+f2Then (LineAnswer.Refused r) find t l x c e = RegularAnswer.Refused r
 
-abbrev pub eThen : LineAnswer → IonoState → Slot → ℕ → Tangents → List Float → Float → Float → Circuit → ThreeAnswer
-eThen (LineAnswer.Found e) t l ks x f2d clat clck c = f2Then (f2LineOf t l ks x f2d clat clck c) t l x c e
-eThen (LineAnswer.Refused r) t l ks x f2d clat clck c = ThreeAnswer.Refused r
+abbrev pub eThen : LineAnswer → Finder → IonoState → Slot → ℕ → Tangents → List Float → Float → Float → PathNumbers → RegularAnswer
+eThen (LineAnswer.Found e) find t l ks x f2d clat clck c = f2Then (f2LineWith find t l ks x f2d clat clck c) find t l x c e
+eThen (LineAnswer.Refused r) find t l ks x f2d clat clck c = RegularAnswer.Refused r
 
-unfoldable pub threeOf : IonoState → Slot → ℕ → List Float → Float → Float → Circuit → ThreeAnswer
-threeOf t l ks f2d clat clck c =
+unfoldable pub regularWith : Finder → IonoState → Slot → ℕ → List Float → Float → Float → PathNumbers → RegularAnswer
+regularWith find t l ks f2d clat clck c =
     let x = tangentsOf l (c .gcdkm) in
-    eThen (eLineOf t (x .fxe) (c .gcdkm) (c .amind)) t l ks x f2d clat clck c
+    eThen (eLineWith find t (x .fxe) (c .gcdkm) (c .amind)) find t l ks x f2d clat clck c
 
 -- the paper's number of each case, 0 for the three lines, and the lines, of +0 beside a refusal
-abbrev pub threeNumber : ThreeAnswer → ℕ
-threeNumber (ThreeAnswer.Found m) = 0
-threeNumber (ThreeAnswer.Refused r) = numberOf r
+abbrev pub regularNumber : RegularAnswer → ℕ
+regularNumber (RegularAnswer.Found m) = 0
+regularNumber (RegularAnswer.Refused r) = numberOf r
 
-abbrev pub threeValue : ThreeAnswer → Three
-threeValue (ThreeAnswer.Found m) = m
-threeValue (ThreeAnswer.Refused r) = record { e = zeroLine; f1 = zeroLine; f2 = zeroLine }
+abbrev pub regularValue : RegularAnswer → RegularLines
+regularValue (RegularAnswer.Found m) = m
+regularValue (RegularAnswer.Refused r) = record { e = zeroLine; f1 = zeroLine; f2 = zeroLine }
 
 -- then Es
 
-unfoldable pub refusedDone : IonoState → Refusal → Done
-refusedDone s r = record { answer = refusedOf s r; rewrites = false; ksx = 0; lower = f0 }
+unfoldable pub refusedRowsKept : IonoState → Refusal → AnswerAndRow
+refusedRowsKept s r = record { answer = refusedOf s r; rewrites = false; ksx = 0; lower = f0 }
 
-abbrev pub esBy : EsStep → IonoState → IonoState → Float → Three → ℕ → Done
+abbrev pub esBy : EsStep → IonoState → IonoState → Float → RegularLines → ℕ → AnswerAndRow
 esBy (EsStep.Next a) s t fe m ks =
     let x = esLineOf a fe in
     record {
@@ -89,48 +89,57 @@ esBy (EsStep.Next a) s t fe m ks =
       ksx = a .ksx;
       lower = x .lower;
     }
-esBy (EsStep.Refused r) s t fe m ks = refusedDone s r
+esBy (EsStep.Refused r) s t fe m ks = refusedRowsKept s r
 
-abbrev pub threeBy : ThreeAnswer → IonoState → IonoState → Slot → ℕ → EsStep → Done
-threeBy (ThreeAnswer.Found m) s t l ks step = esBy step s t (l .fi0) m ks
-threeBy (ThreeAnswer.Refused r) s t l ks step = refusedDone s r
+abbrev pub regularBy : RegularAnswer → IonoState → IonoState → Slot → ℕ → EsStep → AnswerAndRow
+regularBy (RegularAnswer.Found m) s t l ks step = esBy step s t (l .fi0) m ks
+regularBy (RegularAnswer.Refused r) s t l ks step = refusedRowsKept s r
 
-unfoldable pub workedOf : IonoState → ℕ → EsStep → List Float → Float → Float → Circuit → Done
-workedOf s ks step f2d clat clck c =
+unfoldable pub mufAtSlotWith : Finder → IonoState → ℕ → EsStep → List Float → Float → Float → PathNumbers → AnswerAndRow
+mufAtSlotWith find s ks step f2d clat clck c =
     let t = lecdenOf s ks in
     let l = slotAt t ks in
-    threeBy (threeOf t l ks f2d clat clck c) s t l ks step
+    regularBy (regularWith find t l ks f2d clat clck c) s t l ks step
+
+abbrev pub mufAtSlotOf : IonoState → ℕ → EsStep → List Float → Float → Float → PathNumbers → AnswerAndRow
+mufAtSlotOf = mufAtSlotWith gethpOf
 
 -- is the input in its domain, do the lists reach
-abbrev pub doneBy : Bool → Bool → IonoState → EsStep → List Float → List Float → List Float → Circuit → Done
-doneBy true true s step f2d clat clck c = let ks = controllingOf s in workedOf s ks step f2d (at clat ks) (at clck ks) c
-doneBy true false s step f2d clat clck c = refusedDone s Refusal.MufLists
-doneBy false reach s step f2d clat clck c = refusedDone s Refusal.MufInput
+abbrev pub mufFromSearchBy : Bool → Bool → Finder → IonoState → EsStep → List Float → List Float → List Float → PathNumbers → AnswerAndRow
+mufFromSearchBy true true find s step f2d clat clck c = let ks = controllingOf s in mufAtSlotWith find s ks step f2d (at clat ks) (at clck ks) c
+mufFromSearchBy true false find s step f2d clat clck c = refusedRowsKept s Refusal.MufLists
+mufFromSearchBy false reach find s step f2d clat clck c = refusedRowsKept s Refusal.MufInput
 
 -- the whole call, the search of the Es rows given as its step
-unfoldable pub stepDoneOf : IonoState → EsStep → List Float → List Float → List Float → Circuit → Done
-stepDoneOf s step f2d clat clck c = doneBy (inDomain c) (listsReach (controllingOf s) (length f2d) (length clat) (length clck)) s step f2d clat clck c
+unfoldable pub mufFromSearchWith : Finder → IonoState → EsStep → List Float → List Float → List Float → PathNumbers → AnswerAndRow
+mufFromSearchWith find s step f2d clat clck c = mufFromSearchBy (inDomain c) (listsReach (controllingOf s) (length f2d) (length clat) (length clck)) find s step f2d clat clck c
+
+abbrev pub mufFromSearchOf : IonoState → EsStep → List Float → List Float → List Float → PathNumbers → AnswerAndRow
+mufFromSearchOf = mufFromSearchWith gethpOf
 
 -- n rows of Es, each as `row` gives it
-unfoldable pub doneOf : IonoState → ℕ → (ℕ → EsRow) → List Float → List Float → List Float → Circuit → Done
-doneOf s n row f2d clat clck c = stepDoneOf s (esFrom row c n 0 startOf) f2d clat clck c
+unfoldable pub mufOfRowsWith : Finder → IonoState → ℕ → (ℕ → EsRow) → List Float → List Float → List Float → PathNumbers → AnswerAndRow
+mufOfRowsWith find s n row f2d clat clck c = mufFromSearchWith find s (esFrom row c n 0 startOf) f2d clat clck c
 
 -- the rows that there are, at most km
-abbrev pub rowsBy : Bool → ℕ → ℕ → ℕ
-rowsBy true there km = there
-rowsBy false there km = km
+abbrev pub takenRowsBy : Bool → ℕ → ℕ → ℕ
+takenRowsBy true there km = there
+takenRowsBy false there km = km
 
 abbrev pub takenRows : ℕ → ℕ → ℕ
-takenRows there km = rowsBy (ltb there km) there km
+takenRows there km = takenRowsBy (ltb there km) there km
 
 -- flat rows: four numbers each
-unfoldable pub rowsOf : ℕ → ℕ → ℕ
-rowsOf numbers km = takenRows (numbers / 4) km
+unfoldable pub rowCountOf : ℕ → ℕ → ℕ
+rowCountOf numbers km = takenRows (numbers / 4) km
 
-unfoldable pub flatOf : IonoState → List Float → List Float → List Float → List Float → Circuit → Done
-flatOf s es f2d clat clck c = doneOf s (rowsOf (length es) (s .km)) (rowAt es) f2d clat clck c
+unfoldable pub flatWith : Finder → IonoState → List Float → List Float → List Float → List Float → PathNumbers → AnswerAndRow
+flatWith find s es f2d clat clck c = mufOfRowsWith find s (rowCountOf (length es) (s .km)) (rowAt es) f2d clat clck c
 
-abbrev pub curmufOf : IonoState → List Float → List Float → List Float → List Float → Circuit → MufAnswer
+abbrev pub flatOf : IonoState → List Float → List Float → List Float → List Float → PathNumbers → AnswerAndRow
+flatOf = flatWith gethpOf
+
+abbrev pub curmufOf : IonoState → List Float → List Float → List Float → List Float → PathNumbers → MufAnswer
 curmufOf s es f2d clat clck c = flatOf s es f2d clat clck c .answer
 
 -- only the controlling row's lower decile is rewritten
@@ -138,5 +147,5 @@ abbrev pub rewrittenBy : Bool → List Float → ℕ → Float → List Float
 rewrittenBy true es ksx lower = set es (4 * ksx) lower
 rewrittenBy false es ksx lower = es
 
-abbrev pub esAfterOf : IonoState → List Float → List Float → List Float → List Float → Circuit → List Float
+abbrev pub esAfterOf : IonoState → List Float → List Float → List Float → List Float → PathNumbers → List Float
 esAfterOf s es f2d clat clck c = let d = flatOf s es f2d clat clck c in rewrittenBy (d .rewrites) es (d .ksx) (d .lower)

@@ -12,22 +12,22 @@ use Rattle.refusal.specs.declared.Outcome.{Outcome}
 use Rattle.layers.specs.declared.IonoState.{IonoState}
 use Rattle.layers.specs.declared.LayerMuf.{LayerMuf}
 use Rattle.layer_mufs.specs.Lines.{zeroLine}
-use Rattle.muf.specs.declared.Three.{Three}
+use Rattle.muf.specs.declared.RegularLines.{RegularLines}
 use Rattle.muf.specs.declared.Mode.{Mode}
 use Rattle.muf.specs.declared.MufHour.{MufHour}
 use Rattle.muf.specs.declared.MufAnswer.{MufAnswer}
 
 -- emuf - allmuf >= 0, f1muf - allmuf >= 0
-abbrev pub modeBy : Bool → Bool → Three → Mode
+abbrev pub modeBy : Bool → Bool → RegularLines → Mode
 modeBy true f1 m = record { angmuf = m .e .delmuf; modmuf = pos 1 }
 modeBy false true m = record { angmuf = m .f1 .delmuf; modmuf = pos 2 }
 modeBy false false m = record { angmuf = m .f2 .delmuf; modmuf = pos 3 }
 
-unfoldable pub modeOf : Three → Float → Mode
+unfoldable pub modeOf : RegularLines → Float → Mode
 modeOf m allmuf = modeBy (m .e .ymuf -f allmuf ≥f f0) (m .f1 .ymuf -f allmuf ≥f f0) m
 
 -- each layer's MUF is the `ymuf` of its line
-unfoldable pub hourOf : Three → LayerMuf → ℕ → MufHour
+unfoldable pub hourOf : RegularLines → LayerMuf → ℕ → MufHour
 hourOf m es ks =
     let emuf = m .e .ymuf in
     let f1muf = m .f1 .ymuf in

@@ -1,3 +1,3 @@
-pub mod Sporadic
+-- The circuit MUF: sporadic E, the hour put together, and `curmuf`.
 pub mod Hour
 pub mod Curmuf

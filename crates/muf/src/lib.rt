@@ -1,72 +1,29 @@
-// The circuit MUF of an hour: what is refused, the three regular layers, sporadic E over flat rows
-// of four numbers, and the hour put together.
+// The circuit MUF of an hour: what is refused, the three regular layers, and the hour put together
+// with the Es line.
 ghost use mathlib.Core.Path.{_≡_};
 ghost use Prim.Native.Nat.{_+_, _*_, _<_, _≤_};
 ghost use lib.ListN.{length};
-ghost use Rattle.muf.specs.Sporadic.{rayOf, takenOf, esRowOf, startOf, stepNumber, stepValue, rowAt, esFrom, sigl4Of, esFoundOf, esLineOf};
+ghost use Rattle.heights.specs.Gethp.{gethpOf};
 ghost use Rattle.muf.specs.Hour.{modeOf, hourOf, zeroHour, refusedOf};
-ghost use Rattle.muf.specs.Curmuf.{withinOf, inDomain, listsReach, threeOf, threeNumber, threeValue, takenRows, rowsOf, refusedDone, esBy, workedOf, stepDoneOf, flatOf, esAfterOf, curmufOf};
-use hops::Hops;
-use layer_mufs::Circuit;
+ghost use Rattle.muf.specs.Curmuf.{withinOf, inDomain, listsReach, regularWith, regularNumber, regularValue, takenRows, rowCountOf, refusedRowsKept, esBy, mufAtSlotOf, mufFromSearchOf, flatOf, esAfterOf, curmufOf};
 use layer_mufs::LineAnswer;
+use layer_mufs::PathNumbers;
 use layers::IonoState;
 use layers::LayerMuf;
 use profile::Slot;
 use refusal::Outcome;
 use refusal::Refusal;
-
-// the Earth's radius, km
-const RZ: f32 = 6370.0;
-
-// One Es row: the three frequencies of an `EsParams`, in its order, and the height.
-pub struct EsRow {
-    pub fs0: f32,
-    pub fs1: f32,
-    pub fs2: f32,
-    pub hs: f32,
-}
-
-// A row's ray: the tangent of its takeoff angle, and the secant at the layer.
-pub struct EsRay {
-    pub tdel: f32,
-    pub secp: f32,
-}
-
-// The row with the lowest MUF so far: its MUF, place, ray and numbers; and the hops of the last row
-// worked out, whether it is this one or not.
-pub struct EsSearch {
-    pub esmuf: f32,
-    pub ksx: usize,
-    pub tdelx: f32,
-    pub secpx: f32,
-    pub hop: f32,
-    pub fs0: f32,
-    pub fs1: f32,
-    pub fs2: f32,
-    pub hs: f32,
-}
-
-pub enum EsStep {
-    Next(EsSearch),
-    Refused(Refusal),
-}
-
-// The Es line, and the lower decile that is written into its row if one controls.
-pub struct EsLine {
-    pub line: LayerMuf,
-    pub rewrites: bool,
-    pub lower: f32,
-}
+use sporadic::EsStep;
 
 // The lines of the regular layers.
-pub struct Three {
+pub struct RegularLines {
     pub e: LayerMuf,
     pub f1: LayerMuf,
     pub f2: LayerMuf,
 }
 
-pub enum ThreeAnswer {
-    Found(Three),
+pub enum RegularAnswer {
+    Found(RegularLines),
     Refused(Refusal),
 }
 
@@ -102,209 +59,7 @@ pub struct MufAnswer {
     pub state: IonoState,
 }
 
-fn es_ray(hs: f32, hop: f32, gcd: f32) -> EsRay
-    ensures { λ r. ⌜ r ≡ rayOf hs hop gcd ⌝ }
-{
-    let psi = 0.5 * gcd / hop;
-    let tdel = (circular::cos(psi) - RZ / (RZ + hs)) / circular::sin(psi);
-    let cdel = 1.0 / scalar::sqrt(1.0 + tdel * tdel);
-    let sphe = RZ * cdel / (RZ + hs);
-    let secp = 1.0 / scalar::sqrt(1.0 - sphe * sphe);
-    EsRay { tdel, secp }
-}
-
-// Row k controls where its MUF is the lowest so far.
-fn es_taken(a: EsSearch, k: usize, row: EsRow, ray: EsRay, hop: f32) -> EsSearch
-    ensures { λ r. ⌜ r ≡ takenOf a k row ray hop ⌝ }
-{
-    let esd = row.fs1 * ray.secp;
-    if a.esmuf - esd > 0.0 {
-        return EsSearch {
-            esmuf: esd,
-            ksx: k,
-            tdelx: ray.tdel,
-            secpx: ray.secp,
-            hop,
-            fs0: row.fs0,
-            fs1: row.fs1,
-            fs2: row.fs2,
-            hs: row.hs,
-        };
-    }
-    EsSearch {
-        esmuf: a.esmuf,
-        ksx: a.ksx,
-        tdelx: a.tdelx,
-        secpx: a.secpx,
-        hop,
-        fs0: a.fs0,
-        fs1: a.fs1,
-        fs2: a.fs2,
-        hs: a.hs,
-    }
-}
-
-// One row's turn: passed over where its median is at most 0.
-pub fn es_row(a: EsSearch, k: usize, row: EsRow, c: Circuit) -> EsStep
-    ensures { λ r. ⌜ r ≡ esRowOf a k row c ⌝ }
-{
-    if row.fs1 <= 0.0 {
-        return EsStep::Next(a);
-    }
-    let count = hops::hop_count(c.gcdkm, c.amind, row.hs);
-    match count {
-        Hops::Refused(r) => EsStep::Refused(r),
-        Hops::Count(hop) => {
-            let ray = es_ray(row.hs, hop, c.gcd);
-            let b = es_taken(a, k, row, ray, hop);
-            EsStep::Next(b)
-        }
-    }
-}
-
-// No row controls yet.
-pub fn es_start() -> EsSearch
-    ensures { λ r. ⌜ r ≡ startOf ⌝ }
-{
-    EsSearch {
-        esmuf: 1000.0,
-        ksx: 0,
-        tdelx: 0.0,
-        secpx: 0.0,
-        hop: 0.0,
-        fs0: 0.0,
-        fs1: 0.0,
-        fs2: 0.0,
-        hs: 0.0,
-    }
-}
-
-// 0 for a search, else the refusal's number.
-pub fn step_number(a: EsStep) -> u32
-    ensures { λ n. ⌜ n ≡ stepNumber a ⌝ }
-{
-    match a {
-        EsStep::Next(_) => 0,
-        EsStep::Refused(r) => refusal::number(r),
-    }
-}
-
-// The search, of +0 beside a refusal.
-pub fn step_value(a: EsStep) -> EsSearch
-    ensures { λ r. ⌜ r ≡ stepValue a ⌝ }
-{
-    match a {
-        EsStep::Next(b) => b,
-        EsStep::Refused(_) => EsSearch {
-            esmuf: 0.0,
-            ksx: 0,
-            tdelx: 0.0,
-            secpx: 0.0,
-            hop: 0.0,
-            fs0: 0.0,
-            fs1: 0.0,
-            fs2: 0.0,
-            hs: 0.0,
-        },
-    }
-}
-
-fn flat_row(es: &[f32], k: usize) -> EsRow
-    requires { ⌜ 4 * k + 3 < length (now es) ⌝ }
-    ensures { λ r. ⌜ r ≡ rowAt (now (es .entry)) k ⌝ }
-{
-    let lower = 4 * k;
-    let median = 4 * k + 1;
-    let upper = 4 * k + 2;
-    let height = 4 * k + 3;
-    EsRow {
-        fs0: es[lower],
-        fs1: es[median],
-        fs2: es[upper],
-        hs: es[height],
-    }
-}
-
-// The first n rows, in order.
-fn es_rows(es: &[f32], n: usize, c: Circuit) -> EsStep
-    requires { ⌜ 4 * n ≤ length (now es) ⌝ }
-    ensures { λ r. ⌜ r ≡ esFrom (rowAt (now (es .entry))) c n 0 startOf ⌝ }
-{
-    let mut a = es_start();
-    for k in 0..n {
-        let row = flat_row(es, k);
-        let step = es_row(a, k, row, c);
-        match step {
-            EsStep::Refused(r) => {
-                return EsStep::Refused(r);
-            }
-            EsStep::Next(b) => {
-                a = b;
-            }
-        }
-    }
-    EsStep::Next(a)
-}
-
-// The spread below the median, by where the lower decile stands to the regular E: over 0.1 MHz
-// above it the decile's own, 0.1 MHz or more below it that of the upper side, and between a blend
-// of the two.
-fn lower_spread(xes: f32, sigb: f32, sigu4: f32) -> f32
-    ensures { λ r. ⌜ r ≡ sigl4Of xes sigb sigu4 ⌝ }
-{
-    let zdif = 0.1;
-    if xes + zdif < 0.0 {
-        return sigb;
-    }
-    if xes - zdif < 0.0 {
-        return sigb + ((xes + zdif) / (2.0 * zdif)) * (sigu4 - sigb);
-    }
-    sigu4
-}
-
-// The line of the controlling row; `fe` is the regular E critical frequency.
-fn es_found(a: EsSearch, fe: f32) -> EsLine
-    ensures { λ r. ⌜ r ≡ esFoundOf a fe ⌝ }
-{
-    let sigu4 = (a.fs2 - a.fs1) / 1.28;
-    let sigb = (a.fs1 - a.fs0) / 1.28;
-    let sigz = (a.fs1 - 0.1) / 3.1;
-    let xes = fe - a.fs0;
-    let sigl4 = scalar::min(lower_spread(xes, sigb, sigu4), sigz);
-    let lower = a.fs1 - 1.28 * sigl4;
-    let del = circular::atan(a.tdelx);
-    let line = layer_mufs::line(
-        sigl4 * a.secpx,
-        sigu4 * a.secpx,
-        del,
-        a.hs,
-        a.hs,
-        a.fs1,
-        a.hop,
-        a.esmuf,
-    );
-    EsLine {
-        line,
-        rewrites: true,
-        lower,
-    }
-}
-
-fn es_line(a: EsSearch, fe: f32) -> EsLine
-    ensures { λ r. ⌜ r ≡ esLineOf a fe ⌝ }
-{
-    if a.esmuf - 1000.0 >= 0.0 {
-        let line = layer_mufs::zero_line();
-        return EsLine {
-            line,
-            rewrites: false,
-            lower: 0.0,
-        };
-    }
-    es_found(a, fe)
-}
-
-fn by_layer(m: Three, allmuf: f32) -> Mode
+fn by_layer(m: RegularLines, allmuf: f32) -> Mode
     ensures { λ r. ⌜ r ≡ modeOf m allmuf ⌝ }
 {
     let e = m.e;
@@ -328,7 +83,7 @@ fn by_layer(m: Three, allmuf: f32) -> Mode
     }
 }
 
-fn hour(m: Three, es: LayerMuf, ks: usize) -> MufHour
+fn hour(m: RegularLines, es: LayerMuf, ks: usize) -> MufHour
     ensures { λ r. ⌜ r ≡ hourOf m es ks ⌝ }
 {
     let e = m.e;
@@ -394,7 +149,7 @@ fn within(x: f32, top: f32) -> bool
     false
 }
 
-pub fn in_domain(c: Circuit) -> bool
+pub fn in_domain(c: PathNumbers) -> bool
     ensures { λ r. ⌜ r ≡ inDomain c ⌝ }
 {
     if within(c.gcdkm, 40100.0) {
@@ -423,56 +178,56 @@ pub fn lists_reach(ks: usize, deciles: usize, lats: usize, clocks: usize) -> boo
 }
 
 // 0 for the three lines, else the refusal's number.
-pub fn three_number(a: ThreeAnswer) -> u32
-    ensures { λ n. ⌜ n ≡ threeNumber a ⌝ }
+pub fn regular_number(a: RegularAnswer) -> u32
+    ensures { λ n. ⌜ n ≡ regularNumber a ⌝ }
 {
     match a {
-        ThreeAnswer::Found(_) => 0,
-        ThreeAnswer::Refused(r) => refusal::number(r),
+        RegularAnswer::Found(_) => 0,
+        RegularAnswer::Refused(r) => refusal::number(r),
     }
 }
 
 // The lines, of +0 beside a refusal.
-pub fn three_value(a: ThreeAnswer) -> Three
-    ensures { λ m. ⌜ m ≡ threeValue a ⌝ }
+pub fn regular_value(a: RegularAnswer) -> RegularLines
+    ensures { λ m. ⌜ m ≡ regularValue a ⌝ }
 {
     match a {
-        ThreeAnswer::Found(m) => m,
-        ThreeAnswer::Refused(_) => {
+        RegularAnswer::Found(m) => m,
+        RegularAnswer::Refused(_) => {
             let z = layer_mufs::zero_line();
-            Three { e: z, f1: z, f2: z }
+            RegularLines { e: z, f1: z, f2: z }
         }
     }
 }
 
 // E, then F2, then F1.
-fn three_lines(
+fn regular_lines(
     t: IonoState,
     l: Slot,
     ks: usize,
     f2d: &[f32],
     clat: f32,
     clck: f32,
-    c: Circuit,
-) -> ThreeAnswer
+    c: PathNumbers,
+) -> RegularAnswer
     requires { ⌜ ks < 3 ⌝ }
-    ensures { λ r. ⌜ r ≡ threeOf t l ks (now (f2d .entry)) clat clck c ⌝ }
+    ensures { λ r. ⌜ r ≡ regularWith gethpOf t l ks (now (f2d .entry)) clat clck c ⌝ }
 {
     let x = layer_mufs::tangent_frequencies(l, c.gcdkm);
     let e_answer = layer_mufs::e_line(t, x.fxe, c.gcdkm, c.amind);
     match e_answer {
-        LineAnswer::Refused(r) => ThreeAnswer::Refused(r),
+        LineAnswer::Refused(r) => RegularAnswer::Refused(r),
         LineAnswer::Found(e) => {
             let f2_answer = layer_mufs::f2_line(t, l, ks, x, f2d, clat, clck, c);
             match f2_answer {
-                LineAnswer::Refused(r) => ThreeAnswer::Refused(r),
+                LineAnswer::Refused(r) => RegularAnswer::Refused(r),
                 LineAnswer::Found(f2) => {
                     let f1_answer = layer_mufs::f1_line(t, l, x.fx1, e, c.gcdkm, c.amind);
                     match f1_answer {
-                        LineAnswer::Refused(r) => ThreeAnswer::Refused(r),
+                        LineAnswer::Refused(r) => RegularAnswer::Refused(r),
                         LineAnswer::Found(f1) => {
-                            let m = Three { e, f1, f2 };
-                            ThreeAnswer::Found(m)
+                            let m = RegularLines { e, f1, f2 };
+                            RegularAnswer::Found(m)
                         }
                     }
                 }
@@ -493,24 +248,24 @@ pub fn rows_taken(there: usize, km: usize) -> usize
 
 // The same of flat rows, by how many numbers there are.
 pub fn row_count(numbers: usize, km: usize) -> usize
-    ensures { λ r. ⌜ r ≡ rowsOf numbers km ⌝ }
+    ensures { λ r. ⌜ r ≡ rowCountOf numbers km ⌝ }
 {
     rows_taken(numbers / 4, km)
 }
 
 // What is written into which row, once the hour is known.
-pub struct Done {
+pub struct AnswerAndRow {
     pub answer: MufAnswer,
     pub rewrites: bool,
     pub ksx: usize,
     pub lower: f32,
 }
 
-pub fn refused_done(s: IonoState, r: Refusal) -> Done
-    ensures { λ x. ⌜ x ≡ refusedDone s r ⌝ }
+pub fn refused_rows_kept(s: IonoState, r: Refusal) -> AnswerAndRow
+    ensures { λ x. ⌜ x ≡ refusedRowsKept s r ⌝ }
 {
     let answer = refused(s, r);
-    Done {
+    AnswerAndRow {
         answer,
         rewrites: false,
         ksx: 0,
@@ -519,13 +274,20 @@ pub fn refused_done(s: IonoState, r: Refusal) -> Done
 }
 
 // The hour, after the search of the Es rows.
-fn finish(s: IonoState, t: IonoState, fe: f32, m: Three, ks: usize, step: EsStep) -> Done
+fn finish(
+    s: IonoState,
+    t: IonoState,
+    fe: f32,
+    m: RegularLines,
+    ks: usize,
+    step: EsStep,
+) -> AnswerAndRow
     ensures { λ r. ⌜ r ≡ esBy step s t fe m ks ⌝ }
 {
     match step {
-        EsStep::Refused(r) => refused_done(s, r),
+        EsStep::Refused(r) => refused_rows_kept(s, r),
         EsStep::Next(a) => {
-            let x = es_line(a, fe);
+            let x = sporadic::es_line(a, fe);
             let line = x.line;
             let hour = hour(m, line, ks);
             let answer = MufAnswer {
@@ -533,7 +295,7 @@ fn finish(s: IonoState, t: IonoState, fe: f32, m: Three, ks: usize, step: EsStep
                 hour,
                 state: t,
             };
-            Done {
+            AnswerAndRow {
                 answer,
                 rewrites: x.rewrites,
                 ksx: a.ksx,
@@ -544,58 +306,65 @@ fn finish(s: IonoState, t: IonoState, fe: f32, m: Three, ks: usize, step: EsStep
 }
 
 // All that an accepted call works out, the search of the Es rows given; the lists reach to slot ks.
-pub fn worked(
+pub fn muf_at_slot(
     s: IonoState,
     ks: usize,
     step: EsStep,
     f2d: &[f32],
     clat: f32,
     clck: f32,
-    c: Circuit,
-) -> Done
+    c: PathNumbers,
+) -> AnswerAndRow
     requires { ⌜ ks < 3 ⌝ }
-    ensures { λ r. ⌜ r ≡ workedOf s ks step (now (f2d .entry)) clat clck c ⌝ }
+    ensures { λ r. ⌜ r ≡ mufAtSlotOf s ks step (now (f2d .entry)) clat clck c ⌝ }
 {
     let t = profile::lecden_slot(s, ks);
     let l = profile::slot_at(t, ks);
-    let found = three_lines(t, l, ks, f2d, clat, clck, c);
+    let found = regular_lines(t, l, ks, f2d, clat, clck, c);
     match found {
-        ThreeAnswer::Refused(r) => refused_done(s, r),
-        ThreeAnswer::Found(m) => finish(s, t, l.fi0, m, ks, step),
+        RegularAnswer::Refused(r) => refused_rows_kept(s, r),
+        RegularAnswer::Found(m) => finish(s, t, l.fi0, m, ks, step),
     }
 }
 
 // The whole call but for the Es rows, flat or records: their search is given, of whatever rows it
 // is, and the row to be rewritten is named. Where the call is refused before them it is not used.
-pub fn searched(
+pub fn muf_from_search(
     s: IonoState,
     step: EsStep,
     f2d: &[f32],
     clat: &[f32],
     clck: &[f32],
-    c: Circuit,
-) -> Done
-    ensures { λ r. ⌜ r ≡ stepDoneOf s step (now (f2d .entry)) (now (clat .entry)) (now (clck .entry)) c ⌝ }
+    c: PathNumbers,
+) -> AnswerAndRow
+    ensures { λ r. ⌜ r ≡ mufFromSearchOf s step (now (f2d .entry)) (now (clat .entry)) (now (clck .entry)) c ⌝ }
 {
     if in_domain(c) {
         let ks = layer_mufs::controlling(s);
         if lists_reach(ks, f2d.len(), clat.len(), clck.len()) {
             let lat = clat[ks];
             let clock = clck[ks];
-            return worked(s, ks, step, f2d, lat, clock, c);
+            return muf_at_slot(s, ks, step, f2d, lat, clock, c);
         }
-        return refused_done(s, Refusal::MufLists);
+        return refused_rows_kept(s, Refusal::MufLists);
     }
-    refused_done(s, Refusal::MufInput)
+    refused_rows_kept(s, Refusal::MufInput)
 }
 
 // The whole call but for the row that it rewrites.
-fn flat(s: IonoState, es: &[f32], f2d: &[f32], clat: &[f32], clck: &[f32], c: Circuit) -> Done
+fn flat(
+    s: IonoState,
+    es: &[f32],
+    f2d: &[f32],
+    clat: &[f32],
+    clck: &[f32],
+    c: PathNumbers,
+) -> AnswerAndRow
     ensures { λ r. ⌜ r ≡ flatOf s (now (es .entry)) (now (f2d .entry)) (now (clat .entry)) (now (clck .entry)) c ⌝ }
 {
     let n = row_count(es.len(), s.km);
-    let step = es_rows(es, n, c);
-    searched(s, step, f2d, clat, clck, c)
+    let step = sporadic::es_rows(es, n, c);
+    muf_from_search(s, step, f2d, clat, clck, c)
 }
 
 // The MUF hour; `es` holds four numbers a row: three of `fs`, then `hs`. Only the controlling row's
@@ -606,7 +375,7 @@ pub fn curmuf(
     f2d: &[f32],
     clat: &[f32],
     clck: &[f32],
-    c: Circuit,
+    c: PathNumbers,
 ) -> MufAnswer
     ensures { λ r. ⌜ r ≡ curmufOf s (now (es .entry)) (now (f2d .entry)) (now (clat .entry)) (now (clck .entry)) c ⌝ }
     ensures { λ r. ⌜ now (es .exit) ≡ esAfterOf s (now (es .entry)) (now (f2d .entry)) (now (clat .entry)) (now (clck .entry)) c ⌝ }

@@ -4,16 +4,17 @@ use mathlib.Core.List.{List, []}
 use Prim.Native.Nat.{ℕ}
 use lib.ListN.{length, getD, set}
 use lib.Ieee.{Float, nan}
-use Rattle.layers.specs.State.{at}
+use Rattle.scalar.specs.F32.{at}
 use Rattle.layers.specs.declared.IonoState.{IonoState}
 use Rattle.layers.specs.declared.EsParams.{EsParams}
-use Rattle.layer_mufs.specs.declared.Circuit.{Circuit}
-use Rattle.muf.specs.Sporadic.{nextBy, esRowOf}
-use Rattle.muf.specs.Curmuf.{takenRows, doneOf}
-use Rattle.muf.specs.declared.EsRow.{EsRow}
-use Rattle.muf.specs.declared.EsStep.{EsStep}
+use Rattle.heights.specs.Gethp.{Finder, gethpOf}
+use Rattle.layer_mufs.specs.declared.PathNumbers.{PathNumbers}
+use Rattle.sporadic.specs.Sporadic.{nextBy, esRowOf}
+use Rattle.muf.specs.Curmuf.{takenRows, mufOfRowsWith}
+use Rattle.sporadic.specs.declared.EsRow.{EsRow}
+use Rattle.sporadic.specs.declared.EsStep.{EsStep}
 use Rattle.muf.specs.declared.MufAnswer.{MufAnswer}
-use Rattle.muf.specs.declared.Done.{Done}
+use Rattle.muf.specs.declared.AnswerAndRow.{AnswerAndRow}
 
 -- past the end, where no code reads
 abbrev pub noEs : EsParams
@@ -25,11 +26,15 @@ rowOf e = record { fs0 = at (e .fs) 0; fs1 = at (e .fs) 1; fs2 = at (e .fs) 2; h
 abbrev pub recordAt : List EsParams → ℕ → EsRow
 recordAt es k = rowOf (getD es k noEs)
 
-unfoldable pub recordsDoneOf : IonoState → List EsParams → List Float → List Float → List Float → Circuit → Done
-recordsDoneOf s es f2d clat clck c = doneOf s (takenRows (length es) (s .km)) (recordAt es) f2d clat clck c
+-- `find` is the way of finding heights off the profile
+unfoldable pub recordsAnswerWith : Finder → IonoState → List EsParams → List Float → List Float → List Float → PathNumbers → AnswerAndRow
+recordsAnswerWith find s es f2d clat clck c = mufOfRowsWith find s (takenRows (length es) (s .km)) (recordAt es) f2d clat clck c
+
+abbrev pub recordsAnswerOf : IonoState → List EsParams → List Float → List Float → List Float → PathNumbers → AnswerAndRow
+recordsAnswerOf = recordsAnswerWith gethpOf
 
 -- row k's turn, where no row before it was refused
-unfoldable pub turnOf : EsStep → ℕ → EsParams → Circuit → EsStep
+unfoldable pub turnOf : EsStep → ℕ → EsParams → PathNumbers → EsStep
 turnOf step k e c = nextBy step (λ a. esRowOf a k (rowOf e) c)
 
 -- only the controlling row's lower decile is rewritten
@@ -40,8 +45,8 @@ abbrev pub recordsBy : Bool → List EsParams → ℕ → Float → List EsParam
 recordsBy true es ksx lower = set es ksx (lowered (getD es ksx noEs) lower)
 recordsBy false es ksx lower = es
 
-abbrev pub recordsMufOf : IonoState → List EsParams → List Float → List Float → List Float → Circuit → MufAnswer
-recordsMufOf s es f2d clat clck c = recordsDoneOf s es f2d clat clck c .answer
+abbrev pub recordsMufOf : IonoState → List EsParams → List Float → List Float → List Float → PathNumbers → MufAnswer
+recordsMufOf s es f2d clat clck c = recordsAnswerOf s es f2d clat clck c .answer
 
-abbrev pub recordsAfterOf : IonoState → List EsParams → List Float → List Float → List Float → Circuit → List EsParams
-recordsAfterOf s es f2d clat clck c = let d = recordsDoneOf s es f2d clat clck c in recordsBy (d .rewrites) es (d .ksx) (d .lower)
+abbrev pub recordsAfterOf : IonoState → List EsParams → List Float → List Float → List Float → PathNumbers → List EsParams
+recordsAfterOf s es f2d clat clck c = let d = recordsAnswerOf s es f2d clat clck c in recordsBy (d .rewrites) es (d .ksx) (d .lower)

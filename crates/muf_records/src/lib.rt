@@ -5,17 +5,17 @@ ghost use mathlib.Core.Path.{_≡_};
 ghost use Prim.Native.Nat.{_<_};
 ghost use mathlib.Core.Bool.{true};
 ghost use lib.ListN.{length};
-ghost use Rattle.muf.specs.Sporadic.{startOf, esFrom};
+ghost use Rattle.sporadic.specs.Sporadic.{startOf, esFrom};
 ghost use Rattle.muf.specs.Curmuf.{takenRows};
 ghost use Rattle.muf_records.specs.Records.{rowOf, recordAt, turnOf, lowered, recordsBy, recordsMufOf, recordsAfterOf};
-ghost use Rattle.muf.specs.declared.EsStep.{EsStep};
-use layer_mufs::Circuit;
+ghost use Rattle.sporadic.specs.declared.EsStep.{EsStep};
+use layer_mufs::PathNumbers;
 use layers::EsParams;
 use layers::IonoState;
-use muf::Done;
-use muf::EsRow;
-use muf::EsStep;
+use muf::AnswerAndRow;
 use muf::MufAnswer;
+use sporadic::EsRow;
+use sporadic::EsStep;
 
 // A record as a row of numbers.
 fn row(e: EsParams) -> EsRow
@@ -34,22 +34,22 @@ fn row(e: EsParams) -> EsRow
 fn first() -> EsStep
     ensures { λ r. ⌜ r ≡ EsStep.Next startOf ⌝ }
 {
-    let a = muf::es_start();
+    let a = sporadic::es_start();
     EsStep::Next(a)
 }
 
 // Row k's turn, where no row before it was refused.
-fn turn(step: EsStep, k: usize, e: EsParams, c: Circuit) -> EsStep
+fn turn(step: EsStep, k: usize, e: EsParams, c: PathNumbers) -> EsStep
     ensures { λ r. ⌜ r ≡ turnOf step k e c ⌝ }
 {
     match step {
         EsStep::Refused(r) => EsStep::Refused(r),
-        EsStep::Next(a) => muf::es_row(a, k, row(e), c),
+        EsStep::Next(a) => sporadic::es_row(a, k, row(e), c),
     }
 }
 
 // The rows in order, at most km of them.
-fn search(es: &[EsParams], km: usize, c: Circuit) -> EsStep
+fn search(es: &[EsParams], km: usize, c: PathNumbers) -> EsStep
     ensures { λ r. ⌜ r ≡ esFrom (recordAt (now (es .entry))) c (takenRows (length (now (es .entry))) km) 0 startOf ⌝ }
 {
     let n = muf::rows_taken(es.len(), km);
@@ -72,7 +72,7 @@ fn with_lower(e: EsParams, lower: f32) -> EsParams
 }
 
 // The controlling row's lower decile is rewritten, if a row controls.
-fn rewrite(es: &mut [EsParams], d: Done) -> MufAnswer
+fn rewrite(es: &mut [EsParams], d: AnswerAndRow) -> MufAnswer
     requires { ⌜ (d .rewrites ≡ true → d .ksx < length (now es)) ⌝ }
     ensures { λ r. ⌜ (r ≡ d .answer) × (now (es .exit) ≡ recordsBy (d .rewrites) (now (es .entry)) (d .ksx) (d .lower)) ⌝ }
 {
@@ -92,12 +92,12 @@ pub fn curmuf_records(
     f2d: &[f32],
     clat: &[f32],
     clck: &[f32],
-    c: Circuit,
+    c: PathNumbers,
 ) -> MufAnswer
     ensures { λ r. ⌜ (r ≡ recordsMufOf s (now (es .entry)) (now (f2d .entry)) (now (clat .entry)) (now (clck .entry)) c)
         × (now (es .exit) ≡ recordsAfterOf s (now (es .entry)) (now (f2d .entry)) (now (clat .entry)) (now (clck .entry)) c) ⌝ }
 {
     let step = search(es, s.km, c);
-    let d = muf::searched(s, step, f2d, clat, clck, c);
+    let d = muf::muf_from_search(s, step, f2d, clat, clck, c);
     rewrite(es, d)
 }

@@ -1,5 +1,5 @@
 // Circuit MUFs over lent Es records; the stored output is what the paper and the Rust say.
-use layer_mufs::Circuit;
+use layer_mufs::PathNumbers;
 use layers::EsParams;
 use layers::IonoState;
 use layers::LayerParams;
@@ -45,7 +45,14 @@ fn print(answer: MufAnswer, es: [EsParams; 5]) {
 }
 
 // The records are lent, and come back.
-fn lend(s: IonoState, mut es: [EsParams; 5], f2d: &[f32], clat: &[f32], clck: &[f32], c: Circuit) {
+fn lend(
+    s: IonoState,
+    mut es: [EsParams; 5],
+    f2d: &[f32],
+    clat: &[f32],
+    clck: &[f32],
+    c: PathNumbers,
+) {
     let answer = muf_records::curmuf_records(s, &mut es, f2d, clat, clck, c);
     print(answer, es);
 }
@@ -78,9 +85,9 @@ fn rows() -> [EsParams; 5] {
     ]
 }
 
-fn circuit(gcdkm: f32) -> Circuit {
-    Circuit {
-        gcd: gcdkm / 6370.0,
+fn circuit(gcdkm: f32) -> PathNumbers {
+    PathNumbers {
+        gcd: gcdkm / constants::RZ,
         gcdkm,
         amind: 3.0,
         ssn: 60.0,

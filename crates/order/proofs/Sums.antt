@@ -1,5 +1,5 @@
 -- Sums and differences by keys: `add` never falls as an operand rises, and a difference is below zero exactly where its first operand is below its second.
-use mathlib.Core.Path.{_≡_, refl, sym, ap, _∙_, subst}
+use mathlib.Core.Path.{_≡_, refl, sym, ap, ap₂, _∙_, subst}
 use mathlib.Core.Logic.{_⊎_, inl, inr}
 use Prim.Native.Nat.{ℕ, suc, _+_, _-_, _*_, _^_, _≤_, _<_, min}
 use native.Mathlib.Nat.{le-trans, le-of-eq, le-of-lt, le-refl, le-antisymm, lt-of-lt-of-le, lt-of-le-of-lt, mul-comm, add-mul, mul-pos, mul-sub, le-of-mul-le-mul-right, mul-le-mul-right, min-eq-left, min-eq-right}
@@ -20,6 +20,16 @@ pub sized : (f : Format) (x : Float) (s : Bool) (u : ℕ) → HasValue x s u (2 
 sized f nan s u h = absurd h
 sized f (inf t) s u h = absurd h
 sized f (fin t m e) s u h = (mag-of f t m e u (h .1), h .0, tt)
+
+-- the key of a value, and the negative of one
+pub sized-key : (f : Format) (x : Float) (s : Bool) (v : ℕ) → HasValue x s v (2 ^ low f) → (key f x ≡ keyOf (overflow f) s v) × T (real x)
+sized-key f x s v h = let z = sized f x s v h in (ap₂ (λ (t : Bool) (u : ℕ). keyOf (overflow f) t u) (z .1) (z .0), z .2)
+
+pub neg-value : (x : Float) (v c : ℕ) → HasValue x false v c → HasValue (neg x) true v c
+unfolding neg
+neg-value nan v c h = h
+neg-value (inf s) v c h = h
+neg-value (fin s m e) v c h = (ap not (h .0), h .1)
 
 units-as : (f : Format) (s : Bool) (q k : ℕ) → (mag f (units f s q k) ≡ min (q * 2 ^ k) (overflow f)) × (sgn (units f s q k) ≡ s) × T (real (units f s q k))
 unfolding units

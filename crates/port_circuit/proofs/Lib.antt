@@ -1,2 +1,3 @@
-pub mod Copies
-pub mod Laid
+-- Words copied, and a circuit laid out in words.
+mod Copies
+mod Laid

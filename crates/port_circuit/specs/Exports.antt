@@ -1,6 +1,6 @@
 -- The calls on words and bytes: the number answered, 0 or the refusal's, and the words or bytes lent, afterwards. The count of words is looked at first; a refused call leaves everything.
 use mathlib.Core.Bool.{Bool, true, false}
-use mathlib.Core.List.{List}
+use mathlib.Core.List.{List, []}
 use Prim.Native.Nat.{ℕ}
 use lib.Dec.{leb}
 use lib.ListN.{length}
@@ -37,7 +37,7 @@ portRead file w = readBy (leb 657 (length w)) file w
 
 abbrev pub writeBy : Bool → Circuit → List ℕ → Ported
 writeBy true c file =
-    record { number = written.numberIn (written.answerOf form64 c file); cells = written.leftOf form64 c file }
+    record { number = written.numberIn (written.answerOf form64 c file); cells = written.leftOf form64 c [] file }
 writeBy false c file = refusedWith Refusal.Length file
 
 unfoldable pub portWrite : List ℕ → List ℕ → Ported

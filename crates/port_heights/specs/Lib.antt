@@ -1,1 +1,2 @@
+-- The exports of the heights.
 pub mod Exports

@@ -1,4 +1,4 @@
-pub mod Cells
+-- Cells, ranges and rooms of the exported lists, and the slot sheet through words.
 pub mod Ranges
 pub mod Rooms
 pub mod Sheets

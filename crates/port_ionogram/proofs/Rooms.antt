@@ -9,9 +9,9 @@ use lib.IntN.{ℤ, pos}
 use lib.ListN.{length, take, replicate, length-map}
 use lib.Seq.{length-take-le, take-all}
 use borrow.Author.Tests.{le-leb, lt-leb}
-use Rattle.ionogram.specs.Fobby.{roomFor}
+use Rattle.reflectrix.specs.Fobby.{roomFor}
 use Rattle.port_state.specs.Words.{signedOf}
-use Rattle.port_ionogram.specs.Layouts.{cellsOf}
+use Rattle.port_layouts.specs.Layouts.{cellsOf}
 
 length-all : (w : List ℕ) (n : ℕ) → n ≤ length w → length (cellsOf w n) ≡ n
 unfolding cellsOf

@@ -6,11 +6,11 @@ use lib.ListN.{length}
 use borrow.Author.Tests.{le-leb, lt-leb, le-ltb}
 use Rattle.refusal.specs.declared.Refusal.{Refusal}
 use Rattle.refusal.specs.declared.Outcome.{Outcome}
-use Rattle.ionogram.specs.Fobby.{fobbyOutcome, cellsAfter}
-use Rattle.hour.specs.Sheet.{slotSheetOf}
+use Rattle.reflectrix.specs.Fobby.{fobbyOutcome, cellsAfter}
+use Rattle.slot_sheet.specs.Sheet.{slotSheetWith}
 use Rattle.port_state.specs.State.{stateInto}
 use Rattle.port_state.specs.Ports.{Ported, refusedWith}
-use Rattle.port_ionogram.specs.Layouts.{cellsOf, cellsInto, ionogramOf, ionogramInto}
+use Rattle.port_layouts.specs.Layouts.{cellsOf, cellsInto, ionogramOf, ionogramInto}
 use Rattle.port_ionogram.specs.Exports.{PortedSheet, portFobby, refusedSheet, sheetOn, sheetCellsOn, portSheet}
 use Rattle.port_ionogram.proofs.Rooms.{room, too-many, too-short}
 
@@ -44,17 +44,17 @@ module _ (state : List ℕ) (k nang : ℕ) (layers cells out : List ℕ) where
     sheet-answered e = rw (le-ltb (length state) 153 ls, le-ltb (length layers) 44 ll, le-ltb (length out) 120 lo, e)
 
   pub slot-above : 2 < k → sheetOn state k nang layers cells .outcome ≡ Outcome.Refused Refusal.SlotNumber
-  unfolding sheetOn slotSheetOf
+  unfolding sheetOn slotSheetWith
   slot-above h = rw (lt-leb k 2 h)
 
   pub angles-above : k ≤ 2 → 40 < nang → sheetOn state k nang layers cells .outcome ≡ Outcome.Refused Refusal.Reflectrix
-  unfolding sheetOn slotSheetOf
+  unfolding sheetOn slotSheetWith
   angles-above s many = rw (le-leb k 2 s, too-many (cellsOf cells (30 * nang)) nang many)
 
   pub cells-short : k ≤ 2 → nang ≤ 40 → length cells < 30 * nang → sheetOn state k nang layers cells .outcome ≡ Outcome.Refused Refusal.Reflectrix
-  unfolding sheetOn slotSheetOf
+  unfolding sheetOn slotSheetWith
   cells-short s few h = rw (le-leb k 2 s, too-short cells nang few h)
 
   pub with-room : k ≤ 2 → nang ≤ 40 → 30 * nang ≤ length cells → sheetOn state k nang layers cells .outcome ≡ Outcome.Answered
-  unfolding sheetOn slotSheetOf
+  unfolding sheetOn slotSheetWith
   with-room s few h = rw (le-leb k 2 s, room cells nang few h)

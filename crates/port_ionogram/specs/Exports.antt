@@ -11,17 +11,17 @@ use Rattle.refusal.specs.declared.Refusal.{Refusal}
 use Rattle.refusal.specs.declared.Outcome.{Outcome}
 use Rattle.port_state.specs.Ports.{Ported, refusedWith}
 use Rattle.port_state.specs.State.{stateOf, stateInto}
-use Rattle.ionogram.specs.Angles.{sangOf, scanNumber, scanValue}
-use Rattle.ionogram.specs.Selmod.{selmodOf}
-use Rattle.ionogram.specs.Fobby.{fobbyOutcome, cellsAfter}
-use Rattle.ionogram.specs.declared.Scan.{Scan}
-use Rattle.ionogram.specs.declared.Ionogram.{Ionogram}
-use Rattle.ionogram.specs.declared.IonogramAnswer.{IonogramAnswer}
+use Rattle.reflectrix.specs.Angles.{sangOf, scanNumber, scanValue}
+use Rattle.reflectrix.specs.Selmod.{selmodOf}
+use Rattle.reflectrix.specs.Fobby.{fobbyOutcome, cellsAfter}
+use Rattle.reflectrix.specs.declared.Scan.{Scan}
+use Rattle.reflectrix.specs.declared.Ionogram.{Ionogram}
+use Rattle.reflectrix.specs.declared.IonogramAnswer.{IonogramAnswer}
 use Rattle.sounding.specs.Genion.{genionAnswer}
 use Rattle.losses.specs.Alosfv.{alosfvAnswer}
-use Rattle.hour.specs.Sheet.{slotSheetOf, sheetCellsOf}
-use Rattle.hour.specs.declared.SlotSheet.{SlotSheet}
-use Rattle.port_ionogram.specs.Layouts.{cellsOf, cellsInto, ionogramOf, ionogramInto, linesOf}
+use Rattle.slot_sheet.specs.Sheet.{slotSheetOf, sheetCellsOf}
+use Rattle.slot_sheet.specs.declared.SlotSheet.{SlotSheet}
+use Rattle.port_layouts.specs.Layouts.{cellsOf, cellsInto, ionogramOf, ionogramInto, linesOf}
 
 -- has the slice fewer words than its layout
 abbrev pub short : List ℕ → ℕ → Bool

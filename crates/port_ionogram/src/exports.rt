@@ -3,28 +3,27 @@ ghost use mathlib.Core.Path.{_≡_};
 ghost use Prim.Native.Nat.{_*_, _≤_};
 ghost use lib.ListN.{length};
 ghost use denote.Ref.{now};
-ghost use Rattle.ionogram.specs.Angles.{scanValue};
-ghost use Rattle.ionogram.specs.Fobby.{cellsAfter};
-ghost use Rattle.hour.specs.Sheet.{slotSheetOf, sheetCellsOf};
+ghost use Rattle.reflectrix.specs.Angles.{scanValue};
+ghost use Rattle.reflectrix.specs.Fobby.{cellsAfter};
+ghost use Rattle.slot_sheet.specs.Sheet.{slotSheetOf, sheetCellsOf};
 ghost use Rattle.port_state.specs.State.{stateInto};
-ghost use Rattle.port_ionogram.specs.Layouts.{cellsOf, cellsInto, ionogramInto};
+ghost use Rattle.port_layouts.specs.Layouts.{cellsOf, cellsInto, ionogramInto};
 ghost use Rattle.port_ionogram.specs.Exports.{scanInto, rowsInto, portSang, portSelmod, portGenion, portFobby, portAlosfv, sheetOn, sheetCellsOn, portSheet};
-use super::layouts;
-use hour::SlotSheet;
-use ionogram::Ionogram;
-use ionogram::IonogramAnswer;
-use ionogram::Scan;
 use layers::IonoState;
 use layers::LayerMuf;
+use reflectrix::Ionogram;
+use reflectrix::IonogramAnswer;
+use reflectrix::Scan;
 use refusal::Outcome;
+use slot_sheet::SlotSheet;
 
 fn scan_into(a: Scan, out: &mut [u32]) -> u32
     requires { ⌜ (1 ≤ length (now out)) × (scanValue a ≤ 40) ⌝ }
     ensures { λ r. ⌜ (r ≡ scanInto a (now (out .entry)) .number) × (now (out .exit) ≡ scanInto a (now (out .entry)) .words) ⌝ }
 {
-    let number = ionogram::scan_number(a);
+    let number = reflectrix::scan_number(a);
     if number == 0 {
-        let n = ionogram::scan_value(a);
+        let n = reflectrix::scan_value(a);
         out[0] = n as u32;
         return number;
     }
@@ -41,7 +40,7 @@ pub extern "C" fn port_sang(gcdkm: u32, amind: u32, out: &mut [u32]) -> u32
     }
     let km = scalar::number(gcdkm);
     let least = scalar::number(amind);
-    let a = ionogram::sang(km, least);
+    let a = reflectrix::sang(km, least);
     scan_into(a, out)
 }
 
@@ -57,7 +56,7 @@ pub extern "C" fn port_selmod(state: &[u32], out: &mut [u32]) -> u32
         return 1;
     }
     let s = port_state::state_of(state);
-    let k = ionogram::selmod(s);
+    let k = reflectrix::selmod(s);
     out[0] = k as u32;
     0
 }
@@ -70,7 +69,7 @@ fn rows_into(a: IonogramAnswer, w: &mut [u32]) -> u32
     match o {
         Outcome::Answered => {
             let ion = a.ion;
-            layouts::ionogram_into(ion, w);
+            port_layouts::ionogram_into(ion, w);
             0
         }
         Outcome::Refused(r) => refusal::number(r),
@@ -108,8 +107,8 @@ pub extern "C" fn port_alosfv(state: &[u32], k: u32, ion: &mut [u32], layers: &[
         return 1;
     }
     let s = port_state::state_of(state);
-    let rows = layouts::ionogram_of(ion);
-    let lines = layouts::lines_of(layers);
+    let rows = port_layouts::ionogram_of(ion);
+    let lines = port_layouts::lines_of(layers);
     let a = losses::alosfv(s, port_state::wide(k), rows, lines);
     rows_into(a, ion)
 }
@@ -119,9 +118,9 @@ fn fobby_by(ion: Ionogram, nang: usize, c: &mut [i32], cells: &mut [u32])
     requires { ⌜ (length (now c) ≡ 30 * nang) × (30 * nang ≤ length (now cells)) ⌝ }
     ensures { λ _. ⌜ now (cells .exit) ≡ cellsInto (now (cells .entry)) (cellsAfter ion nang (cellsOf (now (cells .entry)) (30 * nang))) ⌝ }
 {
-    layouts::cells_of(cells, c);
-    ionogram::fobby(ion, nang, c);
-    layouts::cells_into(c, cells);
+    port_layouts::cells_of(cells, c);
+    reflectrix::fobby(ion, nang, c);
+    port_layouts::cells_into(c, cells);
 }
 
 // ion 120 words; cells: 30 words an angle
@@ -140,7 +139,7 @@ pub extern "C" fn port_fobby(ion: &[u32], nang: u32, cells: &mut [u32]) -> u32
     if cells.len() < count {
         return 8;
     }
-    let rows = layouts::ionogram_of(ion);
+    let rows = port_layouts::ionogram_of(ion);
     let mut c = [0; 1200];
     fobby_by(rows, n, &mut c[..count], cells);
     0
@@ -158,9 +157,9 @@ fn sheet_by(
     requires { ⌜ (length (now c) ≡ 30 * nang) × (30 * nang ≤ length (now cells)) ⌝ }
     ensures { λ r. ⌜ (r ≡ slotSheetOf s k nang layers (cellsOf (now (cells .entry)) (30 * nang))) × (now (cells .exit) ≡ cellsInto (now (cells .entry)) (sheetCellsOf s k nang (cellsOf (now (cells .entry)) (30 * nang)))) ⌝ }
 {
-    layouts::cells_of(cells, c);
-    let a = hour::slot_sheet(s, k, nang, layers, c);
-    layouts::cells_into(c, cells);
+    port_layouts::cells_of(cells, c);
+    let a = slot_sheet::slot_sheet(s, k, nang, layers, c);
+    port_layouts::cells_into(c, cells);
     a
 }
 
@@ -178,14 +177,14 @@ fn sheet_into(
         × (now (out .exit) ≡ ionogramInto (sheetOn (now (state .entry)) k nang (now (layers .entry)) (now (cells .entry)) .ion) (now (out .entry))) ⌝ }
 {
     let s = port_state::state_of(state);
-    let lines = layouts::lines_of(layers);
+    let lines = port_layouts::lines_of(layers);
     let count = 30 * nang;
     let mut c = [0; 1200];
     let a = sheet_by(s, k, nang, lines, &mut c[..count], cells);
     let t = a.state;
     let ion = a.ion;
     port_state::state_into(t, state);
-    layouts::ionogram_into(ion, out);
+    port_layouts::ionogram_into(ion, out);
 }
 
 // state 153 words, layers 44; cells: 30 words an angle; out 120: fvert, hprim, htrue, afac

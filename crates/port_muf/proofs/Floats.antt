@@ -9,14 +9,15 @@ use lib.ListN.{length, getD, length-map}
 use lib.Seq.{take-all}
 use lib.Ieee.{Float, binary32, ofBits}
 use Rattle.refusal.specs.declared.Refusal.{Refusal}
-use Rattle.layers.specs.State.{at}
+use Rattle.scalar.specs.F32.{at}
 use Rattle.layers.specs.declared.IonoState.{IonoState}
+use Rattle.heights.specs.Gethp.{gethpOf}
 use Rattle.layer_mufs.specs.Controlling.{controllingOf}
-use Rattle.layer_mufs.specs.declared.Circuit.{Circuit}
-use Rattle.muf.specs.Sporadic.{rowAt, esFrom, startOf}
-use Rattle.muf.specs.Curmuf.{doneBy, doneOf, flatOf, inDomain, listsReach, refusedDone, rowsOf, stepDoneOf, workedOf}
-use Rattle.muf.specs.declared.Done.{Done}
-use Rattle.muf.specs.declared.EsStep.{EsStep}
+use Rattle.layer_mufs.specs.declared.PathNumbers.{PathNumbers}
+use Rattle.sporadic.specs.Sporadic.{rowAt, esFrom, startOf}
+use Rattle.muf.specs.Curmuf.{mufFromSearchBy, mufOfRowsWith, flatWith, flatOf, inDomain, listsReach, refusedRowsKept, rowCountOf, mufFromSearchWith, mufAtSlotOf}
+use Rattle.muf.specs.declared.AnswerAndRow.{AnswerAndRow}
+use Rattle.sporadic.specs.declared.EsStep.{EsStep}
 use Rattle.muf.proofs.Rows.{flat-below}
 use Rattle.muf.proofs.Lists.{deciles-whole, lists-reach}
 use Rattle.port_state.specs.Words.{floatsOf}
@@ -31,19 +32,19 @@ pub all-of : (w : List ℕ) → length w ≡ 576 → floatsOf w 0 576 ≡ floats
 unfolding floatsOf
 all-of w h = rw (take-all 576 w (le-of-eq h))
 
-module _ (s : IonoState) (es deciles clat clck : List ℕ) (c : Circuit) where
+module _ (s : IonoState) (es deciles clat clck : List ℕ) (c : PathNumbers) where
   -- the lists by the lengths of their words
-  by-lengths : flatOf s (floats es) (floats deciles) (floats clat) (floats clck) c ≡ doneBy (inDomain c) (listsReach (controllingOf s) (length deciles) (length clat) (length clck)) s (esFrom (rowAt (floats es)) c (rowsOf (length es) (s .km)) 0 startOf) (floats deciles) (floats clat) (floats clck) c
-  unfolding flatOf doneOf stepDoneOf
+  by-lengths : flatOf s (floats es) (floats deciles) (floats clat) (floats clck) c ≡ mufFromSearchBy (inDomain c) (listsReach (controllingOf s) (length deciles) (length clat) (length clck)) gethpOf s (esFrom (rowAt (floats es)) c (rowCountOf (length es) (s .km)) 0 startOf) (floats deciles) (floats clat) (floats clck) c
+  unfolding flatWith mufOfRowsWith mufFromSearchWith
   by-lengths = rw (length-map es (ofBits binary32), length-map deciles (ofBits binary32), length-map clat (ofBits binary32), length-map clck (ofBits binary32))
 
-  pub not-in-domain : inDomain c ≡ false → refusedDone s Refusal.MufInput ≡ flatOf s (floats es) (floats deciles) (floats clat) (floats clck) c
+  pub not-in-domain : inDomain c ≡ false → refusedRowsKept s Refusal.MufInput ≡ flatOf s (floats es) (floats deciles) (floats clat) (floats clck) c
   not-in-domain p = rw (by-lengths, p)
 
-  pub lists-short : (ks : ℕ) → ks ≡ controllingOf s → inDomain c ≡ true → listsReach ks (length deciles) (length clat) (length clck) ≡ false → refusedDone s Refusal.MufLists ≡ flatOf s (floats es) (floats deciles) (floats clat) (floats clck) c
+  pub lists-short : (ks : ℕ) → ks ≡ controllingOf s → inDomain c ≡ true → listsReach ks (length deciles) (length clat) (length clck) ≡ false → refusedRowsKept s Refusal.MufLists ≡ flatOf s (floats es) (floats deciles) (floats clat) (floats clck) c
   lists-short ks e p q = rw (by-lengths, p, ← e, q)
 
-  pub taken-up : (ks : ℕ) (step : EsStep) (f2d : List Float) (lat clock : Float) → ks ≡ controllingOf s → inDomain c ≡ true → listsReach ks (length deciles) (length clat) (length clck) ≡ true → step ≡ esFrom (rowAt (floats es)) c (rowsOf (length es) (s .km)) 0 startOf → f2d ≡ floatsOf deciles 0 576 → lat ≡ ofBits binary32 (getD clat ks 0) → clock ≡ ofBits binary32 (getD clck ks 0) → workedOf s ks step f2d lat clock c ≡ flatOf s (floats es) (floats deciles) (floats clat) (floats clck) c
+  pub taken-up : (ks : ℕ) (step : EsStep) (f2d : List Float) (lat clock : Float) → ks ≡ controllingOf s → inDomain c ≡ true → listsReach ks (length deciles) (length clat) (length clck) ≡ true → step ≡ esFrom (rowAt (floats es)) c (rowCountOf (length es) (s .km)) 0 startOf → f2d ≡ floatsOf deciles 0 576 → lat ≡ ofBits binary32 (getD clat ks 0) → clock ≡ ofBits binary32 (getD clck ks 0) → mufAtSlotOf s ks step f2d lat clock c ≡ flatOf s (floats es) (floats deciles) (floats clat) (floats clck) c
   taken-up ks step f2d lat clock e p q w d a t =
       let r = lists-reach ks (length deciles) (length clat) (length clck) q in
       rw (
@@ -62,7 +63,7 @@ module _ (s : IonoState) (es deciles clat clck : List ℕ) (c : Circuit) where
       )
 
   -- the row that is rewritten is there
-  pub row-there : (d : Done) → d ≡ flatOf s (floats es) (floats deciles) (floats clat) (floats clck) c → d .rewrites ≡ true → 4 * d .ksx < length es
+  pub row-there : (d : AnswerAndRow) → d ≡ flatOf s (floats es) (floats deciles) (floats clat) (floats clck) c → d .rewrites ≡ true → 4 * d .ksx < length es
   row-there d e h =
       let b : 4 * d .ksx < length (floats es) = rw e (flat-below s (floats es) (floats deciles) (floats clat) (floats clck) c (rw (← e) h)) in
       omega (arith, length-map es (ofBits binary32))

@@ -1,2 +1,3 @@
-pub mod Floats
-pub mod Refused
+-- Words as floats, and refused calls.
+mod Floats
+mod Refused

@@ -10,10 +10,10 @@ use Rattle.refusal.specs.Number.{numberOf}
 use Rattle.refusal.specs.declared.Refusal.{Refusal}
 use Rattle.refusal.specs.declared.Outcome.{Outcome}
 use Rattle.layers.specs.declared.LayerMuf.{LayerMuf}
-use Rattle.layer_mufs.specs.declared.Circuit.{Circuit}
+use Rattle.layer_mufs.specs.declared.PathNumbers.{PathNumbers}
 use Rattle.muf.specs.Curmuf.{flatOf}
 use Rattle.muf.specs.declared.MufHour.{MufHour}
-use Rattle.muf.specs.declared.Done.{Done}
+use Rattle.muf.specs.declared.AnswerAndRow.{AnswerAndRow}
 use Rattle.port_state.specs.Words.{floatsOf, floatsInto, word, wordOf, countOf}
 use Rattle.port_state.specs.Ports.{Ported}
 use Rattle.port_state.specs.State.{stateOf, stateInto}
@@ -58,8 +58,8 @@ abbrev pub floats : List ℕ → List Float
 floats w = map (ofBits binary32) w
 
 -- gcd, gcdkm, amind, ssn
-abbrev pub circuitOf : List ℕ → Circuit
-circuitOf w = record { gcd = number w 0; gcdkm = number w 1; amind = number w 2; ssn = number w 3 }
+abbrev pub pathNumbersOf : List ℕ → PathNumbers
+pathNumbersOf w = record { gcd = number w 0; gcdkm = number w 1; amind = number w 2; ssn = number w 3 }
 
 -- a layer's eleven words from word `from` on, in the order of its fields: the hop count is the eighth
 unfoldable pub tenInto : LayerMuf → ℕ → List ℕ → List ℕ
@@ -93,12 +93,12 @@ abbrev pub wordsBy : Bool → List ℕ → ℕ → Float → List ℕ
 wordsBy true es ksx lower = set es (4 * ksx) (toBits binary32 lower)
 wordsBy false es ksx lower = es
 
-abbrev pub outcomeBy : Outcome → Done → List ℕ → List ℕ → List ℕ → HourLeft
+abbrev pub outcomeBy : Outcome → AnswerAndRow → List ℕ → List ℕ → List ℕ → HourLeft
 outcomeBy Outcome.Answered d state es out =
     leaves 0 (stateInto (d .answer .state) state) (wordsBy (d .rewrites) es (d .ksx) (d .lower)) (hourInto (d .answer .hour) out)
 outcomeBy (Outcome.Refused r) d state es out = leaves (numberOf r) state es out
 
-unfoldable pub doneLeft : Done → List ℕ → List ℕ → List ℕ → HourLeft
+unfoldable pub doneLeft : AnswerAndRow → List ℕ → List ℕ → List ℕ → HourLeft
 doneLeft d state es out = outcomeBy (d .answer .outcome) d state es out
 
 -- too few words of the state, too few numbers, no room for the hour
@@ -113,4 +113,4 @@ unfoldable pub curmufLeft : List ℕ → List ℕ → List ℕ → List ℕ → 
 curmufLeft state es deciles clat clck numbers out =
     curmufBy (ltb (length state) 153) (ltb (length numbers) 4) (ltb (length out) 54)
     (leaves (numberOf Refusal.Length) state es out)
-    (doneLeft (flatOf (stateOf state) (floats es) (floats deciles) (floats clat) (floats clck) (circuitOf numbers)) state es out)
+    (doneLeft (flatOf (stateOf state) (floats es) (floats deciles) (floats clat) (floats clck) (pathNumbersOf numbers)) state es out)

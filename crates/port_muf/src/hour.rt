@@ -5,18 +5,18 @@ ghost use Prim.Native.Nat.{_+_, _*_, _<_, _≤_};
 ghost use lib.ListN.{length};
 ghost use denote.Ref.{now};
 ghost use Rattle.port_state.specs.Words.{floatsInto};
-ghost use Rattle.muf.specs.Sporadic.{rowAt, esFrom, startOf};
+ghost use Rattle.sporadic.specs.Sporadic.{rowAt, esFrom, startOf};
 ghost use Rattle.muf.specs.Curmuf.{flatOf};
-ghost use Rattle.port_muf.specs.Exports.{floats, leaves, circuitOf, tenInto, lineInto, headInto, hourInto, wordsBy, doneLeft, curmufLeft};
-use layer_mufs::Circuit;
+ghost use Rattle.port_muf.specs.Exports.{floats, leaves, pathNumbersOf, tenInto, lineInto, headInto, hourInto, wordsBy, doneLeft, curmufLeft};
+use layer_mufs::PathNumbers;
 use layers::IonoState;
 use layers::LayerMuf;
-use muf::Done;
-use muf::EsRow;
-use muf::EsStep;
+use muf::AnswerAndRow;
 use muf::MufHour;
 use refusal::Outcome;
 use refusal::Refusal;
+use sporadic::EsRow;
+use sporadic::EsStep;
 
 fn word_row(es: &[u32], k: usize) -> EsRow
     requires { ⌜ 4 * k + 3 < length (now es) ⌝ }
@@ -34,14 +34,14 @@ fn word_row(es: &[u32], k: usize) -> EsRow
 }
 
 // The first n rows, in order.
-fn word_rows(es: &[u32], n: usize, c: Circuit) -> EsStep
+fn word_rows(es: &[u32], n: usize, c: PathNumbers) -> EsStep
     requires { ⌜ 4 * n ≤ length (now es) ⌝ }
     ensures { λ r. ⌜ r ≡ esFrom (rowAt (floats (now (es .entry)))) c n 0 startOf ⌝ }
 {
-    let mut a = muf::es_start();
+    let mut a = sporadic::es_start();
     for k in 0..n {
         let row = word_row(es, k);
-        let step = muf::es_row(a, k, row, c);
+        let step = sporadic::es_row(a, k, row, c);
         match step {
             EsStep::Refused(r) => {
                 return EsStep::Refused(r);
@@ -55,7 +55,14 @@ fn word_rows(es: &[u32], n: usize, c: Circuit) -> EsStep
 }
 
 // The whole call but for what it writes.
-fn called(s: IonoState, es: &[u32], deciles: &[u32], clat: &[u32], clck: &[u32], c: Circuit) -> Done
+fn called(
+    s: IonoState,
+    es: &[u32],
+    deciles: &[u32],
+    clat: &[u32],
+    clck: &[u32],
+    c: PathNumbers,
+) -> AnswerAndRow
     ensures { λ r. ⌜ r ≡ flatOf s (floats (now (es .entry))) (floats (now (deciles .entry))) (floats (now (clat .entry))) (floats (now (clck .entry))) c ⌝ }
 {
     if muf::in_domain(c) {
@@ -66,22 +73,22 @@ fn called(s: IonoState, es: &[u32], deciles: &[u32], clat: &[u32], clck: &[u32],
             let clock = scalar::number(clck[ks]);
             let n = muf::row_count(es.len(), s.km);
             let step = word_rows(es, n, c);
-            return muf::worked(s, ks, step, &f2d, lat, clock, c);
+            return muf::muf_at_slot(s, ks, step, &f2d, lat, clock, c);
         }
-        return muf::refused_done(s, Refusal::MufLists);
+        return muf::refused_rows_kept(s, Refusal::MufLists);
     }
-    muf::refused_done(s, Refusal::MufInput)
+    muf::refused_rows_kept(s, Refusal::MufInput)
 }
 
-fn circuit_of(numbers: &[u32]) -> Circuit
+fn path_numbers_of(numbers: &[u32]) -> PathNumbers
     requires { ⌜ 4 ≤ length (now numbers) ⌝ }
-    ensures { λ r. ⌜ r ≡ circuitOf (now (numbers .entry)) ⌝ }
+    ensures { λ r. ⌜ r ≡ pathNumbersOf (now (numbers .entry)) ⌝ }
 {
     let gcd = scalar::number(numbers[0]);
     let gcdkm = scalar::number(numbers[1]);
     let amind = scalar::number(numbers[2]);
     let ssn = scalar::number(numbers[3]);
-    Circuit {
+    PathNumbers {
         gcd,
         gcdkm,
         amind,
@@ -143,7 +150,7 @@ fn head_into(h: MufHour, out: &mut [u32])
     let ks = h.ks;
     port_state::floats_into(&x, out, 0);
     out[8] = port_state::word(modmuf);
-    out[9] = (ks % 4294967296) as u32;
+    out[9] = (ks % 0x1_0000_0000) as u32;
 }
 
 fn hour_into(h: MufHour, out: &mut [u32])
@@ -174,7 +181,7 @@ fn es_into(rewrites: bool, ksx: usize, lower: f32, es: &mut [u32])
     }
 }
 
-fn done_into(d: Done, state: &mut [u32], es: &mut [u32], out: &mut [u32]) -> u32
+fn done_into(d: AnswerAndRow, state: &mut [u32], es: &mut [u32], out: &mut [u32]) -> u32
     requires { ⌜ (153 ≤ length (now state)) × (54 ≤ length (now out)) × (d .rewrites ≡ true → 4 * d .ksx < length (now es)) ⌝ }
     ensures { λ r. ⌜ leaves r (now (state .exit)) (now (es .exit)) (now (out .exit)) ≡ doneLeft d (now (state .entry)) (now (es .entry)) (now (out .entry)) ⌝ }
 {
@@ -217,7 +224,7 @@ pub extern "C" fn port_curmuf(
         return 1;
     }
     let s = port_state::state_of(state);
-    let c = circuit_of(numbers);
+    let c = path_numbers_of(numbers);
     let d = called(s, es, deciles, clat, clck, c);
     done_into(d, state, es, out)
 }

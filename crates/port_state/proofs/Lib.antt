@@ -1,2 +1,3 @@
+-- Signs as words, and words copied.
 pub mod Signs
-pub mod Copies
+mod Copies

@@ -12,11 +12,11 @@ use mir.Facts.{toZ-ofZ}
 use Rattle.port_state.specs.Words.{wordOf}
 use borrow.Author.Tests.{lt-ltb, le-ltb}
 
-pub below-half : (n : ℕ) → n < 2147483648 → toZ w32 n ≡ pos n
-below-half n h = rw (lt-ltb n 2147483648 h)
+pub below-half : (n : ℕ) → n < 0x8000_0000 → toZ w32 n ≡ pos n
+below-half n h = rw (lt-ltb n 0x8000_0000 h)
 
-pub from-half : (n : ℕ) → 2147483648 ≤ n → toZ w32 n ≡ negsuc (4294967295 - n)
-from-half n h = rw (le-ltb n 2147483648 h) (ap negsuc (omega arith))
+pub from-half : (n : ℕ) → 0x8000_0000 ≤ n → toZ w32 n ≡ negsuc (0xffff_ffff - n)
+from-half n h = rw (le-ltb n 0x8000_0000 h) (ap negsuc (omega arith))
 
 pub less-pos : (n : ℕ) → negsuc 0 -ℤ pos n ≡ negsuc n
 less-pos zero = refl
@@ -33,7 +33,7 @@ pub positive-is : (z : ℤ) → leZ (pos 0) z ≡ true → z ≡ pos (mag z)
 positive-is (pos n) h = refl
 positive-is (negsuc n) h = absurd (true≢false (sym h))
 
-pub read-back : (z : ℤ) → mag z < 2147483648 → toZ w32 (ofZ w32 z) ≡ z
+pub read-back : (z : ℤ) → mag z < 0x8000_0000 → toZ w32 (ofZ w32 z) ≡ z
 read-back z h = toZ-ofZ {w = w32} {z = z} (record { sfits = h })
 
 pub word-pos : (z : ℤ) → z ≡ pos (mag z) → natAbs z ≡ wordOf z
@@ -41,7 +41,7 @@ unfolding wordOf
 word-pos (pos n) e = refl
 word-pos (negsuc n) e = cc
 
-pub word-neg : (z : ℤ) → z ≡ negsuc (mag z) → 4294967295 - mag z ≡ wordOf z
+pub word-neg : (z : ℤ) → z ≡ negsuc (mag z) → 0xffff_ffff - mag z ≡ wordOf z
 unfolding wordOf
 word-neg (pos n) e = cc
 word-neg (negsuc n) e = refl

@@ -21,15 +21,15 @@ floatsInto w from x = take from w ++ map (toBits binary32) x ++ drop (from + len
 
 abbrev pub signedBy : Bool → ℕ → ℤ
 signedBy true w = pos w
-signedBy false w = negsuc (4294967295 - w)
+signedBy false w = negsuc (0xffff_ffff - w)
 
 -- below 2^31 the word itself, else 2^32 less
 unfoldable pub signedOf : ℕ → ℤ
-signedOf w = signedBy (ltb w 2147483648) w
+signedOf w = signedBy (ltb w 0x8000_0000) w
 
 unfoldable pub wordOf : ℤ → ℕ
 wordOf (pos n) = n
-wordOf (negsuc n) = 4294967295 - n
+wordOf (negsuc n) = 0xffff_ffff - n
 
 -- 0 is no, all else yes
 unfoldable pub yesOf : ℕ → Bool
@@ -41,4 +41,4 @@ flagOf false = 0
 
 -- a count; what is over 2^32 is cut
 abbrev pub countOf : ℕ → ℕ
-countOf n = n % 4294967296
+countOf n = n % 0x1_0000_0000

@@ -83,10 +83,10 @@ fn floats_50_into(x: [f32; 50], w: &mut [u32], from: usize)
 pub fn signed(w: u32) -> i32
     ensures { λ r. ⌜ r ≡ signedOf w ⌝ }
 {
-    if w < 2147483648 {
+    if w < 0x8000_0000 {
         return w as i32;
     }
-    -1 - ((4294967295 - w) as i32)
+    -1 - ((0xffff_ffff - w) as i32)
 }
 
 pub fn word(n: i32) -> u32
@@ -95,7 +95,7 @@ pub fn word(n: i32) -> u32
     if n >= 0 {
         return n as u32;
     }
-    4294967295 - ((-1 - n) as u32)
+    0xffff_ffff - ((-1 - n) as u32)
 }
 
 pub fn yes(w: u32) -> bool
@@ -148,7 +148,7 @@ pub fn state_of(w: &[u32]) -> IonoState
 fn count(n: usize) -> u32
     ensures { λ r. ⌜ r ≡ countOf n ⌝ }
 {
-    (n % 4294967296) as u32
+    (n % 0x1_0000_0000) as u32
 }
 
 fn tables_into(s: IonoState, w: &mut [u32])

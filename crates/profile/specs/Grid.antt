@@ -4,10 +4,9 @@ use mathlib.Core.List.{List}
 use Prim.Native.Nat.{ℕ, zero, suc, _+_}
 use lib.ListN.{replicate, set}
 use lib.Ieee.{Float}
-use Rattle.scalar.specs.F32.{_+f_, _-f_, _*f_, _/f_, _<f_, _≤f_}
+use Rattle.scalar.specs.F32.{_+f_, _-f_, _*f_, _/f_, _<f_, _≤f_, at}
 use Rattle.scalar.specs.Literals.{f0, f0·00001, f0·25, f0·5, f1, f6, f10, f22, f32, f70}
 use Rattle.scalar.specs.Scalar.{minOf, maxOf}
-use Rattle.layers.specs.State.{at}
 use Rattle.profile.specs.declared.Slot.{Slot}
 
 -- the n places after `from`, each the one before it and hdif

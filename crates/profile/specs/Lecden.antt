@@ -4,13 +4,13 @@ use mathlib.Core.List.{map}
 use Prim.Native.Nat.{ℕ, _+_, _*_}
 use lib.Dec.{ltb}
 use lib.ListN.{set}
-use Rattle.scalar.specs.F32.{_-f_, _*f_, _/f_, negf}
+use Rattle.scalar.specs.F32.{_-f_, _*f_, _/f_, negf, at}
 use Rattle.scalar.specs.Literals.{f0·85, f1, f2, f70}
 use Rattle.scalar.specs.Scalar.{maxOf}
 use Rattle.exponential.specs.Exp.{expOf}
 use Rattle.refusal.specs.declared.Refusal.{Refusal}
 use Rattle.refusal.specs.declared.Outcome.{Outcome}
-use Rattle.layers.specs.State.{at, withTables, withFsecv, withProfile}
+use Rattle.layers.specs.State.{withTables, withFsecv, withProfile}
 use Rattle.layers.specs.declared.IonoState.{IonoState}
 use Rattle.layers.specs.declared.StateAnswer.{StateAnswer}
 use Rattle.profile.specs.Rising.{risesOf}

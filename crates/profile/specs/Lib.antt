@@ -1,7 +1,8 @@
+-- `lecden`: the rising test, F1 reshaped, the fifty heights, their densities, the whole, and what it keeps and prepares.
 pub mod Rising
 pub mod F1
 pub mod Grid
 pub mod Density
 pub mod Lecden
-pub mod Kept
+pub mod LecdenKept
 pub mod Prepared

@@ -3,8 +3,7 @@ use mathlib.Core.Bool.{Bool, true, _&&_}
 use mathlib.Core.List.{List}
 use Prim.Native.Nat.{ℕ, zero, suc, _+_}
 use lib.Ieee.{Float}
-use Rattle.scalar.specs.F32.{_<f_}
-use Rattle.layers.specs.State.{at}
+use Rattle.scalar.specs.F32.{_<f_, at}
 
 -- n steps, from place i on
 unfoldable pub risesFrom : List Float → ℕ → ℕ → Bool

@@ -4,7 +4,7 @@ ghost use Rattle.profile.specs.Density.{fnvalOf, parabolaOf, fneOf, fndO
 use crate::Candidates;
 use crate::Curves;
 
-fn valley(c: Curves, h: f32) -> f32
+fn valley_density(c: Curves, h: f32) -> f32
     ensures { λ r. ⌜ r ≡ fnvalOf c h ⌝ }
 {
     if h - c.hlow > 0.0 {
@@ -33,7 +33,7 @@ fn e_layer(c: Curves, h: f32) -> f32
     0.0
 }
 
-fn tail(c: Curves, h: f32) -> f32
+fn tail_density(c: Curves, h: f32) -> f32
     ensures { λ r. ⌜ r ≡ fndOf c h ⌝ }
 {
     if h - c.hex >= 0.0 {
@@ -70,9 +70,9 @@ fn f2_layer(c: Curves, h: f32) -> f32
 fn candidates(c: Curves, h: f32) -> Candidates
     ensures { λ r. ⌜ r ≡ candidatesOf c h ⌝ }
 {
-    let fnd = tail(c, h);
+    let fnd = tail_density(c, h);
     let fne = e_layer(c, h);
-    let fnval = valley(c, h);
+    let fnval = valley_density(c, h);
     let fn1 = f1_layer(c, h);
     let fn2 = f2_layer(c, h);
     Candidates {

@@ -4,9 +4,9 @@ use mathlib.Core.List.{List}
 use Prim.Native.Nat.{ℕ, zero, suc, _+_, _-_}
 use lib.Dec.{ltb}
 use lib.Ieee.{Float}
-use Rattle.scalar.specs.F32.{_-f_, _≤f_, _≥f_}
+use Rattle.scalar.specs.F32.{_-f_, _≤f_, _≥f_, at}
 use Rattle.scalar.specs.Literals.{f0}
-use Rattle.readings.specs.Scan.{at, lineOf}
+use Rattle.readings.specs.Scan.{interpolated}
 use Rattle.readings.specs.declared.Reading.{Reading}
 use Rattle.readings.specs.declared.Reading.the-variants.{Floor, Segment, Top}
 use Rattle.readings.specs.declared.Read.{Read}
@@ -38,7 +38,7 @@ climbOf htr zi ih = climbFrom htr zi (49 - ih) ih
 
 -- the reading where the cursor stops
 abbrev pub stoppedBy : Bool → List Float → List Float → Float → ℕ → Reading
-stoppedBy true htr fnsq zi ih = Segment (lineOf (at htr ih) (at htr (ih + 1)) (at fnsq ih) (at fnsq (ih + 1)) zi)
+stoppedBy true htr fnsq zi ih = Segment (interpolated (at htr ih) (at htr (ih + 1)) (at fnsq ih) (at fnsq (ih + 1)) zi)
 stoppedBy false htr fnsq zi ih = Top (at fnsq 49)
 
 abbrev pub stoppedAt : List Float → List Float → Float → ℕ → Reading

@@ -3,18 +3,13 @@
 use mathlib.Core.Bool.{Bool, true, false}
 use mathlib.Core.List.{List}
 use Prim.Native.Nat.{ℕ, zero, suc, _+_}
-use lib.ListN.{getD}
-use lib.Ieee.{Float, nan}
-use Rattle.scalar.specs.F32.{_+f_, _-f_, _*f_, _/f_, _<f_, _≤f_, _>f_, _≥f_, _==f_}
+use lib.Ieee.{Float}
+use Rattle.scalar.specs.F32.{at, _+f_, _-f_, _*f_, _/f_, _<f_, _≤f_, _>f_, _≥f_, _==f_}
 use Rattle.scalar.specs.Literals.{f0}
 use Rattle.readings.specs.declared.Hit.{Hit}
 use Rattle.readings.specs.declared.Hit.the-variants.{At, Miss}
 use Rattle.readings.specs.declared.Reading.{Reading}
 use Rattle.readings.specs.declared.Reading.the-variants.{Floor, Segment, Top}
-
--- l[i]
-abbrev pub at : List Float → ℕ → Float
-at l i = getD l i nan
 
 -- the number that a reading carries
 unfoldable pub valueOf : Reading → Float
@@ -30,8 +25,8 @@ kindOf (Top v) = 2
 
 -- ---- one segment, from (from0, to0) to (from1, to1)
 -- the number on its line
-abbrev pub lineOf : Float → Float → Float → Float → Float → Float
-lineOf from0 from1 to0 to1 probe = to0 +f (probe -f from0) *f (to1 -f to0) /f (from1 -f from0)
+abbrev pub interpolated : Float → Float → Float → Float → Float → Float
+interpolated from0 from1 to0 to1 probe = to0 +f (probe -f from0) *f (to1 -f to0) /f (from1 -f from0)
 
 abbrev pub hitIf : Bool → Float → Hit
 hitIf true v = At v
@@ -39,12 +34,12 @@ hitIf false v = Miss
 
 -- d < 0: is from0 - probe <= 0
 abbrev pub risingBy : Bool → Float → Float → Float → Float → Float → Hit
-risingBy true from0 from1 to0 to1 probe = hitIf (probe -f from1 <f f0) (lineOf from0 from1 to0 to1 probe)
-risingBy false from0 from1 to0 to1 probe = At (lineOf from0 from1 to0 to1 probe)
+risingBy true from0 from1 to0 to1 probe = hitIf (probe -f from1 <f f0) (interpolated from0 from1 to0 to1 probe)
+risingBy false from0 from1 to0 to1 probe = At (interpolated from0 from1 to0 to1 probe)
 
 -- neither d < 0 nor d == 0: is from0 - probe >= 0
 abbrev pub fallingBy : Bool → Float → Float → Float → Float → Float → Hit
-fallingBy true from0 from1 to0 to1 probe = hitIf (probe -f from1 >f f0) (lineOf from0 from1 to0 to1 probe)
+fallingBy true from0 from1 to0 to1 probe = hitIf (probe -f from1 >f f0) (interpolated from0 from1 to0 to1 probe)
 fallingBy false from0 from1 to0 to1 probe = Miss
 
 -- not d < 0: is d == 0

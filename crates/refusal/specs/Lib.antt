@@ -1,1 +1,2 @@
+-- The number of each refusal.
 pub mod Number

@@ -1,3 +1,4 @@
+-- The rounding theorem: cells of a format, its limit, units, the last digit, and each operation.
 pub mod Cells
 pub mod Limit
 pub mod Units

@@ -1,1 +1,2 @@
+-- IEEE 754's roundTiesToEven.
 pub mod TiesToEven

@@ -1,3 +1,4 @@
+-- Literals, NaN, minimum and maximum, truncation and casts, and the correctly rounded square root.
 pub mod Literals
 pub mod Nan
 pub mod Order

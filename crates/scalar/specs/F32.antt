@@ -1,7 +1,10 @@
 -- The operations of the Rust's f32, as definitions write them: `x +f y` is IEEE 754's sum at binary32, and so on. A comparison gives a Bool, false where an operand is NaN.
 use mathlib.Core.Bool.{Bool}
+use mathlib.Core.List.{List}
+use Prim.Native.Nat.{ℕ}
+use lib.ListN.{getD}
 use lib.Ieee as Ieee
-use lib.Ieee.{Float, binary32}
+use lib.Ieee.{Float, binary32, nan}
 
 infixl 65 _+f_
 infixl 65 _-f_
@@ -42,3 +45,7 @@ x ==f y = Ieee.eq x y
 -- -x: the sign turned, also of a zero
 abbrev pub negf : Float → Float
 negf x = Ieee.neg x
+
+-- `l[i]`: NaN past the end, where no code reads
+abbrev pub at : List Float → ℕ → Float
+at l i = getD l i nan

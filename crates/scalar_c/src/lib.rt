@@ -5,9 +5,9 @@ ghost use Rattle.scalar.specs.Scalar.{minOf, maxOf, truncOf};
 ghost use Rattle.scalar.specs.Root.{sqrtOf};
 ghost use Rattle.exponential.specs.Exp.{expOf};
 ghost use Rattle.exponential.specs.Ln.{lnOf};
-ghost use Rattle.circular.specs.SinCos.{sinOf, cosOf};
-ghost use Rattle.circular.specs.Asin.{asinOf};
-ghost use Rattle.circular.specs.Atan.{atanOf};
+ghost use Rattle.waves.specs.SinCos.{sinOf, cosOf};
+ghost use Rattle.arcs.specs.Asin.{asinOf};
+ghost use Rattle.arcs.specs.Atan.{atanOf};
 
 #[no_mangle]
 pub extern "C" fn scalar_sqrt(x: f32) -> f32
@@ -56,26 +56,26 @@ pub extern "C" fn scalar_ln(x: f32) -> f32
 pub extern "C" fn scalar_sin(x: f32) -> f32
     ensures { λ r. ⌜ r ≡ sinOf x ⌝ }
 {
-    circular::sin(x)
+    waves::sin(x)
 }
 
 #[no_mangle]
 pub extern "C" fn scalar_cos(x: f32) -> f32
     ensures { λ r. ⌜ r ≡ cosOf x ⌝ }
 {
-    circular::cos(x)
+    waves::cos(x)
 }
 
 #[no_mangle]
 pub extern "C" fn scalar_asin(x: f32) -> f32
     ensures { λ r. ⌜ r ≡ asinOf x ⌝ }
 {
-    circular::asin(x)
+    arcs::asin(x)
 }
 
 #[no_mangle]
 pub extern "C" fn scalar_atan(x: f32) -> f32
     ensures { λ r. ⌜ r ≡ atanOf x ⌝ }
 {
-    circular::atan(x)
+    arcs::atan(x)
 }

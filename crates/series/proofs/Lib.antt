@@ -1,6 +1,5 @@
-pub mod Cases
-pub mod Entries
-pub mod Cauchy
+-- Addition theorems, enclosures and bounds of the power series.
+mod Cauchy
 pub mod Addition
 pub mod Fractions
 pub mod Weighted
@@ -9,7 +8,7 @@ pub mod Reciprocal
 pub mod ExpFraction
 pub mod Alternating
 pub mod WaveFraction
-pub mod Quarters
+mod Quarters
 pub mod Waves
 pub mod SmallAngle
 pub mod Sharp
@@ -17,4 +16,3 @@ pub mod SineSign
 pub mod Bounds
 pub mod Pythagoras
 pub mod Circle
-pub mod Arms

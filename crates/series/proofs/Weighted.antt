@@ -5,7 +5,7 @@ use native.Mathlib.Nat.{le-trans, le-refl, le-dest, add-zero, add-suc, mul-le-mu
 use native.Mathlib.Omega.{arith}
 use Rattle.series.specs.Series.{full, num}
 use Rattle.series.proofs.Addition.{full-pos}
-use Rattle.series.proofs.Cases.{split}
+use Rattle.cases.proofs.Cases.{split}
 
 -- ---- for any weights of at most 1
 module _ (c : ℕ → ℕ) (c≤1 : (k : ℕ) → c k ≤ 1) where

@@ -1,1 +1,2 @@
+-- The power series of e, sine and cosine.
 pub mod Series

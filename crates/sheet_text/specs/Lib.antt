@@ -1,2 +1,3 @@
+-- What `sheet` prints: the `call` line, then the whole text.
 pub mod Call
 pub mod SheetText

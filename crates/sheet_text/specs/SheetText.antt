@@ -1,14 +1,14 @@
 -- What `sheet` prints: the lines of `muf` and `call`, then for each slot its number and thirty rows; of a refused file only the refusal.
 use mathlib.Core.List.{List, [], _∷_, _++_}
-use Prim.Native.Nat.{ℕ, zero, suc, _+_}
+use Prim.Native.Nat.{ℕ, _+_}
 use lib.IntN.{ℤ, pos, negsuc}
 use lib.ListN.{getD}
 use lib.Ieee.{Float, binary32, toBits}
 use Rattle.refusal.specs.declared.Outcome.{Outcome}
-use Rattle.lines.specs.Text.{space, lineFeed, decimalOf, hexOf, fieldOf, refusedText}
-use Rattle.layers.specs.State.{at}
+use Rattle.lines.specs.Text.{space, lineFeed, decimalOf, hexOf, fieldOf, refusedText, joined}
+use Rattle.scalar.specs.F32.{at}
 use Rattle.muf.specs.declared.MufHour.{MufHour}
-use Rattle.ionogram.specs.declared.Ionogram.{Ionogram}
+use Rattle.reflectrix.specs.declared.Ionogram.{Ionogram}
 use Rattle.circuit_sheet.specs.declared.Sheet.{Sheet}
 use Rattle.circuit_sheet.specs.CircuitSheet.{sheetOf}
 use Rattle.sheet_text.specs.Call.{callField}
@@ -50,28 +50,21 @@ rowFields ion i = bitsField (at (ion .fvert) i) ++ (bitsField (at (ion .htrue) i
 unfoldable pub rowLine : Ionogram → ℕ → List ℕ
 rowLine ion i = decimalOf (i + 1) ++ (rowFields ion i ++ (lineFeed ∷ []))
 
--- the first rows
-unfoldable pub rowLines : Ionogram → ℕ → List ℕ
-rowLines ion zero = []
-rowLines ion (suc i) = rowLines ion i ++ rowLine ion i
-
 unfoldable pub slotLine : ℕ → List ℕ
 slotLine k = slotWord ++ (decimalOf k ++ (lineFeed ∷ []))
 
 unfoldable pub slotText : Ionogram → ℕ → List ℕ
-slotText ion k = slotLine k ++ rowLines ion 30
+slotText ion k = slotLine k ++ joined (rowLine ion) 30
 
 -- past the end, where no code reads
 abbrev pub noIonogram : Ionogram
 noIonogram = record { fvert = []; hprim = []; htrue = []; afac = [] }
 
--- the first slots
-unfoldable pub slotTexts : List Ionogram → ℕ → List ℕ
-slotTexts rows zero = []
-slotTexts rows (suc k) = slotTexts rows k ++ slotText (getD rows k noIonogram) k
+abbrev pub slotAt : List Ionogram → ℕ → List ℕ
+slotAt rows k = slotText (getD rows k noIonogram) k
 
 unfoldable pub answeredText : Sheet → List ℕ
-answeredText s = mufLine (s .hour) ++ (callLine (s .hour) ++ slotTexts (s .rows) (s .slots))
+answeredText s = mufLine (s .hour) ++ (callLine (s .hour) ++ joined (slotAt (s .rows)) (s .slots))
 
 abbrev pub textBy : Outcome → Sheet → List ℕ
 textBy Outcome.Answered s = answeredText s

@@ -1,11 +1,9 @@
 // The `call` field.
-ghost use Prim.Native.Nat.{_+_, _≤_};
 ghost use mathlib.Core.Path.{_≡_};
 ghost use mathlib.Core.Bool.{true};
-ghost use lib.ListN.{length};
 ghost use Rattle.scalar.specs.F32.{_≤f_, _<f_};
 ghost use Rattle.scalar.specs.Literals.{f0, f1000};
-ghost use Rattle.lines.specs.Text.{Put};
+ghost use Rattle.lines.specs.Text.{Clipped};
 ghost use Rattle.sheet_text.specs.Call.{tenthsOf, cutText, callField};
 
 // Ten times an f32 is exact in an f64.
@@ -17,8 +15,7 @@ fn tenths(muf: f32) -> u64
 }
 
 fn put_tenths(out: &mut [u8], at: usize, tenths: u64) -> usize
-    requires { ⌜ at + 22 ≤ length (now out) ⌝ }
-    ensures { λ e. ⌜ Put (cutText tenths) (now (out .entry)) at (now (out .exit)) e ⌝ }
+    ensures { λ e. ⌜ Clipped (cutText tenths) (now (out .entry)) at (now (out .exit)) e ⌝ }
 {
     let a = lines::put_decimal(out, at, tenths / 10);
     let b = lines::put_byte(out, a, b'.');
@@ -27,8 +24,7 @@ fn put_tenths(out: &mut [u8], at: usize, tenths: u64) -> usize
 
 // Cut, not rounded, to one decimal.
 pub fn put_cut(out: &mut [u8], at: usize, muf: f32) -> usize
-    requires { ⌜ at + 22 ≤ length (now out) ⌝ }
-    ensures { λ e. ⌜ Put (callField muf) (now (out .entry)) at (now (out .exit)) e ⌝ }
+    ensures { λ e. ⌜ Clipped (callField muf) (now (out .entry)) at (now (out .exit)) e ⌝ }
 {
     if 0.0 <= muf {
         if muf < 1000.0 {

@@ -1,29 +1,26 @@
 // What `sheet` prints of a circuit file, as bytes.
 mod call;
 
-ghost use Prim.Native.Nat.{_+_, _≤_, _<_};
+ghost use Prim.Native.Nat.{_≤_, _<_};
 ghost use mathlib.Core.Path.{_≡_};
-ghost use lib.ListN.{length};
 ghost use Rattle.io.specs.Counts.{Counts};
-ghost use Rattle.lines.specs.Text.{Put};
-ghost use Rattle.sheet_text.specs.SheetText.{bitsField, natural, mufFields, mufLine, callLine, rowFields, rowLine, rowLines, slotText, slotTexts, answeredText, sheetText};
+ghost use Rattle.lines.specs.Text.{joined, Clipped, Put};
+ghost use Rattle.sheet_text.specs.SheetText.{bitsField, natural, mufFields, mufLine, callLine, rowFields, rowLine, slotLine, slotText, slotAt, answeredText, sheetText};
 use circuit_sheet::Sheet;
-use ionogram::Ionogram;
 use muf::MufHour;
+use reflectrix::Ionogram;
 use refusal::Outcome;
 
 // A field after another: one space, then the digits of the number's bits.
 fn put_bits(out: &mut [u8], at: usize, x: f32) -> usize
-    requires { ⌜ at + 9 ≤ length (now out) ⌝ }
-    ensures { λ e. ⌜ Put (bitsField x) (now (out .entry)) at (now (out .exit)) e ⌝ }
+    ensures { λ e. ⌜ Clipped (bitsField x) (now (out .entry)) at (now (out .exit)) e ⌝ }
 {
     let a = lines::put_byte(out, at, b' ');
     lines::put_hex(out, a, scalar::bits(x))
 }
 
 fn put_mufs(out: &mut [u8], at: usize, h: MufHour) -> usize
-    requires { ⌜ at + 45 ≤ length (now out) ⌝ }
-    ensures { λ e. ⌜ Put (mufFields h) (now (out .entry)) at (now (out .exit)) e ⌝ }
+    ensures { λ e. ⌜ Clipped (mufFields h) (now (out .entry)) at (now (out .exit)) e ⌝ }
 {
     let a = put_bits(out, at, h.emuf);
     let b = put_bits(out, a, h.f1muf);
@@ -44,8 +41,7 @@ fn mode(h: MufHour) -> u64
 }
 
 fn put_muf(out: &mut [u8], at: usize, h: MufHour) -> usize
-    requires { ⌜ at + 91 ≤ length (now out) ⌝ }
-    ensures { λ e. ⌜ Put (mufLine h) (now (out .entry)) at (now (out .exit)) e ⌝ }
+    ensures { λ e. ⌜ Clipped (mufLine h) (now (out .entry)) at (now (out .exit)) e ⌝ }
 {
     let a = lines::put_word(out, at, b"muf");
     let b = put_mufs(out, a, h);
@@ -55,8 +51,7 @@ fn put_muf(out: &mut [u8], at: usize, h: MufHour) -> usize
 }
 
 fn put_call(out: &mut [u8], at: usize, h: MufHour) -> usize
-    requires { ⌜ at + 28 ≤ length (now out) ⌝ }
-    ensures { λ e. ⌜ Put (callLine h) (now (out .entry)) at (now (out .exit)) e ⌝ }
+    ensures { λ e. ⌜ Clipped (callLine h) (now (out .entry)) at (now (out .exit)) e ⌝ }
 {
     let a = lines::put_word(out, at, b"call ");
     let b = call::put_cut(out, a, h.allmuf);
@@ -64,8 +59,8 @@ fn put_call(out: &mut [u8], at: usize, h: MufHour) -> usize
 }
 
 fn put_numbers(out: &mut [u8], at: usize, ion: Ionogram, i: usize) -> usize
-    requires { ⌜ (i < 30) × (at + 36 ≤ length (now out)) ⌝ }
-    ensures { λ e. ⌜ Put (rowFields ion i) (now (out .entry)) at (now (out .exit)) e ⌝ }
+    requires { ⌜ i < 30 ⌝ }
+    ensures { λ e. ⌜ Clipped (rowFields ion i) (now (out .entry)) at (now (out .exit)) e ⌝ }
 {
     let a = put_bits(out, at, ion.fvert[i]);
     let b = put_bits(out, a, ion.htrue[i]);
@@ -74,8 +69,8 @@ fn put_numbers(out: &mut [u8], at: usize, ion: Ionogram, i: usize) -> usize
 }
 
 fn put_row(out: &mut [u8], at: usize, ion: Ionogram, i: usize) -> usize
-    requires { ⌜ (i < 30) × (at + 39 ≤ length (now out)) ⌝ }
-    ensures { λ e. ⌜ Put (rowLine ion i) (now (out .entry)) at (now (out .exit)) e ⌝ }
+    requires { ⌜ i < 30 ⌝ }
+    ensures { λ e. ⌜ Clipped (rowLine ion i) (now (out .entry)) at (now (out .exit)) e ⌝ }
 {
     let n = i + 1;
     let a = lines::put_decimal(out, at, n as u64);
@@ -84,8 +79,7 @@ fn put_row(out: &mut [u8], at: usize, ion: Ionogram, i: usize) -> usize
 }
 
 fn put_rows(out: &mut [u8], at: usize, ion: Ionogram) -> usize
-    requires { ⌜ at + 1170 ≤ length (now out) ⌝ }
-    ensures { λ e. ⌜ Put (rowLines ion 30) (now (out .entry)) at (now (out .exit)) e ⌝ }
+    ensures { λ e. ⌜ Clipped (joined (rowLine ion) 30) (now (out .entry)) at (now (out .exit)) e ⌝ }
 {
     let mut e = at;
     for i in 0..30 {
@@ -94,19 +88,24 @@ fn put_rows(out: &mut [u8], at: usize, ion: Ionogram) -> usize
     e
 }
 
-fn put_slot(out: &mut [u8], at: usize, ion: Ionogram, k: usize) -> usize
-    requires { ⌜ (k < 3) × (at + 1177 ≤ length (now out)) ⌝ }
-    ensures { λ e. ⌜ Put (slotText ion k) (now (out .entry)) at (now (out .exit)) e ⌝ }
+fn put_slot_number(out: &mut [u8], at: usize, k: usize) -> usize
+    ensures { λ e. ⌜ Clipped (slotLine k) (now (out .entry)) at (now (out .exit)) e ⌝ }
 {
     let a = lines::put_word(out, at, b"slot ");
     let b = lines::put_decimal(out, a, k as u64);
-    let c = lines::put_byte(out, b, b'\n');
-    put_rows(out, c, ion)
+    lines::put_byte(out, b, b'\n')
+}
+
+fn put_slot(out: &mut [u8], at: usize, ion: Ionogram, k: usize) -> usize
+    ensures { λ e. ⌜ Clipped (slotText ion k) (now (out .entry)) at (now (out .exit)) e ⌝ }
+{
+    let a = put_slot_number(out, at, k);
+    put_rows(out, a, ion)
 }
 
 fn put_slots(out: &mut [u8], at: usize, rows: [Ionogram; 3], slots: usize) -> usize
-    requires { ⌜ (slots ≤ 3) × (at + 3531 ≤ length (now out)) ⌝ }
-    ensures { λ e. ⌜ Put (slotTexts rows slots) (now (out .entry)) at (now (out .exit)) e ⌝ }
+    requires { ⌜ slots ≤ 3 ⌝ }
+    ensures { λ e. ⌜ Clipped (joined (slotAt rows) slots) (now (out .entry)) at (now (out .exit)) e ⌝ }
 {
     let mut e = at;
     for k in 0..slots {
@@ -117,8 +116,8 @@ fn put_slots(out: &mut [u8], at: usize, rows: [Ionogram; 3], slots: usize) -> us
 }
 
 fn put_sheet(out: &mut [u8], s: Sheet) -> usize
-    requires { ⌜ (s .slots ≤ 3) × (4096 ≤ length (now out)) ⌝ }
-    ensures { λ e. ⌜ Put (answeredText s) (now (out .entry)) 0 (now (out .exit)) e ⌝ }
+    requires { ⌜ s .slots ≤ 3 ⌝ }
+    ensures { λ e. ⌜ Clipped (answeredText s) (now (out .entry)) 0 (now (out .exit)) e ⌝ }
 {
     let h = s.hour;
     let rows = s.rows;
@@ -128,8 +127,15 @@ fn put_sheet(out: &mut [u8], s: Sheet) -> usize
     put_slots(out, b, rows, slots)
 }
 
-// Puts the text at the start of out, and answers its length. The longest, of three slots, has room.
-pub fn sheet_text(file: &[u8], out: &mut [u8; 4096]) -> usize
+// The bytes that a program reads: a record more than the longest file, so that a longer one is seen to be
+// too long.
+pub const INPUT: usize = 4160;
+
+// The bytes that a text is put into: one of three slots has room.
+pub const ROOM: usize = 8192;
+
+// Puts the text at the start of out, and answers its length.
+pub fn sheet_text(file: &[u8], out: &mut [u8; ROOM]) -> usize
     ensures { λ e. ⌜ Put (sheetText (now (file .entry))) (now (out .entry)) 0 (now (out .exit)) e ⌝ }
     ensures room { λ e. ⌜ Counts e (now (out .exit)) ⌝ }
 {

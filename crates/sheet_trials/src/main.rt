@@ -1,6 +1,8 @@
 // What `sheet` prints of files of one to five points and of both shapes, of every refusal that a file can
 // meet, of NaN, and at the edges of the `call` field. The stored output is what the paper and the Rust say.
 ghost use Prim.Native.Nat.{_+_, _<_, _≤_};
+use sheet_text::INPUT;
+use sheet_text::ROOM;
 
 // A point: fi, yi, hi and Es fs, three each, hs, clat, clck.
 const P0: [f32; 15] = [
@@ -97,7 +99,7 @@ const NAN: u32 = 0x7fc0_0001;
 
 // Byte i, from the lowest, of a number.
 fn byte(n: u32, i: usize) -> u8 {
-    let b = [n % 256, n / 256 % 256, n / 65536 % 256, n / 16777216];
+    let b = [n % 256, n / 256 % 256, n / 0x1_0000 % 256, n / 0x100_0000];
     if i < 4 {
         return (b[i] % 256) as u8;
     }
@@ -105,7 +107,7 @@ fn byte(n: u32, i: usize) -> u8 {
 }
 
 // A number's bits at byte `at`, the lowest first.
-fn set_word(f: &mut [u8; 4160], at: usize, n: u32)
+fn set_word(f: &mut [u8; INPUT], at: usize, n: u32)
     requires { ⌜ at + 3 < 4160 ⌝ }
 {
     f[at] = byte(n, 0);
@@ -115,28 +117,28 @@ fn set_word(f: &mut [u8; 4160], at: usize, n: u32)
 }
 
 // Record n has this kind and next index.
-fn set_record(f: &mut [u8; 4160], n: usize, kind: u8, next: u8)
+fn set_record(f: &mut [u8; INPUT], n: usize, kind: u8, next: u8)
     requires { ⌜ n < 65 ⌝ }
 {
     f[64 * n] = kind;
     f[64 * n + 2] = next;
 }
 
-fn word(mut f: [u8; 4160], at: usize, n: u32) -> [u8; 4160]
+fn word(mut f: [u8; INPUT], at: usize, n: u32) -> [u8; INPUT]
     requires { ⌜ at + 3 < 4160 ⌝ }
 {
     set_word(&mut f, at, n);
     f
 }
 
-fn record(mut f: [u8; 4160], n: usize, kind: u8, next: u8) -> [u8; 4160]
+fn record(mut f: [u8; INPUT], n: usize, kind: u8, next: u8) -> [u8; INPUT]
     requires { ⌜ n < 65 ⌝ }
 {
     set_record(&mut f, n, kind, next);
     f
 }
 
-fn set_point(f: &mut [u8; 4160], n: usize, next: u8, p: &[f32; 15])
+fn set_point(f: &mut [u8; INPUT], n: usize, next: u8, p: &[f32; 15])
     requires { ⌜ n < 64 ⌝ }
 {
     set_record(f, n, 2, next);
@@ -154,7 +156,7 @@ fn decile(i: usize) -> u32 {
     0
 }
 
-fn set_deciles(f: &mut [u8; 4160], n: usize, next: u8)
+fn set_deciles(f: &mut [u8; INPUT], n: usize, next: u8)
     requires { ⌜ n < 64 ⌝ }
 {
     set_record(f, n, 3, next);
@@ -165,8 +167,8 @@ fn set_deciles(f: &mut [u8; 4160], n: usize, next: u8)
 }
 
 // Record 0 of a path of 3185 km.
-fn head(km: u8, shape: u8) -> [u8; 4160] {
-    let mut f = record([0; 4160], 0, 1, 1);
+fn head(km: u8, shape: u8) -> [u8; INPUT] {
+    let mut f = record([0; INPUT], 0, 1, 1);
     f[4] = km;
     f[5] = shape;
     let f = word(f, 8, scalar::bits(0.5));
@@ -184,7 +186,7 @@ fn after(n: u8, km: u8) -> u8 {
 }
 
 // The first km of the five points.
-fn points(km: u8, shape: u8) -> [u8; 4160] {
+fn points(km: u8, shape: u8) -> [u8; INPUT] {
     let mut f = head(km, shape);
     set_point(&mut f, 1, after(1, km), &P0);
     set_point(&mut f, 2, after(2, km), &P1);
@@ -195,21 +197,21 @@ fn points(km: u8, shape: u8) -> [u8; 4160] {
 }
 
 // The first point, with number i replaced.
-fn changed(i: usize, n: u32) -> [u8; 4160]
+fn changed(i: usize, n: u32) -> [u8; INPUT]
     requires { ⌜ i < 15 ⌝ }
 {
     word(points(1, 0), 68 + 4 * i, n)
 }
 
 // The first point, with its three frequencies replaced.
-fn frequencies(e: u32, f1: u32, f2: u32) -> [u8; 4160] {
+fn frequencies(e: u32, f1: u32, f2: u32) -> [u8; INPUT] {
     let f = word(points(1, 0), 68, e);
     let f = word(f, 72, f1);
     word(f, 76, f2)
 }
 
 // 48 records of kind 3 from record n on.
-fn with_deciles(mut f: [u8; 4160], n: usize) -> [u8; 4160]
+fn with_deciles(mut f: [u8; INPUT], n: usize) -> [u8; INPUT]
     requires { ⌜ n ≤ 6 ⌝ }
 {
     for k in 0..48usize {
@@ -220,11 +222,11 @@ fn with_deciles(mut f: [u8; 4160], n: usize) -> [u8; 4160]
 }
 
 // The text of the first n bytes, after its name.
-fn print(name: &[u8], f: [u8; 4160], n: usize)
+fn print(name: &[u8], f: [u8; INPUT], n: usize)
     requires { ⌜ n ≤ 4160 ⌝ }
 {
     io::write_all(1, name);
-    let mut text = [0u8; 4096];
+    let mut text = [0u8; ROOM];
     let len = sheet_text::sheet_text(&f[..n], &mut text);
     io::write_all(1, &text[..len]);
 }

@@ -1,20 +1,16 @@
 -- A row takes from `gethp` its two heights only: two ways of finding heights that agree on a state give it the same rows.
 use mathlib.Core.Bool.{Bool, true, false}
 use mathlib.Core.List.{List}
-use mathlib.Core.Path.{_≡_, refl, sym}
+use mathlib.Core.Path.{_≡_, refl}
 use Prim.Native.Nat.{ℕ, zero, suc, _+_, _*_}
 use lib.Ieee.{Float}
-use Rattle.scalar.specs.F32.{_>f_}
+use Rattle.scalar.specs.F32.{_>f_, at}
 use Rattle.scalar.specs.Literals.{f0}
-use Rattle.layers.specs.State.{at}
+use Rattle.layers.specs.State.{profileOnly}
 use Rattle.layers.specs.declared.IonoState.{IonoState}
-use Rattle.heights.specs.Gethp.{gethpOf, gethpScanOf}
-use Rattle.heights.proofs.Whole.{scans-same}
-use Rattle.sounding.specs.Genion.{Finder, rowsOf, virtualBy, rowsBy, allByProfile, rowsAt, fvertAt, genionBy, genionOf}
-
--- the same heights of every frequency on s
-abbrev pub Agree : Finder → Finder → IonoState → Type 0
-Agree find other s = (f : Float) → (find s f .hp ≡ other s f .hp) × (find s f .ht ≡ other s f .ht)
+use Rattle.heights.specs.Gethp.{Finder, gethpOf, gethpScanOf}
+use Rattle.heights.proofs.Finders.{Agree, scans-agree}
+use Rattle.sounding.specs.Genion.{rowsOf, virtualBy, rowsBy, rowsWith, fvertAt, genionWith, genionOf}
 
 -- rows by two functions that agree at every frequency
 pub rows-agree : (row other : Float → Float) → ((f : Float) → row f ≡ other f) → (fv : List Float) (first : ℕ) (out : List Float) (n : ℕ) → rowsOf row fv first out n ≡ rowsOf other fv first out n
@@ -33,14 +29,10 @@ module _ (find other : Finder) (s : IonoState) (agree : Agree find other s) wher
   by-shape false k fv =
       rw (rows-agree _ _ (virtual-agrees (at (s .fi) (3 * k + 1) >f f0) k) fv 10 _ 20)
 
-  pub genion-agrees : (k : ℕ) → genionBy find s k ≡ genionBy other s k
-  unfolding genionBy rowsAt
-  genion-agrees k = by-shape (allByProfile s) k (fvertAt s k)
+  pub genion-agrees : (k : ℕ) → genionWith find s k ≡ genionWith other s k
+  unfolding genionWith rowsWith
+  genion-agrees k = by-shape (profileOnly s) k (fvertAt s k)
 
 -- forty scans in place of each walk: the same heights, so the same rows
-pub scans-agree : (s : IonoState) → Agree gethpScanOf gethpOf s
-scans-agree s f = let e = scans-same s f in (sym (e .0), sym (e .1))
-
-pub genion-scan : (s : IonoState) (k : ℕ) → genionBy gethpScanOf s k ≡ genionOf s k
-unfolding genionOf
+pub genion-scan : (s : IonoState) (k : ℕ) → genionWith gethpScanOf s k ≡ genionOf s k
 genion-scan s k = genion-agrees gethpScanOf gethpOf s (scans-agree s) k

@@ -3,22 +3,20 @@ use mathlib.Core.Bool.{Bool, true, false}
 use mathlib.Core.List.{List, [], _∷_, _++_}
 use Prim.Native.Nat.{ℕ, zero, suc, _+_, _*_}
 use lib.Dec.{leb}
-use lib.IntN.{pos}
-use lib.Signed.{ltZ}
 use lib.ListN.{set, replicate}
 use lib.Ieee.{Float}
-use Rattle.scalar.specs.F32.{_+f_, _-f_, _*f_, _>f_}
+use Rattle.scalar.specs.F32.{_+f_, _-f_, _*f_, _>f_, at}
 use Rattle.scalar.specs.Literals.{f0, f2, f70, f84·51, f87·4, f88·52, f93, f94, f94·26, f95·71, f97·68, f98·68, f100·2, f100·27, f102·65, f104·22, f107·15, f107·19, f113·74, f125·25, f140·03}
-use Rattle.layers.specs.State.{at}
+use Rattle.layers.specs.State.{profileOnly}
 use Rattle.layers.specs.declared.IonoState.{IonoState}
-use Rattle.heights.specs.Gethp.{gethpOf}
+use Rattle.heights.specs.Gethp.{Finder, gethpOf}
 use Rattle.heights.specs.Xlin.{xlinOf}
 use Rattle.heights.specs.Bendy.{bendyOf, penOf}
-use Rattle.heights.specs.declared.Heights.{Heights}
 use Rattle.refusal.specs.declared.Refusal.{Refusal}
 use Rattle.refusal.specs.declared.Outcome.{Outcome}
-use Rattle.ionogram.specs.declared.Ionogram.{Ionogram}
-use Rattle.ionogram.specs.declared.IonogramAnswer.{IonogramAnswer}
+use Rattle.reflectrix.specs.Rows.{noRows}
+use Rattle.reflectrix.specs.declared.Ionogram.{Ionogram}
+use Rattle.reflectrix.specs.declared.IonogramAnswer.{IonogramAnswer}
 use Rattle.sounding.specs.Grid.{fvertOf}
 
 -- the first ten rows where the profile does not give them: true heights, then virtual ones, of an E parabola that peaks at 110 km and is 20 km in semi-thickness. The other rows are zero
@@ -32,10 +30,6 @@ HPE = (f70 ∷ f87·4 ∷ f94 ∷ f98·68 ∷ f100·2 ∷ f102·65 ∷ f107·15 
 unfoldable pub rowsOf : (Float → Float) → List Float → ℕ → List Float → ℕ → List Float
 rowsOf row fv first out zero = out
 rowsOf row fv first out (suc n) = set (rowsOf row fv first out n) (first + n) (row (at fv (first + n)))
-
--- a way of finding the two heights of a frequency: the contracts' is `gethpOf`
-abbrev pub Finder : Type 0
-Finder = IonoState → Float → Heights
 
 unfoldable pub trueByProfile : IonoState → Float → Float
 trueByProfile s f = let fn = f *f f in xlinOf fn (s .fnsq) (s .htr)
@@ -62,21 +56,14 @@ rowsBy false find s k fv =
 unfoldable pub fvertAt : IonoState → ℕ → List Float
 fvertAt s k = fvertOf (at (s .fi) (3 * k)) (at (s .fi) (3 * k + 1)) (at (s .fi) (3 * k + 2))
 
--- `iedp < 0`
-unfoldable pub allByProfile : IonoState → Bool
-allByProfile s = ltZ (s .iedp) (pos 0)
+unfoldable pub rowsWith : Finder → IonoState → ℕ → List Float → Ionogram
+rowsWith find s k fv = rowsBy (profileOnly s) find s k fv
 
-unfoldable pub rowsAt : Finder → IonoState → ℕ → List Float → Ionogram
-rowsAt find s k fv = rowsBy (allByProfile s) find s k fv
+unfoldable pub genionWith : Finder → IonoState → ℕ → Ionogram
+genionWith find s k = rowsWith find s k (fvertAt s k)
 
-unfoldable pub genionBy : Finder → IonoState → ℕ → Ionogram
-genionBy find s k = rowsAt find s k (fvertAt s k)
-
-unfoldable pub genionOf : IonoState → ℕ → Ionogram
-genionOf s k = genionBy gethpOf s k
-
-abbrev pub noRows : Ionogram
-noRows = record { fvert = replicate 30 f0; hprim = replicate 30 f0; htrue = replicate 30 f0; afac = replicate 30 f0 }
+abbrev pub genionOf : IonoState → ℕ → Ionogram
+genionOf = genionWith gethpOf
 
 abbrev pub genionAnswerBy : Bool → IonoState → ℕ → IonogramAnswer
 genionAnswerBy true s k = record { outcome = Outcome.Answered; ion = genionOf s k }

@@ -3,10 +3,9 @@ use mathlib.Core.Bool.{Bool, true, false}
 use mathlib.Core.List.{List}
 use lib.ListN.{replicate, set}
 use lib.Ieee.{Float}
-use Rattle.scalar.specs.F32.{_-f_, _+f_, _*f_, _/f_, _≤f_}
+use Rattle.scalar.specs.F32.{_-f_, _+f_, _*f_, _/f_, _≤f_, at}
 use Rattle.scalar.specs.Literals.{f0, f0·01, f0·85, f0·92, f0·957, f0·96, f0·98, f0·99, f1, f1·01, f1·05, f3, f5, f6, f9, f16}
 use Rattle.scalar.specs.Root.{sqrtOf}
-use Rattle.layers.specs.State.{at}
 use Rattle.profile.specs.Grid.{filled}
 
 -- D-E tail, whose xtail is that of `lecden`, and the E nose: places 0 to 9

@@ -1,2 +1,3 @@
+-- `genion`: the thirty sounding frequencies, and their heights.
 pub mod Grid
 pub mod Genion

@@ -4,23 +4,12 @@ mod rows;
 
 ghost use mathlib.Core.Path.{_≡_};
 ghost use Prim.Native.Nat.{_<_};
-ghost use Rattle.sounding.specs.Genion.{noRows, fvertAt, genionOf, genionAnswer};
-use ionogram::Ionogram;
-use ionogram::IonogramAnswer;
+ghost use Rattle.sounding.specs.Genion.{fvertAt, genionOf, genionAnswer};
 use layers::IonoState;
+use reflectrix::Ionogram;
+use reflectrix::IonogramAnswer;
 use refusal::Outcome;
 use refusal::Refusal;
-
-fn no_rows() -> Ionogram
-    ensures { λ r. ⌜ r ≡ noRows ⌝ }
-{
-    Ionogram {
-        fvert: [0.0; 30],
-        hprim: [0.0; 30],
-        htrue: [0.0; 30],
-        afac: [0.0; 30],
-    }
-}
 
 fn fvert_at(s: IonoState, k: usize) -> [f32; 30]
     requires { ⌜ k < 3 ⌝ }
@@ -52,6 +41,6 @@ pub fn genion(s: IonoState, k: usize) -> IonogramAnswer
     }
     IonogramAnswer {
         outcome: Outcome::Refused(Refusal::SlotNumber),
-        ion: no_rows(),
+        ion: reflectrix::no_rows(),
     }
 }

@@ -8,9 +8,9 @@ ghost use lib.ListN.{replicate};
 ghost use Rattle.scalar.specs.Literals.{f0};
 ghost use Rattle.heights.specs.Gethp.{gethpOf};
 ghost use Rattle.profile.specs.Rising.{risesOf};
-ghost use Rattle.sounding.specs.Genion.{HTE as Genion·HTE, HPE as Genion·HPE, rowsOf, allByProfile, trueByProfile, virtualByParabola, made, rowsBy, rowsAt};
-use ionogram::Ionogram;
+ghost use Rattle.sounding.specs.Genion.{HTE as Genion·HTE, HPE as Genion·HPE, rowsOf, trueByProfile, virtualByParabola, made, rowsBy, rowsWith};
 use layers::IonoState;
+use reflectrix::Ionogram;
 
 const HTE: [f32; 30] = [
     70.00,
@@ -179,21 +179,13 @@ fn by_table(s: IonoState, k: usize, rises: bool, fv: [f32; 30]) -> Ionogram
     make(fv, virtual_rows_by_parabola(s, k, fv), htrue)
 }
 
-// Whether the profile alone gives heights.
-fn all_by_profile(s: IonoState) -> bool
-    ensures { λ r. ⌜ r ≡ allByProfile s ⌝ }
-{
-    let iedp = s.iedp;
-    iedp < 0
-}
-
 pub fn rows(s: IonoState, k: usize, fv: [f32; 30]) -> Ionogram
     requires { ⌜ k < 3 ⌝ }
-    ensures { λ r. ⌜ r ≡ rowsAt gethpOf s k fv ⌝ }
+    ensures { λ r. ⌜ r ≡ rowsWith gethpOf s k fv ⌝ }
 {
     let htr = s.htr;
     let rises = profile::rises_throughout(&htr);
-    if all_by_profile(s) {
+    if layers::profile_only(s) {
         let c = by_profile(s, rises, fv);
         let hprim = c.hprim;
         let htrue = c.htrue;

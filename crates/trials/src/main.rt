@@ -1,14 +1,14 @@
 // The paper's unmarked trials, run, and with them the edges of some refusals and a slot prepared
-// twice; the stored output has the paper's answers. The marked trials are rows of the table in
-// specs/Starred.antt.
+// twice; the stored output has the paper's answers. The marked trials are rows of the table of crate
+// `starred`.
 ghost use Prim.Native.Nat.{_<_, _≤_};
-use circular::Answer;
-use hour::SlotSheet;
-use ionogram::Ionogram;
-use layer_mufs::Circuit;
+use layer_mufs::PathNumbers;
 use layers::IonoState;
 use layers::LayerMuf;
 use layers::LayerParams;
+use reflectrix::Ionogram;
+use slot_sheet::SlotSheet;
+use waves::Answer;
 
 fn say(what: &[u8], n: u64) {
     io::write_all(1, what);
@@ -52,7 +52,7 @@ fn no_layers() -> [LayerMuf; 4] {
 
 fn sheet_of(s: IonoState, nang: usize, cells: &mut [i32]) -> SlotSheet {
     let lines = no_layers();
-    hour::slot_sheet(s, 0, nang, lines, cells)
+    slot_sheet::slot_sheet(s, 0, nang, lines, cells)
 }
 
 // A sheet of so many angles into the first n cells.
@@ -73,7 +73,7 @@ fn rooms() {
 }
 
 fn number_of(a: Answer) -> u64 {
-    circular::answer_number(a) as u64
+    waves::answer_number(a) as u64
 }
 
 // 4 itself answers, the next f32 is refused; a NaN is no refusal.
@@ -81,20 +81,20 @@ fn angles() {
     let four = scalar::number(0x4080_0000);
     let next = scalar::number(0x4080_0001);
     let nan = scalar::number(0x7fc0_0000);
-    say(b"sin 4: ", number_of(circular::sin_or_refuse(four)));
-    say(b"sin above 4: ", number_of(circular::sin_or_refuse(next)));
-    say(b"sin -4: ", number_of(circular::sin_or_refuse(-four)));
-    say(b"sin below -4: ", number_of(circular::sin_or_refuse(-next)));
-    say(b"sin NaN: ", number_of(circular::sin_or_refuse(nan)));
-    say(b"cos 4: ", number_of(circular::cos_or_refuse(four)));
-    say(b"cos above 4: ", number_of(circular::cos_or_refuse(next)));
+    say(b"sin 4: ", number_of(waves::sin_or_refuse(four)));
+    say(b"sin above 4: ", number_of(waves::sin_or_refuse(next)));
+    say(b"sin -4: ", number_of(waves::sin_or_refuse(-four)));
+    say(b"sin below -4: ", number_of(waves::sin_or_refuse(-next)));
+    say(b"sin NaN: ", number_of(waves::sin_or_refuse(nan)));
+    say(b"cos 4: ", number_of(waves::cos_or_refuse(four)));
+    say(b"cos above 4: ", number_of(waves::cos_or_refuse(next)));
     say_bits(
         b"sine of 4: ",
-        circular::answer_value(circular::sin_or_refuse(four)),
+        waves::answer_value(waves::sin_or_refuse(four)),
     );
     say_bits(
         b"beside its refusal: ",
-        circular::answer_value(circular::sin_or_refuse(next)),
+        waves::answer_value(waves::sin_or_refuse(next)),
     );
 }
 
@@ -206,7 +206,7 @@ fn slot_numbers() {
     );
     let mut cells = [0i32; 30];
     let lines = no_layers();
-    let x = hour::slot_sheet(s, 3, 41, lines, &mut cells);
+    let x = slot_sheet::slot_sheet(s, 3, 41, lines, &mut cells);
     say(b"sheet of slot 3, 41 angles: ", refused(x));
 }
 
@@ -215,7 +215,7 @@ fn slot_numbers() {
 fn muf_of(what: &[u8], deciles: usize, gcd: f32, clocks: usize)
     requires { ⌜ (deciles ≤ 577) × (clocks ≤ 1) ⌝ }
 {
-    let path = Circuit {
+    let path = PathNumbers {
         gcd,
         gcdkm: 1500.0,
         amind: 3.0,

@@ -1,7 +1,9 @@
 // Replays stored hours: circuit files, and what the sheet of each is by the paper and the Rust. The list on
 // standard input is written by the oracle's program `vectors` (oracle/README.md), again whenever an elementary
 // function changes its answers. An hour is two lengths of two bytes, of the file and of the text, then both.
-ghost use Prim.Native.Nat.{_≤_, _*_, _+_};
+ghost use Prim.Native.Nat.{_≤_};
+use sheet_text::INPUT;
+use sheet_text::ROOM;
 
 // What became of an hour.
 pub enum Replay {
@@ -14,29 +16,33 @@ pub enum Replay {
 }
 
 fn length(low: u8, high: u8) -> usize
-    ensures { λ r. ⌜ r ≤ 65535 ⌝ }
+    ensures { λ r. ⌜ r ≤ 0xffff ⌝ }
 {
     low as usize + 256 * (high as usize)
 }
 
 // Whether the sheet of the first n bytes of a file is the first m bytes of a text.
-fn same_sheet(file: [u8; 4160], n: usize, wanted: [u8; 4096], m: usize) -> bool
-    requires { ⌜ (n ≤ 4160) × (m ≤ 4096) ⌝ }
+fn same_sheet(file: [u8; INPUT], n: usize, wanted: [u8; ROOM], m: usize) -> bool
+    requires { ⌜ (n ≤ 4160) × (m ≤ 8192) ⌝ }
 {
-    let mut text = [0u8; 4096];
+    let mut text = [0u8; ROOM];
     let len = sheet_text::sheet_text(&file[..n], &mut text);
     check::same(&text[..len], &wanted[..m])
 }
 
-fn hour(n: usize, m: usize) -> Replay
-    requires { ⌜ (n ≤ 4160) × (m ≤ 4096) ⌝ }
-{
-    let mut file = [0u8; 4160];
+fn hour(n: usize, m: usize) -> Replay {
+    if n > INPUT {
+        return Replay::Broken;
+    }
+    if m > ROOM {
+        return Replay::Broken;
+    }
+    let mut file = [0u8; INPUT];
     let a = io::read_full(0, &mut file[..n]);
     if a < n {
         return Replay::Broken;
     }
-    let mut wanted = [0u8; 4096];
+    let mut wanted = [0u8; ROOM];
     let b = io::read_full(0, &mut wanted[..m]);
     if b < m {
         return Replay::Broken;
@@ -58,12 +64,6 @@ fn next_hour() -> Replay {
     }
     let n = length(head[0], head[1]);
     let m = length(head[2], head[3]);
-    if n > 4160 {
-        return Replay::Broken;
-    }
-    if m > 4096 {
-        return Replay::Broken;
-    }
     hour(n, m)
 }
 

@@ -9,7 +9,7 @@ use native.Mathlib.Omega.{arith}
 use lib.Dec.{T, not-T, T-not}
 use lib.Ieee.{Float, nan, inf, fin, binary32, lt, le, fits, isNan}
 use Rattle.order.proofs.Chains.{lt→le, le-le, lt-le}
-use Rattle.readings.specs.Scan.{at}
+use Rattle.scalar.specs.F32.{at}
 use Rattle.readings.specs.Cursor.{oneIf, countFrom, countOf, onBy, climbFrom}
 use Rattle.walk.specs.Walk.{Held, Rising}
 

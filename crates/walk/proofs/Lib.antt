@@ -1,3 +1,4 @@
+-- The cursor counts, one read, and the walk is the scan.
 pub mod Cursor
-pub mod OneRead
+mod OneRead
 pub mod Walks

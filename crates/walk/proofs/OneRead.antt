@@ -10,11 +10,11 @@ use native.Mathlib.Omega.{arith}
 use lib.Dec.{T, ltb, lt→ltb, not-T}
 use lib.Ieee.{Float, nan, inf, fin, binary32, lt, le, fits, sub}
 use lib.Ieee.Fits.{and-l, and-i}
-use Rattle.scalar.specs.F32.{_-f_}
+use Rattle.scalar.specs.F32.{_-f_, at}
 use Rattle.scalar.specs.Literals.{f0}
 use Rattle.order.proofs.Tests.{nought-is, sub-lt, sub-le, sameInf, le-real, lt-real}
 use Rattle.order.proofs.Chains.{lt→le, le-lt, lt-le, lt-not-le, not-le-lt}
-use Rattle.readings.specs.Scan.{at, lineOf, hitIf, risingBy, segmentBy, segmentOf, orOn, scanFrom, readingBy, readingOf}
+use Rattle.readings.specs.Scan.{interpolated, hitIf, risingBy, segmentBy, segmentOf, orOn, scanFrom, readingBy, readingOf}
 use Rattle.readings.specs.Cursor.{countOf, stoppedBy, stoppedAt, readOnBy, readOnOf}
 use Rattle.readings.specs.declared.Hit.{Hit}
 use Rattle.readings.specs.declared.Hit.the-variants.{At, Miss}
@@ -59,14 +59,14 @@ missed x0 x1 y0 y1 z p q r h k =
     let l = lt-le binary32 x0 x1 z p q r h k in
     rises-so x0 x1 y0 y1 z p q h
     ∙ ap (λ (b : Bool). risingBy b x0 x1 y0 y1 z) (upto x0 z p r ∙ is-true (le x0 z && not (sameInf x0 z)) (and-i (le x0 z) (not (sameInf x0 z)) (lt→le binary32 x0 z p r l) (lt-not-same x0 z l)))
-    ∙ ap (λ (b : Bool). hitIf b (lineOf x0 x1 y0 y1 z)) (less z x1 r q ∙ is-false (lt z x1) (not-T (lt z x1) (λ (t : T (lt z x1)). lt-not-le binary32 z x1 r q t k)))
+    ∙ ap (λ (b : Bool). hitIf b (interpolated x0 x1 y0 y1 z)) (less z x1 r q ∙ is-false (lt z x1) (not-T (lt z x1) (λ (t : T (lt z x1)). lt-not-le binary32 z x1 r q t k)))
 
-held : (x0 x1 y0 y1 z : Float) → T (fits binary32 x0) → T (fits binary32 x1) → T (fits binary32 z) → T (lt x0 x1) → T (not (le x1 z)) → segmentOf x0 x1 y0 y1 z ≡ At (lineOf x0 x1 y0 y1 z)
+held : (x0 x1 y0 y1 z : Float) → T (fits binary32 x0) → T (fits binary32 x1) → T (fits binary32 z) → T (lt x0 x1) → T (not (le x1 z)) → segmentOf x0 x1 y0 y1 z ≡ At (interpolated x0 x1 y0 y1 z)
 held x0 x1 y0 y1 z p q r h k = rises-so x0 x1 y0 y1 z p q h ∙ go (le (x0 -f z) f0) (λ t. and-l (le x0 z) (not (sameInf x0 z)) (subst (λ (b : Bool). T b) (upto x0 z p r) t))
   where
-    go : (b : Bool) → (T b → T (le x0 z)) → risingBy b x0 x1 y0 y1 z ≡ At (lineOf x0 x1 y0 y1 z)
+    go : (b : Bool) → (T b → T (le x0 z)) → risingBy b x0 x1 y0 y1 z ≡ At (interpolated x0 x1 y0 y1 z)
     go false f = refl
-    go true f = ap (λ (b : Bool). hitIf b (lineOf x0 x1 y0 y1 z)) (less z x1 r q ∙ is-true (lt z x1) (not-le-lt binary32 x1 z q r (lt-real x0 x1 h .1) (le-real x0 z (f tt) .1) k))
+    go true f = ap (λ (b : Bool). hitIf b (interpolated x0 x1 y0 y1 z)) (less z x1 r q ∙ is-true (lt z x1) (not-le-lt binary32 x1 z q r (lt-real x0 x1 h .1) (le-real x0 z (f tt) .1) k))
 
 -- ---- the scan stops where the cursor does
 scan-reads : (htr fnsq : List Float) (z : Float) (c : ℕ) → Held htr → T (fits binary32 z) → Rising htr → Stops htr z 49 0 c → (n i : ℕ) → i + n ≡ 49 → i ≤ c → scanFrom htr fnsq z n i ≡ stoppedAt htr fnsq z c

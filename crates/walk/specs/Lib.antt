@@ -1,1 +1,2 @@
+-- The walk of the forty reads.
 pub mod Walk

@@ -4,8 +4,8 @@ use mathlib.Core.List.{List}
 use Prim.Native.Nat.{ℕ, zero, suc, _+_, _-_, _<_}
 use lib.Dec.{T}
 use lib.Ieee.{Float, binary32, fits, isNan}
-use Rattle.scalar.specs.F32.{_<f_, _≤f_}
-use Rattle.readings.specs.Scan.{at, readingOf}
+use Rattle.scalar.specs.F32.{_<f_, _≤f_, at}
+use Rattle.readings.specs.Scan.{readingOf}
 use Rattle.readings.specs.Cursor.{countOf, readOnOf}
 use Rattle.readings.specs.declared.Read.{Read}
 

@@ -8,42 +8,14 @@ use borrow.Author.Needs.{needs}
 use Rattle.chain_trials.proofs.print.Statement.{statement}
 use Rattle.chain_trials.proofs.print.Tie as tie
 
-write-all-requires : tie.Need-write-all-requires
-write-all-requires c κs = search needs
-
-array-share-prefix-f : tie.Need-array-share-prefix-f
-array-share-prefix-f c = search needs
-
 slice-aggregate-chain-text : tie.Need-slice-aggregate-chain-text
 slice-aggregate-chain-text c =
     let a = c .before .before .before .args in
     let h : a .n ≤ length (a .t2) = omega arith in
     sym (length-take-le _ _ h)
 
-chain-text-requires : tie.Need-chain-text-requires
-chain-text-requires c κs = search needs
-
-array-share-prefix-text : tie.Need-array-share-prefix-text
-array-share-prefix-text c = search needs
-
-slice-aggregate-write-all : tie.Need-slice-aggregate-write-all
-slice-aggregate-write-all c = search needs
-
-write-all-requires-2 : tie.Need-write-all-requires-2
-write-all-requires-2 c κs = search needs
-
-returns : tie.Need-returns
-returns c = search needs
-
 pub print-spec : {M : Type 1} → statement M
 print-spec =
     tie.close
-    (tie.spec
-    write-all-requires
-    array-share-prefix-f
-    slice-aggregate-chain-text
-    chain-text-requires
-    array-share-prefix-text
-    slice-aggregate-write-all
-    write-all-requires-2
-    returns)
+    (tie.spec (λ c κs. search needs) (λ c. search needs) slice-aggregate-chain-text (λ c κs. search needs)
+    (λ c. search needs) (λ c. search needs) (λ c κs. search needs) (λ c. search needs))

@@ -21,12 +21,6 @@ abbrev μ-loop : tie.MeasureT-loop
 long : (c : tie.Start Inv-loop μ-loop) → length (c .args .c .deciles) ≡ 576
 long c = sized 576 (c .args .c .deciles) (c .good .0 .1 .1 .1 .1 .1 .1 .1 .1 .1 .0 .1 .0 .1)
 
-slice-aggregate-all-zero : tie.Need-slice-aggregate-all-zero Inv-loop μ-loop
-slice-aggregate-all-zero c = search needs
-
-all-zero-requires : tie.Need-all-zero-requires Inv-loop μ-loop
-all-zero-requires c κs = search needs
-
 returns : tie.Need-returns Inv-loop μ-loop
 returns c =
     let d = c .before .before .before .before .args .c .deciles in
@@ -35,27 +29,6 @@ returns c =
 
 loop-holds : tie.Need-loop-holds Inv-loop μ-loop
 loop-holds c = (omega arith, refl, refl)
-
-mul-number : tie.Need-mul-number Inv-loop μ-loop
-mul-number c = omega arith
-
-array-read-number : tie.Need-array-read-number Inv-loop μ-loop
-array-read-number c = omega arith
-
-number-requires : tie.Need-number-requires Inv-loop μ-loop
-number-requires c κs = search needs
-
-mul-table : tie.Need-mul-table Inv-loop μ-loop
-mul-table c = omega arith
-
-array-write-table : tie.Need-array-write-table Inv-loop μ-loop
-array-write-table c = omega arith
-
-add-i : tie.Need-add-i Inv-loop μ-loop
-add-i c = omega arith
-
-loop-less : tie.Need-loop-less Inv-loop μ-loop
-loop-less c = omega arith
 
 loop-again : tie.Need-loop-again Inv-loop μ-loop
 loop-again c =
@@ -78,19 +51,6 @@ returns-2 c =
 pub decile-table-spec : {M : Type 1} → statement M
 decile-table-spec =
     tie.close
-    (tie.spec
-    Inv-loop
-    μ-loop
-    slice-aggregate-all-zero
-    all-zero-requires
-    returns
-    loop-holds
-    mul-number
-    array-read-number
-    number-requires
-    mul-table
-    array-write-table
-    add-i
-    loop-less
-    loop-again
-    returns-2)
+    (tie.spec Inv-loop μ-loop (λ c. search needs) (λ c κs. search needs) returns loop-holds (λ c. omega arith)
+    (λ c. omega arith) (λ c κs. search needs) (λ c. omega arith) (λ c. omega arith) (λ c. omega arith)
+    (λ c. omega arith) loop-again returns-2)

@@ -1,24 +1,12 @@
 -- The reader's outcome decides; a circuit has at most five points.
-use Rattle.circuit.proofs.Followed.{small}
+use Rattle.circuit.proofs.Followed.{fit64, small}
 use Rattle.circuit_sheet.specs.CircuitSheet.{sheetOf}
 use borrow.Author.Needs.{needs}
 use Rattle.circuit_sheet.proofs.of_file.Statement.{statement}
 use Rattle.circuit_sheet.proofs.of_file.Tie as tie
 
-read-requires : tie.Need-read-requires
-read-requires c κs = search needs
-
-enum-told : tie.Need-enum-told
-enum-told c = search needs
-
 of-circuit-requires : tie.Need-of-circuit-requires
-of-circuit-requires c κs = rw (c .before .before .before .read .ensures) (small _ .0)
-
-enum-known-outcome : tie.Need-enum-known-outcome
-enum-known-outcome c = search needs
-
-refused-requires : tie.Need-refused-requires
-refused-requires c κs = search needs
+of-circuit-requires c κs = rw (c .before .before .before .read .ensures) (small _ fit64 _ .0)
 
 returns : tie.Need-returns
 unfolding sheetOf
@@ -31,11 +19,5 @@ returns-2 c = rw (← c .before .before .before .before .before .read .ensures, 
 pub of-file-spec : {M : Type 1} → statement M
 of-file-spec =
     tie.close
-    (tie.spec
-    read-requires
-    enum-told
-    of-circuit-requires
-    enum-known-outcome
-    refused-requires
-    returns
-    returns-2)
+    (tie.spec (λ c κs. search needs) (λ c. search needs) of-circuit-requires (λ c. search needs)
+    (λ c κs. search needs) returns returns-2)

@@ -4,21 +4,6 @@ use borrow.Author.Needs.{needs}
 use Rattle.circuit_sheet.proofs.params.Statement.{statement}
 use Rattle.circuit_sheet.proofs.params.Tie as tie
 
-layers-at-requires : tie.Need-layers-at-requires
-layers-at-requires c κs = search needs
-
-layers-at-requires-2 : tie.Need-layers-at-requires-2
-layers-at-requires-2 c κs = search needs
-
-layers-at-requires-3 : tie.Need-layers-at-requires-3
-layers-at-requires-3 c κs = search needs
-
-layers-at-requires-4 : tie.Need-layers-at-requires-4
-layers-at-requires-4 c κs = search needs
-
-layers-at-requires-5 : tie.Need-layers-at-requires-5
-layers-at-requires-5 c κs = search needs
-
 returns : tie.Need-returns
 unfolding paramsOf
 returns c = rw (← c .before .before .before .before .layers-at .ensures, ← c .before .before .before .layers-at2 .ensures, ← c .before .before .layers-at3 .ensures, ← c .before .layers-at4 .ensures, ← c .layers-at5 .ensures)
@@ -26,10 +11,5 @@ returns c = rw (← c .before .before .before .before .layers-at .ensures, ← c
 pub params-spec : {M : Type 1} → statement M
 params-spec =
     tie.close
-    (tie.spec
-    layers-at-requires
-    layers-at-requires-2
-    layers-at-requires-3
-    layers-at-requires-4
-    layers-at-requires-5
-    returns)
+    (tie.spec (λ c κs. search needs) (λ c κs. search needs) (λ c κs. search needs) (λ c κs. search needs)
+    (λ c κs. search needs) returns)

@@ -5,19 +5,13 @@ use borrow.Author.Needs.{needs}
 use Rattle.circuit_sheet.proofs.shaped.Statement.{statement}
 use Rattle.circuit_sheet.proofs.shaped.Tie as tie
 
-with-iedp-requires : tie.Need-with-iedp-requires
-with-iedp-requires c κs = search needs
-
 returns : tie.Need-returns
 unfolding shapedOf
 returns c = rw (eq-eqb _ _ (c .before .if1 .taken)) (c .with-iedp .ensures)
-
-with-iedp-requires-2 : tie.Need-with-iedp-requires-2
-with-iedp-requires-2 c κs = search needs
 
 returns-2 : tie.Need-returns-2
 unfolding shapedOf
 returns-2 c = rw (ne-eqb _ _ (c .before .if1 .left)) (c .with-iedp2 .ensures)
 
 pub shaped-spec : {M : Type 1} → statement M
-shaped-spec = tie.close (tie.spec with-iedp-requires returns with-iedp-requires-2 returns-2)
+shaped-spec = tie.close (tie.spec (λ c κs. search needs) returns (λ c κs. search needs) returns-2)

@@ -4,32 +4,12 @@ use borrow.Author.Needs.{needs}
 use Rattle.circuit_sheet.proofs.three_at.Statement.{statement}
 use Rattle.circuit_sheet.proofs.three_at.Tie as tie
 
-number-at-requires : tie.Need-number-at-requires
-number-at-requires c κs = search needs
-
-add-number-at : tie.Need-add-number-at
-add-number-at c = search needs
-
-number-at-requires-2 : tie.Need-number-at-requires-2
-number-at-requires-2 c κs = search needs
-
-add-number-at-2 : tie.Need-add-number-at-2
-add-number-at-2 c = search needs
-
-number-at-requires-3 : tie.Need-number-at-requires-3
-number-at-requires-3 c κs = search needs
-
 returns : tie.Need-returns
 unfolding threeAt
-returns c = rw (← c .before .before .number-at .ensures, ← c .before .number-at2 .ensures, ← c .number-at3 .ensures)
+returns c = rw (← c .before .before .point-number .ensures, ← c .before .point-number2 .ensures, ← c .point-number3 .ensures)
 
 pub three-at-spec : {M : Type 1} → statement M
 three-at-spec =
     tie.close
-    (tie.spec
-    number-at-requires
-    add-number-at
-    number-at-requires-2
-    add-number-at-2
-    number-at-requires-3
-    returns)
+    (tie.spec (λ c κs. search needs) (λ c. search needs) (λ c κs. search needs) (λ c. search needs)
+    (λ c κs. search needs) returns)

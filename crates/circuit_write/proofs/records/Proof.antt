@@ -7,21 +7,9 @@ use borrow.Author.Needs.{needs}
 use Rattle.circuit_write.proofs.records.Statement.{statement}
 use Rattle.circuit_write.proofs.records.Tie as tie
 
-has-deciles-requires : tie.Need-has-deciles-requires
-has-deciles-requires c κs = search needs
-
-add-result : tie.Need-add-result
-add-result c = search needs
-
-add-result-2 : tie.Need-add-result-2
-add-result-2 c = search needs
-
 returns : tie.Need-returns
 returns c =
     rw (not-true (allZero (c .before .before .before .args .c .deciles)) (sym (c .before .before .has-deciles .ensures) ∙ c .before .if1 .taken))
-
-add-result-3 : tie.Need-add-result-3
-add-result-3 c = search needs
 
 returns-2 : tie.Need-returns-2
 returns-2 c =
@@ -30,4 +18,4 @@ returns-2 c =
 pub records-spec : {M : Type 1} → statement M
 records-spec =
     tie.close
-    (tie.spec has-deciles-requires add-result add-result-2 returns add-result-3 returns-2)
+    (tie.spec (λ c κs. search needs) (λ c. search needs) (λ c. search needs) returns (λ c. search needs) returns-2)

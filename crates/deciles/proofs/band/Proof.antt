@@ -6,12 +6,6 @@ use Rattle.scalar.proofs.Casts.{castable}
 use Rattle.deciles.proofs.band.Statement.{statement}
 use Rattle.deciles.proofs.band.Tie as tie
 
-abs-requires : tie.Need-abs-requires
-abs-requires c κs = search needs
-
-trunc-requires : tie.Need-trunc-requires
-trunc-requires c κs = search needs
-
 returns : tie.Need-returns
 unfolding iclOf
 returns c = rw (← c .before .before .abs .ensures, ← c .before .trunc .ensures, rw (toZ-ofZ (sfits-of (c .before .trunc .ok))) at (c .if1 .taken))
@@ -31,5 +25,4 @@ unfolding iclOf
 returns-3 c = rw (← c .before .before .before .abs .ensures, ← c .before .before .trunc .ensures, rw (toZ-ofZ (sfits-of (c .before .before .trunc .ok))) at (c .before .if1 .left), rw (toZ-ofZ (sfits-of (c .before .before .trunc .ok))) at (c .if2 .left), toZ-ofZ (sfits-of (c .before .before .trunc .ok)))
 
 pub band-spec : {M : Type 1} → statement M
-band-spec =
-    tie.close (tie.spec abs-requires trunc-requires returns returns-2 cast-result returns-3)
+band-spec = tie.close (tie.spec (λ c κs. search needs) (λ c κs. search needs) returns returns-2 cast-result returns-3)

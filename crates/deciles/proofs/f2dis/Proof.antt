@@ -13,37 +13,19 @@ returns : tie.Need-returns
 unfolding f2disOf
 returns c = rw (ne-eqb _ _ (c .if1 .taken))
 
-shared-slice-read-if2 : tie.Need-shared-slice-read-if2
-shared-slice-read-if2 c = search needs
-
-classical-requires : tie.Need-classical-requires
-classical-requires c κs = search needs
-
 returns-2 : tie.Need-returns-2
 unfolding f2disOf
 returns-2 c = rw (c .before .before .before .if1 .left, c .before .if2 .taken, ← c .classical .ensures)
 
-time-block-requires : tie.Need-time-block-requires
-time-block-requires c κs = search needs
-
 returns-3 : tie.Need-returns-3
 unfolding f2disOf
 returns-3 c = rw (c .before .before .before .before .if1 .left, c .before .before .if2 .left, ← c .before .time-block .ensures, c .if3 .taken)
-
-band-requires : tie.Need-band-requires
-band-requires c κs = search needs
-
-half-requires : tie.Need-half-requires
-half-requires c κs = search needs
 
 add-iz : tie.Need-add-iz
 add-iz c =
     let b : c .before .band .result ≤ 8 = rw (c .before .band .ensures) (icl-range _ .1) in
     let h : c .half .result ≤ 8 = rw (c .half .ensures) (i-range _ _) in
     fits-le {n = 16} (omega arith) (fits-lit tt)
-
-row-requires : tie.Need-row-requires
-row-requires c κs = search needs
 
 place-requires : tie.Need-place-requires
 place-requires c κs =
@@ -57,15 +39,6 @@ place-requires c κs =
     let icl₁ : b .result ≤ 8 = rw (b .ensures) (icl-range _ .1) in
     let i : h .result ≤ 8 = rw (h .ensures) (i-range _ _) in
     (omega arith, icc, j₀, j₁, omega arith, omega arith)
-
-mul-spread : tie.Need-mul-spread
-mul-spread c = search needs
-
-shared-slice-read-spread : tie.Need-shared-slice-read-spread
-shared-slice-read-spread c = search needs
-
-spread-requires : tie.Need-spread-requires
-spread-requires c κs = search needs
 
 returns-4 : tie.Need-returns-4
 unfolding f2disOf
@@ -86,19 +59,6 @@ returns-4 c =
 pub f2dis-spec : {M : Type 1} → statement M
 f2dis-spec =
     tie.close
-    (tie.spec
-    returns
-    shared-slice-read-if2
-    classical-requires
-    returns-2
-    time-block-requires
-    returns-3
-    band-requires
-    half-requires
-    add-iz
-    row-requires
-    place-requires
-    mul-spread
-    shared-slice-read-spread
-    spread-requires
-    returns-4)
+    (tie.spec returns (λ c. search needs) (λ c κs. search needs) returns-2 (λ c κs. search needs) returns-3
+    (λ c κs. search needs) (λ c κs. search needs) add-iz (λ c κs. search needs) place-requires (λ c. search needs)
+    (λ c. search needs) (λ c κs. search needs) returns-4)

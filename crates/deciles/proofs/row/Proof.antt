@@ -6,9 +6,6 @@ use Rattle.deciles.proofs.Ranges.{sunspot-row-range}
 use Rattle.deciles.proofs.row.Statement.{statement}
 use Rattle.deciles.proofs.row.Tie as tie
 
-sunspot-row-requires : tie.Need-sunspot-row-requires
-sunspot-row-requires c κs = search needs
-
 add-result : tie.Need-add-result
 add-result c =
     let e = c .before .sunspot-row .ensures in
@@ -24,4 +21,4 @@ unfolding jOf
 returns-2 c = rw (← c .before .sunspot-row .ensures, c .if1 .left)
 
 pub row-spec : {M : Type 1} → statement M
-row-spec = tie.close (tie.spec sunspot-row-requires add-result returns returns-2)
+row-spec = tie.close (tie.spec (λ c κs. search needs) add-result returns returns-2)

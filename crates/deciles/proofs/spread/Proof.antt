@@ -3,15 +3,9 @@ use borrow.Author.Needs.{needs}
 use Rattle.deciles.proofs.spread.Statement.{statement}
 use Rattle.deciles.proofs.spread.Tie as tie
 
-abs-requires : tie.Need-abs-requires
-abs-requires c κs = search needs
-
-max-requires : tie.Need-max-requires
-max-requires c κs = search needs
-
 returns : tie.Need-returns
 unfolding spreadOf
 returns c = rw (← c .before .abs .ensures, ← c .max .ensures)
 
 pub spread-spec : {M : Type 1} → statement M
-spread-spec = tie.close (tie.spec abs-requires max-requires returns)
+spread-spec = tie.close (tie.spec (λ c κs. search needs) (λ c κs. search needs) returns)

@@ -6,9 +6,6 @@ use Rattle.scalar.proofs.Casts.{castable}
 use Rattle.deciles.proofs.time_block.Statement.{statement}
 use Rattle.deciles.proofs.time_block.Tie as tie
 
-trunc-requires : tie.Need-trunc-requires
-trunc-requires c κs = search needs
-
 returns : tie.Need-returns
 unfolding iccOf timeBlockOf
 returns c = rw (← c .before .trunc .ensures, rw (toZ-ofZ (sfits-of (c .before .trunc .ok))) at (c .if1 .taken))
@@ -28,4 +25,4 @@ unfolding iccOf timeBlockOf
 returns-3 c = rw (← c .before .before .trunc .ensures, rw (toZ-ofZ (sfits-of (c .before .before .trunc .ok))) at (c .before .if1 .left), rw (toZ-ofZ (sfits-of (c .before .before .trunc .ok))) at (c .if2 .left), toZ-ofZ (sfits-of (c .before .before .trunc .ok)))
 
 pub time-block-spec : {M : Type 1} → statement M
-time-block-spec = tie.close (tie.spec trunc-requires returns returns-2 cast-result returns-3)
+time-block-spec = tie.close (tie.spec (λ c κs. search needs) returns returns-2 cast-result returns-3)

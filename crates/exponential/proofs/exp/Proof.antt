@@ -6,18 +6,9 @@ use borrow.Author.Needs.{needs}
 use Rattle.exponential.proofs.exp.Statement.{statement}
 use Rattle.exponential.proofs.exp.Tie as tie
 
-bits-requires : tie.Need-bits-requires
-bits-requires c κs = search needs
-
-exp-bits-requires : tie.Need-exp-bits-requires
-exp-bits-requires c κs = search needs
-
-number-requires : tie.Need-number-requires
-number-requires c κs = search needs
-
 returns : tie.Need-returns
 unfolding expOf
 returns c = c .number .ensures ∙ ap (ofBits binary32) (c .before .exp-bits .ensures ∙ ap expBits (c .before .before .bits .ensures))
 
 pub exp-spec : {M : Type 1} → statement M
-exp-spec = tie.close (tie.spec bits-requires exp-bits-requires number-requires returns)
+exp-spec = tie.close (tie.spec (λ c κs. search needs) (λ c κs. search needs) (λ c κs. search needs) returns)

@@ -41,9 +41,6 @@ mul-x c = half-fits (p-lt c) (t-lt c)
 mul-y : tie.Need-mul-y
 mul-y c = half-fits (q-lt c) (s-lt c)
 
-add-column : tie.Need-add-column
-add-column c = search needs
-
 mul-column : tie.Need-mul-column
 mul-column c = half-fits (q-lt c) (t-lt c)
 
@@ -66,4 +63,7 @@ returns : tie.Need-returns
 returns c = upper-half (c .args .u) (c .args .v)
 
 pub high-product-spec : {M : Type 1} → statement M
-high-product-spec = tie.close (tie.spec mul-x mul-y add-column mul-column add-column-2 mul-result add-result add-result-2 add-result-3 returns)
+high-product-spec =
+    tie.close
+    (tie.spec mul-x mul-y (λ c. search needs) mul-column add-column-2 mul-result add-result add-result-2 add-result-3
+    returns)

@@ -10,19 +10,10 @@ use Rattle.fixed.proofs.pack.Tie as tie
 sub-result : tie.Need-sub-result
 sub-result c = omega (arith, rounded (c .args .s) (c .pre .0) (c .pre .1) .few)
 
-mul-result : tie.Need-mul-result
-mul-result c = search needs
-
-significand-requires : tie.Need-significand-requires
-significand-requires c κs = search needs
-
 add-result : tie.Need-add-result
 add-result c =
     let most : mant (c .before .args .s) ≤ 2 ^ 24 = rounded (c .before .args .s) (c .before .pre .0) (c .before .pre .1) .most in
     omega (arith, most, c .significand .ensures)
 
-returns : tie.Need-returns
-returns c = search needs
-
 pub pack-spec : {M : Type 1} → statement M
-pack-spec = tie.close (tie.spec sub-result mul-result significand-requires add-result returns)
+pack-spec = tie.close (tie.spec sub-result (λ c. search needs) (λ c κs. search needs) add-result (λ c. search needs))

@@ -15,23 +15,11 @@ up-to a = omega arith
 places : (a k : ℕ) → a / 2 ^ 23 ≤ k + 39 → a / 2 ^ 23 - k ≤ 39
 places a k h = omega arith
 
-add-m : tie.Need-add-m
-add-m c = search needs
-
-cast-m : tie.Need-cast-m
-cast-m c = search needs
-
-sub-e : tie.Need-sub-e
-sub-e c = search needs
-
-cast-result : tie.Need-cast-result
-cast-result c = search needs
-
-shl-result : tie.Need-shl-result
-shl-result c = search needs
-
 returns : tie.Need-returns
 returns c = mod-eq-of-lt (lt-of-le-of-lt (mul-le-mul (up-to (c .args .a)) (pow-mono (places (c .args .a) (c .args .k) (c .pre .1)))) (lit< tt))
 
 pub scaled-spec : {M : Type 1} → statement M
-scaled-spec = tie.close (tie.spec add-m cast-m sub-e cast-result shl-result returns)
+scaled-spec =
+    tie.close
+    (tie.spec (λ c. search needs) (λ c. search needs) (λ c. search needs) (λ c. search needs) (λ c. search needs)
+    returns)

@@ -18,14 +18,8 @@ cast-result c = omega (arith, few c)
 shl-result : tie.Need-shl-result
 shl-result c = omega (arith, few c)
 
-add-result : tie.Need-add-result
-add-result c = search needs
-
-cast-result-2 : tie.Need-cast-result-2
-cast-result-2 c = search needs
-
 returns : tie.Need-returns
 returns c = ap (λ (x : ℕ). (x / 2 ^ 39 + 1) / 2) (mod-eq-of-lt (rounded (c .args .s) (c .pre .0) (c .pre .1) .up))
 
 pub significand-spec : {M : Type 1} → statement M
-significand-spec = tie.close (tie.spec cast-result shl-result add-result cast-result-2 returns)
+significand-spec = tie.close (tie.spec cast-result shl-result (λ c. search needs) (λ c. search needs) returns)

@@ -10,14 +10,8 @@ use Rattle.heights.proofs.gethp.Tie as tie
 held : (c : tie.Start) → Held (c .args .s .htr)
 held c = let g = c .good .0 .1 .1 .1 .1 .1 .1 .1 .0 in field-held (c .args .s .htr) (g .0) (g .1 .1)
 
-rises-throughout-requires : tie.Need-rises-throughout-requires
-rises-throughout-requires c κs = search needs
-
-gethp-rising-requires : tie.Need-gethp-rising-requires
-gethp-rising-requires c κs = search needs
-
 returns : tie.Need-returns
 returns c = c .gethp-rising .ensures ∙ gethp-read-so _ _ _ (held (c .before .before .before .before)) (c .before .rises-throughout .ensures)
 
 pub gethp-spec : {M : Type 1} → statement M
-gethp-spec = tie.close (tie.spec rises-throughout-requires gethp-rising-requires returns)
+gethp-spec = tie.close (tie.spec (λ c κs. search needs) (λ c κs. search needs) returns)

@@ -1,12 +1,13 @@
+-- Past the early return the forty densities fill the flat table, and its sum is the sum over the nodes.
 use mathlib.Core.Path.{_≡_}
 use mathlib.Core.Bool.{Bool, false}
 use mathlib.Core.List.{List}
 use Prim.Native.Nat.{ℕ}
 use borrow.Author.Needs.{needs}
 use lib.Ieee.{Float}
-use Rattle.scalar.specs.F32.{_+f_, _-f_, _*f_, _≤f_}
+use Rattle.scalar.specs.F32.{_+f_, _-f_, _*f_, _≤f_, at}
 use Rattle.scalar.specs.Literals.{f0}
-use Rattle.readings.specs.Scan.{at, profileInterpolateOf}
+use Rattle.readings.specs.Scan.{profileInterpolateOf}
 use Rattle.heights.specs.Nodes.{xnpl, twdiv}
 use Rattle.heights.specs.Gethp.{hpOf}
 use Rattle.heights.specs.Walk.{flat, tableBy, cursorReadBy, gethpReadOf}
@@ -23,27 +24,9 @@ whole : (rises : Bool) (htr fnsq : List Float) (fxx top : Float) (ysq : List Flo
 unfolding gethpReadOf
 whole rises htr fnsq fxx top ysq cursor hp e et ey ec eh = rw (e, eh, ey, ec, table-sum, et)
 
-element-copy-out-h0 : tie.Need-element-copy-out-h0
-element-copy-out-h0 c = search needs
-
-element-copy-out-if1 : tie.Need-element-copy-out-if1
-element-copy-out-if1 c = search needs
-
 returns : tie.Need-returns
 unfolding gethpReadOf
 returns c = rw (c .if1 .taken)
-
-profile-interpolate-requires : tie.Need-profile-interpolate-requires
-profile-interpolate-requires c κs = search needs
-
-gethp-densities-requires : tie.Need-gethp-densities-requires
-gethp-densities-requires c κs = search needs
-
-weights-requires : tie.Need-weights-requires
-weights-requires c κs = search needs
-
-quadrature-requires : tie.Need-quadrature-requires
-quadrature-requires c κs = search needs
 
 returns-2 : tie.Need-returns-2
 returns-2 c =
@@ -55,12 +38,5 @@ returns-2 c =
 pub gethp-read-spec : {M : Type 1} → statement M
 gethp-read-spec =
     tie.close
-    (tie.spec
-    element-copy-out-h0
-    element-copy-out-if1
-    returns
-    profile-interpolate-requires
-    gethp-densities-requires
-    weights-requires
-    quadrature-requires
-    returns-2)
+    (tie.spec (λ c. search needs) (λ c. search needs) returns (λ c κs. search needs) (λ c κs. search needs)
+    (λ c κs. search needs) (λ c κs. search needs) returns-2)

@@ -1,3 +1,4 @@
+-- Each path is the clause that its tests choose.
 use Rattle.heights.specs.Nodes.{ibAt}
 use borrow.Author.Tests.{lt-ltb, le-ltb}
 use native.Mathlib.Omega.{arith}

@@ -1,3 +1,4 @@
+-- Each path is the clause that its tests choose.
 use borrow.Author.Tests.{eq-eqb, ne-eqb}
 use Rattle.heights.proofs.node.Statement.{statement}
 use Rattle.heights.proofs.node.Tie as tie

@@ -7,8 +7,7 @@ use native.Mathlib.Numerals.{add-one}
 use native.Mathlib.Omega.{arith}
 use borrow.Author.Needs.{needs}
 use lib.Ieee.{Float}
-use Rattle.scalar.specs.F32.{_+f_, _*f_}
-use Rattle.readings.specs.Scan.{at}
+use Rattle.scalar.specs.F32.{_+f_, _*f_, at}
 use Rattle.heights.specs.Nodes.{wt}
 use Rattle.heights.specs.Gethp.{mupOf, hpOf}
 use Rattle.heights.specs.Walk.{flat}
@@ -29,45 +28,6 @@ loop-holds : tie.Need-loop-holds Inv-loop μ-loop
 unfolding hpOf
 loop-holds c = (omega arith, refl)
 
-mul-lower : tie.Need-mul-lower Inv-loop μ-loop
-mul-lower c = omega arith
-
-mul-upper : tie.Need-mul-upper Inv-loop μ-loop
-mul-upper c = omega arith
-
-add-upper : tie.Need-add-upper Inv-loop μ-loop
-add-upper c = omega arith
-
-mul-mup : tie.Need-mul-mup Inv-loop μ-loop
-mul-mup c = omega arith
-
-element-copy-out-mup : tie.Need-element-copy-out-mup Inv-loop μ-loop
-element-copy-out-mup c = omega arith
-
-mup-requires : tie.Need-mup-requires Inv-loop μ-loop
-mup-requires c κs = search needs
-
-mul-mup-2 : tie.Need-mul-mup-2 Inv-loop μ-loop
-mul-mup-2 c = omega arith
-
-element-copy-out-mup-2 : tie.Need-element-copy-out-mup-2 Inv-loop μ-loop
-element-copy-out-mup-2 c = omega arith
-
-mup-requires-2 : tie.Need-mup-requires-2 Inv-loop μ-loop
-mup-requires-2 c κs = search needs
-
-mul-w : tie.Need-mul-w Inv-loop μ-loop
-mul-w c = omega arith
-
-element-copy-out-w : tie.Need-element-copy-out-w Inv-loop μ-loop
-element-copy-out-w c = omega arith
-
-add-ig : tie.Need-add-ig Inv-loop μ-loop
-add-ig c = omega arith
-
-loop-less : tie.Need-loop-less Inv-loop μ-loop
-loop-less c = omega arith
-
 loop-again : tie.Need-loop-again Inv-loop μ-loop
 loop-again c =
     let l = c .before .before .before .before .before .before .loop in
@@ -80,22 +40,6 @@ returns c = rw (le-antisymm (c .before .loop .inv .0) (c .loop-test .left)) at (
 pub quadrature-spec : {M : Type 1} → statement M
 quadrature-spec =
     tie.close
-    (tie.spec
-    Inv-loop
-    μ-loop
-    loop-holds
-    mul-lower
-    mul-upper
-    add-upper
-    mul-mup
-    element-copy-out-mup
-    mup-requires
-    mul-mup-2
-    element-copy-out-mup-2
-    mup-requires-2
-    mul-w
-    element-copy-out-w
-    add-ig
-    loop-less
-    loop-again
-    returns)
+    (tie.spec Inv-loop μ-loop loop-holds (λ c. omega arith) (λ c. omega arith) (λ c. omega arith) (λ c. omega arith)
+    (λ c. omega arith) (λ c κs. search needs) (λ c. omega arith) (λ c. omega arith) (λ c κs. search needs)
+    (λ c. omega arith) (λ c. omega arith) (λ c. omega arith) (λ c. omega arith) loop-again returns)

@@ -8,16 +8,17 @@ use native.Mathlib.Omega.{arith}
 use borrow.Author.Needs.{needs}
 use lib.ListN.{set}
 use lib.Ieee.{Float}
-use Rattle.readings.specs.Scan.{at, readingOf}
+use Rattle.scalar.specs.F32.{at}
+use Rattle.readings.specs.Scan.{readingOf}
 use Rattle.readings.specs.declared.Reading.{Reading}
 use Rattle.heights.specs.Nodes.{heightOf}
 use Rattle.heights.specs.Gethp.{cutOf, ysqOf}
-use Rattle.heights.specs.Walk.{filled, scanTable}
+use Rattle.heights.specs.Walk.{placed, scanTable}
 use Rattle.heights.proofs.scan_densities.Statement.{statement}
 use Rattle.heights.proofs.scan_densities.Tie as tie
 
 one-turn : (htr fnsq : List Float) (ht fr : Float) (k : ℕ) (ysq : List Float) (zi : Float) (g : Reading) (y : Float) → ysq ≡ scanTable htr fnsq ht fr k → zi ≡ heightOf (at htr 0) ht (k / 2) (k % 2) → g ≡ readingOf htr fnsq zi → y ≡ cutOf g fr → set ysq k y ≡ scanTable htr fnsq ht fr (k + 1)
-unfolding scanTable filled ysqOf
+unfolding scanTable placed ysqOf
 one-turn htr fnsq ht fr k ysq zi g y el ez eg ey = rw (add-one k, ey, eg, ez, el)
 
 abbrev Inv-loop : tie.InvT-loop
@@ -26,33 +27,12 @@ Inv-loop htr fnsq xts ht fr h0 ysq₀ k₀ ysq k = (k ≤ 40) × (ysq ≡ scanTa
 abbrev μ-loop : tie.MeasureT-loop
 μ-loop htr fnsq xts ht fr h0 ysq₀ k₀ ysq k = 40 - k
 
-element-copy-out-h0 : tie.Need-element-copy-out-h0 Inv-loop μ-loop
-element-copy-out-h0 c = omega arith
-
 loop-holds : tie.Need-loop-holds Inv-loop μ-loop
-unfolding scanTable filled
+unfolding scanTable placed
 loop-holds c = (omega arith, refl, refl)
 
 height-requires : tie.Need-height-requires Inv-loop μ-loop
 height-requires c κs = (omega arith, c .before .before .before .pre)
-
-read-by-scan-requires : tie.Need-read-by-scan-requires Inv-loop μ-loop
-read-by-scan-requires c κs = search needs
-
-cut-requires : tie.Need-cut-requires Inv-loop μ-loop
-cut-requires c κs = search needs
-
-mul-ysq : tie.Need-mul-ysq Inv-loop μ-loop
-mul-ysq c = omega arith
-
-array-write-ysq : tie.Need-array-write-ysq Inv-loop μ-loop
-array-write-ysq c = omega arith
-
-add-k : tie.Need-add-k Inv-loop μ-loop
-add-k c = omega arith
-
-loop-less : tie.Need-loop-less Inv-loop μ-loop
-loop-less c = omega arith
 
 loop-again : tie.Need-loop-again Inv-loop μ-loop
 loop-again c =
@@ -68,17 +48,6 @@ returns c = rw (le-antisymm (c .before .loop .inv .0) (c .loop-test .left)) at (
 pub scan-densities-spec : {M : Type 1} → statement M
 scan-densities-spec =
     tie.close
-    (tie.spec
-    Inv-loop
-    μ-loop
-    element-copy-out-h0
-    loop-holds
-    height-requires
-    read-by-scan-requires
-    cut-requires
-    mul-ysq
-    array-write-ysq
-    add-k
-    loop-less
-    loop-again
+    (tie.spec Inv-loop μ-loop (λ c. omega arith) loop-holds height-requires (λ c κs. search needs)
+    (λ c κs. search needs) (λ c. omega arith) (λ c. omega arith) (λ c. omega arith) (λ c. omega arith) loop-again
     returns)

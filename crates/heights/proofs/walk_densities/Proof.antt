@@ -9,21 +9,20 @@ use native.Mathlib.Omega.{arith}
 use borrow.Author.Needs.{needs}
 use lib.ListN.{set}
 use lib.Ieee.{Float}
-use Rattle.scalar.specs.F32.{_≥f_}
+use Rattle.scalar.specs.F32.{_≥f_, at}
 use Rattle.scalar.specs.Literals.{f0}
-use Rattle.readings.specs.Scan.{at}
 use Rattle.readings.specs.Cursor.{readOnOf}
 use Rattle.readings.specs.declared.Read.{Read}
 use Rattle.walk.specs.Walk.{cursorBefore}
 use Rattle.heights.specs.Nodes.{heightOf, heightAt, igAt, ibAt}
 use Rattle.heights.specs.Gethp.{cutOf}
-use Rattle.heights.specs.Walk.{filled, walkTable, cursorAfter}
+use Rattle.heights.specs.Walk.{placed, walkTable, cursorAfter}
 use Rattle.heights.proofs.walk_densities.Statement.{statement}
 use Rattle.heights.proofs.walk_densities.Tie as tie
 
 one-turn : (htr fnsq : List Float) (ht fr : Float) (up : Bool) (h0 : Float) (k : ℕ) (ysq : List Float) (ih ig ib : ℕ) (zi : Float) (r : Read) (y : Float) → up ≡ (ht ≥f f0) → h0 ≡ at htr 0 → ysq ≡ walkTable htr fnsq ht fr k → ih ≡ cursorAfter htr fnsq ht k → ig ≡ igAt k → ib ≡ ibAt up k → zi ≡ heightOf h0 ht ig ib → r ≡ readOnOf htr fnsq zi ih → y ≡ cutOf (r .reading) fr
     → (set ysq (2 * ig + ib) y ≡ walkTable htr fnsq ht fr (k + 1)) × (r .cursor ≡ cursorAfter htr fnsq ht (k + 1))
-unfolding walkTable filled cursorBefore heightAt
+unfolding walkTable placed cursorBefore heightAt
 one-turn htr fnsq ht fr up h0 k ysq ih ig ib zi r y eu eh el ei eg eb ez er ey = (rw (add-one k, ey, er, ez, ei, el, eb, eg, eh, eu), rw (add-one k, er, ez, ei, eb, eg, eh, eu))
 
 abbrev Inv-loop : tie.InvT-loop
@@ -32,45 +31,12 @@ Inv-loop htr fnsq xts ht fr up h0 ysq₀ ih₀ k₀ ysq ih k = (k ≤ 40) × (ys
 abbrev μ-loop : tie.MeasureT-loop
 μ-loop htr fnsq xts ht fr up h0 ysq₀ ih₀ k₀ ysq ih k = 40 - k
 
-element-copy-out-h0 : tie.Need-element-copy-out-h0 Inv-loop μ-loop
-element-copy-out-h0 c = omega arith
-
 loop-holds : tie.Need-loop-holds Inv-loop μ-loop
-unfolding walkTable filled cursorBefore
+unfolding walkTable placed cursorBefore
 loop-holds c = (omega arith, refl, refl, refl, refl)
-
-ig-at-requires : tie.Need-ig-at-requires Inv-loop μ-loop
-ig-at-requires c κs = search needs
-
-ib-at-requires : tie.Need-ib-at-requires Inv-loop μ-loop
-ib-at-requires c κs = search needs
 
 height-requires : tie.Need-height-requires Inv-loop μ-loop
 height-requires c κs = (c .before .ig-at .ensures .0, c .before .before .before .before .before .pre)
-
-read-on-requires : tie.Need-read-on-requires Inv-loop μ-loop
-read-on-requires c κs = search needs
-
-cut-requires : tie.Need-cut-requires Inv-loop μ-loop
-cut-requires c κs = search needs
-
-mul-place : tie.Need-mul-place Inv-loop μ-loop
-mul-place c = omega arith
-
-add-place : tie.Need-add-place Inv-loop μ-loop
-add-place c = omega arith
-
-mul-ysq : tie.Need-mul-ysq Inv-loop μ-loop
-mul-ysq c = omega arith
-
-array-write-ysq : tie.Need-array-write-ysq Inv-loop μ-loop
-array-write-ysq c = omega arith
-
-add-k : tie.Need-add-k Inv-loop μ-loop
-add-k c = omega arith
-
-loop-less : tie.Need-loop-less Inv-loop μ-loop
-loop-less c = omega arith
 
 loop-again : tie.Need-loop-again Inv-loop μ-loop
 loop-again c =
@@ -91,21 +57,6 @@ returns c =
 pub walk-densities-spec : {M : Type 1} → statement M
 walk-densities-spec =
     tie.close
-    (tie.spec
-    Inv-loop
-    μ-loop
-    element-copy-out-h0
-    loop-holds
-    ig-at-requires
-    ib-at-requires
-    height-requires
-    read-on-requires
-    cut-requires
-    mul-place
-    add-place
-    mul-ysq
-    array-write-ysq
-    add-k
-    loop-less
-    loop-again
-    returns)
+    (tie.spec Inv-loop μ-loop (λ c. omega arith) loop-holds (λ c κs. search needs) (λ c κs. search needs)
+    height-requires (λ c κs. search needs) (λ c κs. search needs) (λ c. omega arith) (λ c. omega arith)
+    (λ c. omega arith) (λ c. omega arith) (λ c. omega arith) (λ c. omega arith) loop-again returns)

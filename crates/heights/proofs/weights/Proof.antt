@@ -1,3 +1,4 @@
+-- The code's operations are the definition's, in its order.
 use Rattle.heights.specs.Nodes.{wt}
 use mathlib.Core.Path.{refl}
 use Rattle.heights.proofs.weights.Statement.{statement}

@@ -1,3 +1,4 @@
+-- The code's operations are the definition's, in its order.
 use Rattle.hops.specs.Rounds.{sphOf}
 use mathlib.Core.Path.{refl}
 use Rattle.hops.proofs.correction.Statement.{statement}

@@ -1,3 +1,4 @@
+-- Each path is the clause that its tests choose.
 use Rattle.hops.proofs.half_angle.Statement.{statement}
 use Rattle.hops.proofs.half_angle.Tie as tie
 

@@ -1,25 +1,8 @@
+-- The code follows the definition; each call is what its contract says.
 use Rattle.hops.specs.Geometry.{hopGeometryOf}
 use borrow.Author.Needs.{needs}
 use Rattle.hops.proofs.hop_angles.Statement.{statement}
 use Rattle.hops.proofs.hop_angles.Tie as tie
-
-half-angle-requires : tie.Need-half-angle-requires
-half-angle-requires c κs = search needs
-
-cos-requires : tie.Need-cos-requires
-cos-requires c κs = search needs
-
-sin-requires : tie.Need-sin-requires
-sin-requires c κs = search needs
-
-takeoff-requires : tie.Need-takeoff-requires
-takeoff-requires c κs = search needs
-
-incidence-requires : tie.Need-incidence-requires
-incidence-requires c κs = search needs
-
-secant-requires : tie.Need-secant-requires
-secant-requires c κs = search needs
 
 returns : tie.Need-returns
 unfolding hopGeometryOf
@@ -28,11 +11,5 @@ returns c = rw (← c .before .before .before .before .before .half-angle .ensur
 pub hop-angles-spec : {M : Type 1} → statement M
 hop-angles-spec =
     tie.close
-    (tie.spec
-    half-angle-requires
-    cos-requires
-    sin-requires
-    takeoff-requires
-    incidence-requires
-    secant-requires
-    returns)
+    (tie.spec (λ c κs. search needs) (λ c κs. search needs) (λ c κs. search needs) (λ c κs. search needs)
+    (λ c κs. search needs) (λ c κs. search needs) returns)

@@ -1,3 +1,4 @@
+-- The two tests bound the truncated ratio to 0 to 999, so that one more fits and is its own float.
 use mathlib.Core.Path.{_≡_}
 use mathlib.Core.Bool.{false}
 use lib.IntN.{pos, _+ℤ_}
@@ -8,12 +9,6 @@ use Rattle.hops.specs.Geometry.{hopsOf}
 use Rattle.hops.proofs.Counted.{next-fits, next-float}
 use Rattle.hops.proofs.hop_count.Statement.{statement}
 use Rattle.hops.proofs.hop_count.Tie as tie
-
-hop-ratio-requires : tie.Need-hop-ratio-requires
-hop-ratio-requires c κs = search needs
-
-trunc-requires : tie.Need-trunc-requires
-trunc-requires c κs = search needs
 
 returns : tie.Need-returns
 unfolding hopsOf
@@ -61,4 +56,5 @@ returns-3 c =
 
 pub hop-count-spec : {M : Type 1} → statement M
 hop-count-spec =
-    tie.close (tie.spec hop-ratio-requires trunc-requires returns returns-2 add-xhops int-to-float-xhops returns-3)
+    tie.close
+    (tie.spec (λ c κs. search needs) (λ c κs. search needs) returns returns-2 add-xhops int-to-float-xhops returns-3)

@@ -1,19 +1,8 @@
+-- The code follows the definition; each call is what its contract says.
 use Rattle.hops.specs.Rounds.{roundOf}
 use borrow.Author.Needs.{needs}
 use Rattle.hops.proofs.one_round.Statement.{statement}
 use Rattle.hops.proofs.one_round.Tie as tie
-
-correction-requires : tie.Need-correction-requires
-correction-requires c κs = search needs
-
-takeoff-requires : tie.Need-takeoff-requires
-takeoff-requires c κs = search needs
-
-incidence-requires : tie.Need-incidence-requires
-incidence-requires c κs = search needs
-
-secant-requires : tie.Need-secant-requires
-secant-requires c κs = search needs
 
 returns : tie.Need-returns
 unfolding roundOf
@@ -22,4 +11,4 @@ returns c = rw (← c .before .before .before .before .before .correction .ensur
 pub one-round-spec : {M : Type 1} → statement M
 one-round-spec =
     tie.close
-    (tie.spec correction-requires takeoff-requires incidence-requires secant-requires returns)
+    (tie.spec (λ c κs. search needs) (λ c κs. search needs) (λ c κs. search needs) (λ c κs. search needs) returns)

@@ -1,3 +1,4 @@
+-- Each path is the clause that its tests choose; each call is what its contract says.
 use borrow.Author.Tests.{le-leb, lt-leb, eq-eqb, ne-eqb}
 use Rattle.layer_mufs.specs.Controlling.{controllingOf}
 use borrow.Author.Needs.{needs}
@@ -8,34 +9,13 @@ returns : tie.Need-returns
 unfolding controllingOf
 returns c = rw (le-leb _ _ (c .if1 .taken))
 
-compare-e-requires : tie.Need-compare-e-requires
-compare-e-requires c κs = search needs
-
 returns-2 : tie.Need-returns-2
 unfolding controllingOf
 returns-2 c = rw (lt-leb _ _ (c .before .before .if1 .left), eq-eqb _ _ (c .before .if2 .taken), ← c .compare-e .ensures)
 
-element-copy-out-abs : tie.Need-element-copy-out-abs
-element-copy-out-abs c = search needs
-
-element-copy-out-abs-2 : tie.Need-element-copy-out-abs-2
-element-copy-out-abs-2 c = search needs
-
-abs-requires : tie.Need-abs-requires
-abs-requires c κs = search needs
-
-compare-e-requires-2 : tie.Need-compare-e-requires-2
-compare-e-requires-2 c κs = search needs
-
 returns-3 : tie.Need-returns-3
 unfolding controllingOf
 returns-3 c = rw (lt-leb _ _ (c .before .before .before .before .before .before .if1 .left), ne-eqb _ _ (c .before .before .before .before .before .if2 .left), ← c .before .before .abs .ensures, c .before .if3 .taken, ← c .compare-e2 .ensures)
-
-element-copy-out-if4 : tie.Need-element-copy-out-if4
-element-copy-out-if4 c = search needs
-
-element-copy-out-if4-2 : tie.Need-element-copy-out-if4-2
-element-copy-out-if4-2 c = search needs
 
 returns-4 : tie.Need-returns-4
 unfolding controllingOf
@@ -48,16 +28,5 @@ returns-5 c = rw (lt-leb _ _ (c .before .before .before .before .before .before 
 pub controlling-spec : {M : Type 1} → statement M
 controlling-spec =
     tie.close
-    (tie.spec
-    returns
-    compare-e-requires
-    returns-2
-    element-copy-out-abs
-    element-copy-out-abs-2
-    abs-requires
-    compare-e-requires-2
-    returns-3
-    element-copy-out-if4
-    element-copy-out-if4-2
-    returns-4
-    returns-5)
+    (tie.spec returns (λ c κs. search needs) returns-2 (λ c. search needs) (λ c. search needs) (λ c κs. search needs)
+    (λ c κs. search needs) returns-3 (λ c. search needs) (λ c. search needs) returns-4 returns-5)

@@ -1,18 +1,16 @@
-use Rattle.layer_mufs.specs.Lines.{f1LineOf}
+-- Each path is the clause that its tests choose; each call is what its contract says.
+use Rattle.layer_mufs.specs.Lines.{f1LineWith}
 use borrow.Author.Needs.{needs}
 use Rattle.layer_mufs.proofs.f1_line.Statement.{statement}
 use Rattle.layer_mufs.proofs.f1_line.Tie as tie
 
 returns : tie.Need-returns
-unfolding f1LineOf
+unfolding f1LineWith
 returns c = rw (c .before .struct-known .given .1, c .if1 .taken)
 
-f1-own-requires : tie.Need-f1-own-requires
-f1-own-requires c κs = search needs
-
 returns-2 : tie.Need-returns-2
-unfolding f1LineOf
+unfolding f1LineWith
 returns-2 c = rw (c .before .before .struct-known .given .1, c .before .if1 .left, ← c .f1-own .ensures)
 
 pub f1-line-spec : {M : Type 1} → statement M
-f1-line-spec = tie.close (tie.spec returns f1-own-requires returns-2)
+f1-line-spec = tie.close (tie.spec returns (λ c κs. search needs) returns-2)

@@ -1,19 +1,8 @@
+-- Each path is its clause of the definition; each call is what its contract says.
 use Rattle.layer_mufs.specs.Lines.{f2BentOf}
 use borrow.Author.Needs.{needs}
 use Rattle.layer_mufs.proofs.f2_bent.Statement.{statement}
 use Rattle.layer_mufs.proofs.f2_bent.Tie as tie
-
-both-deviations-requires : tie.Need-both-deviations-requires
-both-deviations-requires c κs = search needs
-
-enum-known-sig : tie.Need-enum-known-sig
-enum-known-sig c = search needs
-
-enum-known-sig-2 : tie.Need-enum-known-sig-2
-enum-known-sig-2 c = search needs
-
-line-requires : tie.Need-line-requires
-line-requires c κs = search needs
 
 returns : tie.Need-returns
 unfolding f2BentOf
@@ -26,10 +15,4 @@ returns-2 c = rw (← c .before .before .before .before .both-deviations .ensure
 pub f2-bent-spec : {M : Type 1} → statement M
 f2-bent-spec =
     tie.close
-    (tie.spec
-    both-deviations-requires
-    enum-known-sig
-    enum-known-sig-2
-    line-requires
-    returns
-    returns-2)
+    (tie.spec (λ c κs. search needs) (λ c. search needs) (λ c. search needs) (λ c κs. search needs) returns returns-2)

@@ -1,13 +1,8 @@
+-- Each path is the clause that its tests choose; each call is what its contract says.
 use Rattle.layer_mufs.specs.Tangents.{f2TangentOf}
 use borrow.Author.Needs.{needs}
 use Rattle.layer_mufs.proofs.f2_tangent.Statement.{statement}
 use Rattle.layer_mufs.proofs.f2_tangent.Tie as tie
-
-tangent-ratio-requires : tie.Need-tangent-ratio-requires
-tangent-ratio-requires c κs = search needs
-
-short-path-requires : tie.Need-short-path-requires
-short-path-requires c κs = search needs
 
 returns : tie.Need-returns
 unfolding f2TangentOf
@@ -18,4 +13,4 @@ unfolding f2TangentOf
 returns-2 c = rw (← c .before .before .tangent-ratio .ensures, c .before .struct-known .given .1, c .if1 .left)
 
 pub f2-tangent-spec : {M : Type 1} → statement M
-f2-tangent-spec = tie.close (tie.spec tangent-ratio-requires short-path-requires returns returns-2)
+f2-tangent-spec = tie.close (tie.spec (λ c κs. search needs) (λ c κs. search needs) returns returns-2)

@@ -1,16 +1,8 @@
+-- The code follows the definition; each call is what its contract says.
 use Rattle.layer_mufs.specs.Tangents.{tangentsOf}
 use borrow.Author.Needs.{needs}
 use Rattle.layer_mufs.proofs.tangent_frequencies.Statement.{statement}
 use Rattle.layer_mufs.proofs.tangent_frequencies.Tie as tie
-
-tangent-ratio-requires : tie.Need-tangent-ratio-requires
-tangent-ratio-requires c κs = search needs
-
-f1-tangent-requires : tie.Need-f1-tangent-requires
-f1-tangent-requires c κs = search needs
-
-f2-tangent-requires : tie.Need-f2-tangent-requires
-f2-tangent-requires c κs = search needs
 
 returns : tie.Need-returns
 unfolding tangentsOf
@@ -18,4 +10,5 @@ returns c = rw (← c .before .before .before .tangent-ratio .ensures, ← c .be
 
 pub tangent-frequencies-spec : {M : Type 1} → statement M
 tangent-frequencies-spec =
-    tie.close (tie.spec tangent-ratio-requires f1-tangent-requires f2-tangent-requires returns)
+    tie.close
+    (tie.spec (λ c κs. search needs) (λ c κs. search needs) (λ c κs. search needs) returns)

@@ -1,14 +1,12 @@
+-- The code follows the definition; each call is what its contract says.
 use Rattle.layer_mufs.specs.Tangents.{xtOf}
 use borrow.Author.Needs.{needs}
 use Rattle.layer_mufs.proofs.tangent_ratio.Statement.{statement}
 use Rattle.layer_mufs.proofs.tangent_ratio.Tie as tie
-
-sqrt-requires : tie.Need-sqrt-requires
-sqrt-requires c κs = search needs
 
 returns : tie.Need-returns
 unfolding xtOf
 returns c = rw (← c .sqrt .ensures)
 
 pub tangent-ratio-spec : {M : Type 1} → statement M
-tangent-ratio-spec = tie.close (tie.spec sqrt-requires returns)
+tangent-ratio-spec = tie.close (tie.spec (λ c κs. search needs) returns)

@@ -1,14 +1,12 @@
+-- The code follows the definition; each call is what its contract says.
 use Rattle.layer_mufs.specs.Lines.{tenthOf}
 use borrow.Author.Needs.{needs}
 use Rattle.layer_mufs.proofs.tenth.Statement.{statement}
 use Rattle.layer_mufs.proofs.tenth.Tie as tie
-
-max-requires : tie.Need-max-requires
-max-requires c κs = search needs
 
 returns : tie.Need-returns
 unfolding tenthOf
 returns c = rw (← c .max .ensures)
 
 pub tenth-spec : {M : Type 1} → statement M
-tenth-spec = tie.close (tie.spec max-requires returns)
+tenth-spec = tie.close (tie.spec (λ c κs. search needs) returns)

@@ -1,3 +1,4 @@
+-- The code's operations are the definition's, in its order.
 use Rattle.layer_mufs.specs.Lines.{zeroLine}
 use mathlib.Core.Path.{refl}
 use Rattle.layer_mufs.proofs.zero_line.Statement.{statement}

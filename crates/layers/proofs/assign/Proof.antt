@@ -9,20 +9,13 @@ returns : tie.Need-returns
 unfolding assignedOf
 returns c = rw (le-leb _ _ (c .if1 .taken))
 
-two-slots-requires : tie.Need-two-slots-requires
-two-slots-requires c κs = search needs
-
 returns-2 : tie.Need-returns-2
 unfolding assignedOf
 returns-2 c = rw (lt-leb _ _ (c .before .before .before .if1 .left), le-leb _ _ (c .before .if2 .taken)) (c .two-slots .ensures)
-
-three-slots-requires : tie.Need-three-slots-requires
-three-slots-requires c κs = search needs
 
 returns-3 : tie.Need-returns-3
 unfolding assignedOf
 returns-3 c = rw (lt-leb _ _ (c .before .before .before .if1 .left), lt-leb _ _ (c .before .if2 .left)) (c .three-slots .ensures)
 
 pub assign-spec : {M : Type 1} → statement M
-assign-spec =
-    tie.close (tie.spec returns two-slots-requires returns-2 three-slots-requires returns-3)
+assign-spec = tie.close (tie.spec returns (λ c κs. search needs) returns-2 (λ c κs. search needs) returns-3)

@@ -4,12 +4,9 @@ use borrow.Author.Needs.{needs}
 use Rattle.layers.proofs.empty.Statement.{statement}
 use Rattle.layers.proofs.empty.Tie as tie
 
-zero-state-requires : tie.Need-zero-state-requires
-zero-state-requires c κs = search needs
-
 returns : tie.Need-returns
 unfolding emptyOf
 returns c = rw (c .zero-state .ensures)
 
 pub empty-spec : {M : Type 1} → statement M
-empty-spec = tie.close (tie.spec zero-state-requires returns)
+empty-spec = tie.close (tie.spec (λ c κs. search needs) returns)

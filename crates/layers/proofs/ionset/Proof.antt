@@ -5,12 +5,6 @@ use borrow.Author.Needs.{needs}
 use Rattle.layers.proofs.ionset.Statement.{statement}
 use Rattle.layers.proofs.ionset.Tie as tie
 
-count-taken-requires : tie.Need-count-taken-requires
-count-taken-requires c κs = search needs
-
-assign-requires : tie.Need-assign-requires
-assign-requires c κs = search needs
-
 settle-slots-requires : tie.Need-settle-slots-requires
 settle-slots-requires c κs = rw (c .assign .ensures) (three-at-most _)
 
@@ -25,4 +19,4 @@ returns-2 c = rw (← c .before .count-taken .ensures, c .if1 .left)
 pub ionset-spec : {M : Type 1} → statement M
 ionset-spec =
     tie.close
-    (tie.spec count-taken-requires assign-requires settle-slots-requires returns returns-2)
+    (tie.spec (λ c κs. search needs) (λ c κs. search needs) settle-slots-requires returns returns-2)

@@ -18,15 +18,6 @@ loop-holds : tie.Need-loop-holds Inv-loop μ-loop
 unfolding slotsSettled
 loop-holds c = (omega arith, refl)
 
-settle-slot-requires : tie.Need-settle-slot-requires Inv-loop μ-loop
-settle-slot-requires c κs = omega arith
-
-add-k : tie.Need-add-k Inv-loop μ-loop
-add-k c = omega arith
-
-loop-less : tie.Need-loop-less Inv-loop μ-loop
-loop-less c = omega arith
-
 loop-again : tie.Need-loop-again Inv-loop μ-loop
 unfolding slotsSettled
 loop-again c = (omega arith, rw (add-one (c .before .before .loop .k), c .settle-slot .ensures, c .before .before .loop .inv .1))
@@ -37,4 +28,5 @@ returns c = let k≡n = le-antisymm (c .before .loop .inv .0) (c .loop-test .lef
 pub settle-slots-spec : {M : Type 1} → statement M
 settle-slots-spec =
     tie.close
-    (tie.spec Inv-loop μ-loop loop-holds settle-slot-requires add-k loop-less loop-again returns)
+    (tie.spec Inv-loop μ-loop loop-holds (λ c κs. omega arith) (λ c. omega arith) (λ c. omega arith) loop-again
+    returns)

@@ -4,19 +4,9 @@ use borrow.Author.Needs.{needs}
 use Rattle.layers.proofs.two_slots.Statement.{statement}
 use Rattle.layers.proofs.two_slots.Tie as tie
 
-layer-from-requires : tie.Need-layer-from-requires
-layer-from-requires c κs = search needs
-
-layer-from-requires-2 : tie.Need-layer-from-requires-2
-layer-from-requires-2 c κs = search needs
-
-layer-from-requires-3 : tie.Need-layer-from-requires-3
-layer-from-requires-3 c κs = search needs
-
 returns : tie.Need-returns
 unfolding twoSlots
 returns c = rw (← c .before .before .layer-from .ensures, ← c .before .layer-from2 .ensures, ← c .layer-from3 .ensures)
 
 pub two-slots-spec : {M : Type 1} → statement M
-two-slots-spec =
-    tie.close (tie.spec layer-from-requires layer-from-requires-2 layer-from-requires-3 returns)
+two-slots-spec = tie.close (tie.spec (λ c κs. search needs) (λ c κs. search needs) (λ c κs. search needs) returns)

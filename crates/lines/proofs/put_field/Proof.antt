@@ -1,20 +1,13 @@
--- The space and then the digits are put one after the other.
-use Rattle.lines.proofs.Placing.{put-then}
+-- The code follows the definition; each call is what its contract says.
 use borrow.Author.Needs.{needs}
+use Rattle.lines.specs.Text.{fieldOf}
+use Rattle.lines.proofs.Placing.{clip-then}
 use Rattle.lines.proofs.put_field.Statement.{statement}
 use Rattle.lines.proofs.put_field.Tie as tie
 
-put-byte-requires : tie.Need-put-byte-requires
-put-byte-requires c κs = search needs
-
-put-decimal-requires : tie.Need-put-decimal-requires
-put-decimal-requires c κs = search needs
-
-same-length : tie.Need-same-length
-same-length c = search needs
-
 returns : tie.Need-returns
-returns c = put-then (c .before .before .before .before .before .before .put-byte .ensures) (c .before .before .put-decimal .ensures)
+unfolding fieldOf
+returns c = clip-then (c .before .before .before .before .before .before .put-byte .ensures) (c .before .before .put-decimal .ensures)
 
 pub put-field-spec : {M : Type 1} → statement M
-put-field-spec = tie.close (tie.spec put-byte-requires put-decimal-requires same-length returns)
+put-field-spec = tie.close (tie.spec (λ c κs. search needs) (λ c κs. search needs) (λ c. search needs) returns)

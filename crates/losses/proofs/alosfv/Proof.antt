@@ -1,11 +1,9 @@
+-- Each path is the clause that its tests choose; each call is what its contract says.
 use borrow.Author.Tests.{le-leb, lt-leb}
 use Rattle.losses.specs.Alosfv.{alosfvAnswer}
 use borrow.Author.Needs.{needs}
 use Rattle.losses.proofs.alosfv.Statement.{statement}
 use Rattle.losses.proofs.alosfv.Tie as tie
-
-alosfv-slot-requires : tie.Need-alosfv-slot-requires
-alosfv-slot-requires c κs = search needs
 
 returns : tie.Need-returns
 unfolding alosfvAnswer
@@ -16,4 +14,4 @@ unfolding alosfvAnswer
 returns-2 c = rw (lt-leb _ _ (c .if1 .left))
 
 pub alosfv-spec : {M : Type 1} → statement M
-alosfv-spec = tie.close (tie.spec alosfv-slot-requires returns returns-2)
+alosfv-spec = tie.close (tie.spec (λ c κs. search needs) returns returns-2)

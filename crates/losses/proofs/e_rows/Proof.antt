@@ -19,33 +19,6 @@ loop-holds : tie.Need-loop-holds Inv-loop μ-loop
 unfolding eRows
 loop-holds c = (omega arith, refl)
 
-mul-e-loss : tie.Need-mul-e-loss Inv-loop μ-loop
-mul-e-loss c = omega arith
-
-element-copy-out-e-loss : tie.Need-element-copy-out-e-loss Inv-loop μ-loop
-element-copy-out-e-loss c = omega arith
-
-mul-e-loss-2 : tie.Need-mul-e-loss-2 Inv-loop μ-loop
-mul-e-loss-2 c = omega arith
-
-element-copy-out-e-loss-2 : tie.Need-element-copy-out-e-loss-2 Inv-loop μ-loop
-element-copy-out-e-loss-2 c = omega arith
-
-e-loss-requires : tie.Need-e-loss-requires Inv-loop μ-loop
-e-loss-requires c κs = search needs
-
-mul-g : tie.Need-mul-g Inv-loop μ-loop
-mul-g c = omega arith
-
-element-write-g : tie.Need-element-write-g Inv-loop μ-loop
-element-write-g c = omega arith
-
-add-ih : tie.Need-add-ih Inv-loop μ-loop
-add-ih c = omega arith
-
-loop-less : tie.Need-loop-less Inv-loop μ-loop
-loop-less c = omega arith
-
 loop-again : tie.Need-loop-again Inv-loop μ-loop
 unfolding stored eRows
 loop-again c = (omega arith, rw (add-one _, ← c .before .before .before .before .before .loop .inv .1, ← c .e-loss .ensures))
@@ -56,18 +29,6 @@ returns c = c .before .loop .inv .1 ∙ ap (eRows _ _ _ _) (le-antisymm (c .befo
 pub e-rows-spec : {M : Type 1} → statement M
 e-rows-spec =
     tie.close
-    (tie.spec
-    Inv-loop
-    μ-loop
-    loop-holds
-    mul-e-loss
-    element-copy-out-e-loss
-    mul-e-loss-2
-    element-copy-out-e-loss-2
-    e-loss-requires
-    mul-g
-    element-write-g
-    add-ih
-    loop-less
-    loop-again
+    (tie.spec Inv-loop μ-loop loop-holds (λ c. omega arith) (λ c. omega arith) (λ c. omega arith) (λ c. omega arith)
+    (λ c κs. search needs) (λ c. omega arith) (λ c. omega arith) (λ c. omega arith) (λ c. omega arith) loop-again
     returns)

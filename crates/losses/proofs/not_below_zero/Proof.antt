@@ -1,3 +1,4 @@
+-- Each path is the clause that its tests choose.
 use Rattle.losses.specs.Alosfv.{notBelowZero}
 use Rattle.losses.proofs.not_below_zero.Statement.{statement}
 use Rattle.losses.proofs.not_below_zero.Tie as tie

@@ -19,27 +19,6 @@ loop-holds : tie.Need-loop-holds Inv-loop μ-loop
 unfolding notBelowZeros
 loop-holds c = (omega arith, refl)
 
-mul-not-below-zero : tie.Need-mul-not-below-zero Inv-loop μ-loop
-mul-not-below-zero c = omega arith
-
-array-read-not-below-zero : tie.Need-array-read-not-below-zero Inv-loop μ-loop
-array-read-not-below-zero c = omega arith
-
-not-below-zero-requires : tie.Need-not-below-zero-requires Inv-loop μ-loop
-not-below-zero-requires c κs = search needs
-
-mul-g : tie.Need-mul-g Inv-loop μ-loop
-mul-g c = omega arith
-
-array-write-g : tie.Need-array-write-g Inv-loop μ-loop
-array-write-g c = omega arith
-
-add-i : tie.Need-add-i Inv-loop μ-loop
-add-i c = omega arith
-
-loop-less : tie.Need-loop-less Inv-loop μ-loop
-loop-less c = omega arith
-
 loop-again : tie.Need-loop-again Inv-loop μ-loop
 unfolding notBelowZeros
 loop-again c = (omega arith, rw (add-one _, ← c .before .before .loop .inv .1, ← c .not-below-zero .ensures))
@@ -50,16 +29,5 @@ returns c = c .before .loop .inv .1 ∙ ap (notBelowZeros _) (le-antisymm (c .be
 pub not-below-zeros-spec : {M : Type 1} → statement M
 not-below-zeros-spec =
     tie.close
-    (tie.spec
-    Inv-loop
-    μ-loop
-    loop-holds
-    mul-not-below-zero
-    array-read-not-below-zero
-    not-below-zero-requires
-    mul-g
-    array-write-g
-    add-i
-    loop-less
-    loop-again
-    returns)
+    (tie.spec Inv-loop μ-loop loop-holds (λ c. omega arith) (λ c. omega arith) (λ c κs. search needs)
+    (λ c. omega arith) (λ c. omega arith) (λ c. omega arith) (λ c. omega arith) loop-again returns)

@@ -19,36 +19,6 @@ loop-holds : tie.Need-loop-holds Inv-loop μ-loop
 unfolding tailRows
 loop-holds c = (omega arith, refl)
 
-add-ih : tie.Need-add-ih Inv-loop μ-loop
-add-ih c = omega arith
-
-mul-tail-loss : tie.Need-mul-tail-loss Inv-loop μ-loop
-mul-tail-loss c = omega arith
-
-element-copy-out-tail-loss : tie.Need-element-copy-out-tail-loss Inv-loop μ-loop
-element-copy-out-tail-loss c = omega arith
-
-mul-tail-loss-2 : tie.Need-mul-tail-loss-2 Inv-loop μ-loop
-mul-tail-loss-2 c = omega arith
-
-element-copy-out-tail-loss-2 : tie.Need-element-copy-out-tail-loss-2 Inv-loop μ-loop
-element-copy-out-tail-loss-2 c = omega arith
-
-tail-loss-requires : tie.Need-tail-loss-requires Inv-loop μ-loop
-tail-loss-requires c κs = search needs
-
-mul-g : tie.Need-mul-g Inv-loop μ-loop
-mul-g c = omega arith
-
-element-write-g : tie.Need-element-write-g Inv-loop μ-loop
-element-write-g c = omega arith
-
-add-i : tie.Need-add-i Inv-loop μ-loop
-add-i c = omega arith
-
-loop-less : tie.Need-loop-less Inv-loop μ-loop
-loop-less c = omega arith
-
 loop-again : tie.Need-loop-again Inv-loop μ-loop
 unfolding stored tailRows
 loop-again c = (omega arith, rw (add-one _, ← c .before .before .before .before .before .loop .inv .1, ← c .tail-loss .ensures))
@@ -59,19 +29,6 @@ returns c = c .before .loop .inv .1 ∙ ap (tailRows _ _ _ _ _ _) (le-antisymm (
 pub tail-rows-spec : {M : Type 1} → statement M
 tail-rows-spec =
     tie.close
-    (tie.spec
-    Inv-loop
-    μ-loop
-    loop-holds
-    add-ih
-    mul-tail-loss
-    element-copy-out-tail-loss
-    mul-tail-loss-2
-    element-copy-out-tail-loss-2
-    tail-loss-requires
-    mul-g
-    element-write-g
-    add-i
-    loop-less
-    loop-again
-    returns)
+    (tie.spec Inv-loop μ-loop loop-holds (λ c. omega arith) (λ c. omega arith) (λ c. omega arith) (λ c. omega arith)
+    (λ c. omega arith) (λ c κs. search needs) (λ c. omega arith) (λ c. omega arith) (λ c. omega arith)
+    (λ c. omega arith) loop-again returns)

@@ -1,3 +1,4 @@
+-- The code's operations are the definition's, in its order.
 use Rattle.losses.specs.Alosfv.{withAfac}
 use mathlib.Core.Path.{refl}
 use Rattle.losses.proofs.with_afac.Statement.{statement}

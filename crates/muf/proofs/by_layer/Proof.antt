@@ -1,3 +1,4 @@
+-- Each path is the clause that its tests choose.
 use Rattle.muf.specs.Hour.{modeOf}
 use Rattle.muf.proofs.by_layer.Statement.{statement}
 use Rattle.muf.proofs.by_layer.Tie as tie

@@ -1,13 +1,8 @@
+-- Each path is the clause that its tests choose; each call is what its contract says.
 use Rattle.muf.specs.Curmuf.{inDomain}
 use borrow.Author.Needs.{needs}
 use Rattle.muf.proofs.in_domain.Statement.{statement}
 use Rattle.muf.proofs.in_domain.Tie as tie
-
-within-requires : tie.Need-within-requires
-within-requires c κs = search needs
-
-within-requires-2 : tie.Need-within-requires-2
-within-requires-2 c κs = search needs
 
 returns : tie.Need-returns
 unfolding inDomain
@@ -27,4 +22,5 @@ returns-4 c = rw (← c .before .within .ensures, c .if1 .left)
 
 pub in-domain-spec : {M : Type 1} → statement M
 in-domain-spec =
-    tie.close (tie.spec within-requires within-requires-2 returns returns-2 returns-3 returns-4)
+    tie.close
+    (tie.spec (λ c κs. search needs) (λ c κs. search needs) returns returns-2 returns-3 returns-4)

@@ -1,3 +1,4 @@
+-- Each path is the clause that its tests choose.
 use borrow.Author.Tests.{lt-ltb, le-ltb, eq-eqb, ne-eqb}
 use Rattle.muf.specs.Curmuf.{listsReach}
 use Rattle.muf.proofs.lists_reach.Statement.{statement}

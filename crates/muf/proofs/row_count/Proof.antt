@@ -1,15 +1,12 @@
 -- The rows that there are, of a quarter as many.
-use Rattle.muf.specs.Curmuf.{rowsOf}
+use Rattle.muf.specs.Curmuf.{rowCountOf}
 use borrow.Author.Needs.{needs}
 use Rattle.muf.proofs.row_count.Statement.{statement}
 use Rattle.muf.proofs.row_count.Tie as tie
 
-rows-taken-requires : tie.Need-rows-taken-requires
-rows-taken-requires c κs = search needs
-
 returns : tie.Need-returns
-unfolding rowsOf
+unfolding rowCountOf
 returns c = rw (← c .rows-taken .ensures)
 
 pub row-count-spec : {M : Type 1} → statement M
-row-count-spec = tie.close (tie.spec rows-taken-requires returns)
+row-count-spec = tie.close (tie.spec (λ c κs. search needs) returns)

@@ -1,3 +1,4 @@
+-- Each path is the clause that its tests choose.
 use Rattle.muf.proofs.within.Statement.{statement}
 use Rattle.muf.proofs.within.Tie as tie
 

@@ -1,4 +1,4 @@
--- `curmuf_records` meets its contract: a walk of its MIR. The list of records is lent as `&` to `search`, for a lifetime that is made for the call, and comes back; `searched` has what was found; and `rewrite` is given the list for good.
+-- `curmuf_records` meets its contract: a walk of its MIR. The list of records is lent as `&` to `search`, for a lifetime that is made for the call, and comes back; `muf_from_search` has what was found; and `rewrite` is given the list for good.
 -- All that the proof knows of the three is that they meet their contracts.
 -- Assumes nothing.
 use mathlib.Core.Path.{_≡_, refl, sym, subst, ap, _∙_}
@@ -52,30 +52,30 @@ use Rattle.layers.proofs.IonoState as Io
 use Rattle.layers.proofs.IonoState.Laws as Io′
 use Rattle.layers.specs.declared.EsParams.{EsParams}
 use Rattle.layers.proofs.EsParams as Es
-use Rattle.layer_mufs.specs.declared.Circuit.{Circuit}
-use Rattle.layer_mufs.proofs.Circuit as Ci
-use Rattle.layer_mufs.proofs.Circuit.Laws as Ci′
-use Rattle.muf.specs.Sporadic.{esFrom, startOf}
-use Rattle.muf.specs.Curmuf.{takenRows, stepDoneOf, doneOf}
-use Rattle.muf.specs.declared.EsStep.{EsStep}
-use Rattle.muf.proofs.EsStep as St
-use Rattle.muf.proofs.EsStep.Laws as St′
-use Rattle.muf.specs.declared.Done.{Done}
-use Rattle.muf.proofs.Done as Do
-use Rattle.muf.proofs.Done.Laws as Do′
+use Rattle.layer_mufs.specs.declared.PathNumbers.{PathNumbers}
+use Rattle.layer_mufs.proofs.PathNumbers as Ci
+use Rattle.layer_mufs.proofs.PathNumbers.Laws as Ci′
+use Rattle.sporadic.specs.Sporadic.{esFrom, startOf}
+use Rattle.muf.specs.Curmuf.{takenRows, mufFromSearchOf, mufOfRowsWith}
+use Rattle.sporadic.specs.declared.EsStep.{EsStep}
+use Rattle.sporadic.proofs.EsStep as St
+use Rattle.sporadic.proofs.EsStep.Laws as St′
+use Rattle.muf.specs.declared.AnswerAndRow.{AnswerAndRow}
+use Rattle.muf.proofs.AnswerAndRow as Do
+use Rattle.muf.proofs.AnswerAndRow.Laws as Do′
 use Rattle.muf.specs.declared.MufAnswer.{MufAnswer}
 use Rattle.muf.proofs.MufAnswer as An
 use Rattle.muf.proofs.MufAnswer.Laws as An′
-use Rattle.muf_records.specs.Records.{recordAt, recordsDoneOf, recordsBy}
+use Rattle.muf_records.specs.Records.{recordAt, recordsAnswerWith, recordsAnswerOf, recordsBy}
 use Rattle.muf_records.proofs.Rows.{records-below}
 use Rattle.muf_records.proofs.search as search′
 use Rattle.muf_records.proofs.search.Symbol as search-def
 use Rattle.muf_records.proofs.search.Symbol.{name as #search}
 use Rattle.muf_records.proofs.search.Met as search-thm
-use Rattle.muf.proofs.searched as searched
-use Rattle.muf.proofs.searched.Symbol as searched-def
-use Rattle.muf.proofs.searched.Symbol.{name as #searched}
-use Rattle.muf.proofs.searched.Met as searched-thm
+use Rattle.muf.proofs.muf_from_search as from-search
+use Rattle.muf.proofs.muf_from_search.Symbol as from-search-def
+use Rattle.muf.proofs.muf_from_search.Symbol.{name as #from-search}
+use Rattle.muf.proofs.muf_from_search.Met as from-search-thm
 use Rattle.muf_records.proofs.rewrite as rewrite′
 use Rattle.muf_records.proofs.rewrite.Symbol as rewrite-def
 use Rattle.muf_records.proofs.rewrite.Symbol.{name as #rewrite}
@@ -113,36 +113,36 @@ function = record {
   body = body.t-1;
 }
 
--- what `searched` says of its result
-abbrev Worked : IonoState → EsStep → List Float → List Float → List Float → Circuit → Done → Type 0
-Worked s step f2d clat clck c r = r ≡ stepDoneOf s step f2d clat clck c
+-- what `muf_from_search` says of its result
+abbrev Worked : IonoState → EsStep → List Float → List Float → List Float → PathNumbers → AnswerAndRow → Type 0
+Worked s step f2d clat clck c r = r ≡ mufFromSearchOf s step f2d clat clck c
 
 -- so where the step is the search of the records
-of-records : (s : IonoState) (ys : List EsParams) (step : EsStep) (f2d clat clck : List Float) (c : Circuit) (r : Done) → step ≡ esFrom (recordAt ys) c (takenRows (length ys) (s .km)) 0 startOf → Worked s step f2d clat clck c r → r ≡ recordsDoneOf s ys f2d clat clck c
-unfolding recordsDoneOf doneOf
-of-records s ys step f2d clat clck c r e w = w ∙ ap (λ (z : EsStep). stepDoneOf s z f2d clat clck c) e
+of-records : (s : IonoState) (ys : List EsParams) (step : EsStep) (f2d clat clck : List Float) (c : PathNumbers) (r : AnswerAndRow) → step ≡ esFrom (recordAt ys) c (takenRows (length ys) (s .km)) 0 startOf → Worked s step f2d clat clck c r → r ≡ recordsAnswerOf s ys f2d clat clck c
+unfolding recordsAnswerWith mufOfRowsWith
+of-records s ys step f2d clat clck c r e w = w ∙ ap (λ (z : EsStep). mufFromSearchOf s z f2d clat clck c) e
 
 module _ {M : Type 1} (𝓤 : URA M) (H : Heap 𝓤) (A : Atoms 𝓤) (mem″ : Memory → SProp 𝓤) (run : Routine → Fun 𝓤) where
   -- the contracts that the proof cites
   abbrev Search : Contract 𝓤
   Search = tripleOf 𝓤 H A search′.signature (search′.spec 𝓤 H A mem″ run)
 
-  abbrev Searched : Contract 𝓤
-  Searched = tripleOf 𝓤 H A searched.signature (searched.spec 𝓤 H A mem″ run)
+  abbrev FromSearch : Contract 𝓤
+  FromSearch = tripleOf 𝓤 H A from-search.signature (from-search.spec 𝓤 H A mem″ run)
 
   abbrev Rewrite : Contract 𝓤
   Rewrite = tripleOf 𝓤 H A rewrite′.signature (rewrite′.spec 𝓤 H A mem″ run)
 
   -- of what the first two ensure, the clause alone: neither has a last value
-  search-of : (κ : Lft) (x : RefT (List EsParams)) (km : ℕ) (c : Circuit) (r : EsStep) → ent 𝓤 (ensured 𝓤 H A search′.ended (search′.clauses 𝓤 H A mem″ run) (κ, tt) (x, (km, (c, tt))) tt r) (fact 𝓤 (r ≡ esFrom (recordAt (x .now)) c (takenRows (length (x .now)) km) 0 startOf))
+  search-of : (κ : Lft) (x : RefT (List EsParams)) (km : ℕ) (c : PathNumbers) (r : EsStep) → ent 𝓤 (ensured 𝓤 H A search′.ended (search′.clauses 𝓤 H A mem″ run) (κ, tt) (x, (km, (c, tt))) tt r) (fact 𝓤 (r ≡ esFrom (recordAt (x .now)) c (takenRows (length (x .now)) km) 0 startOf))
   search-of κ x km c r = exE 𝓤 _ (λ ws. snd∗ 𝓤 (sem 𝓤 H A (lasts search′.ended (κ, tt) (x, (km, (c, tt))) ws)) (fact 𝓤 (r ≡ esFrom (recordAt (x .now)) c (takenRows (length (x .now)) km) 0 startOf)))
 
-  searched-of : (κ₁ κ₂ κ₃ : Lft) (s : IonoState) (step : EsStep) (x₁ x₂ x₃ : RefT (List Float)) (c : Circuit) (r : Done)
-      → ent 𝓤 (ensured 𝓤 H A searched.ended (searched.clauses 𝓤 H A mem″ run) (κ₁, (κ₂, (κ₃, tt))) (s, (step, (x₁, (x₂, (x₃, (c, tt)))))) tt r) (fact 𝓤 (Worked s step (x₁ .now) (x₂ .now) (x₃ .now) c r))
-  searched-of κ₁ κ₂ κ₃ s step x₁ x₂ x₃ c r = exE 𝓤 _ (λ ws. snd∗ 𝓤 (sem 𝓤 H A (lasts searched.ended (κ₁, (κ₂, (κ₃, tt))) (s, (step, (x₁, (x₂, (x₃, (c, tt)))))) ws)) (fact 𝓤 (Worked s step (x₁ .now) (x₂ .now) (x₃ .now) c r)))
+  from-search-of : (κ₁ κ₂ κ₃ : Lft) (s : IonoState) (step : EsStep) (x₁ x₂ x₃ : RefT (List Float)) (c : PathNumbers) (r : AnswerAndRow)
+      → ent 𝓤 (ensured 𝓤 H A from-search.ended (from-search.clauses 𝓤 H A mem″ run) (κ₁, (κ₂, (κ₃, tt))) (s, (step, (x₁, (x₂, (x₃, (c, tt)))))) tt r) (fact 𝓤 (Worked s step (x₁ .now) (x₂ .now) (x₃ .now) c r))
+  from-search-of κ₁ κ₂ κ₃ s step x₁ x₂ x₃ c r = exE 𝓤 _ (λ ws. snd∗ 𝓤 (sem 𝓤 H A (lasts from-search.ended (κ₁, (κ₂, (κ₃, tt))) (s, (step, (x₁, (x₂, (x₃, (c, tt)))))) ws)) (fact 𝓤 (Worked s step (x₁ .now) (x₂ .now) (x₃ .now) c r)))
 
 module _ {M : Type 1} (𝓤 : URA M) (H : Heap 𝓤) (A : Atoms 𝓤) (W : Given 𝓤 H A) (mem″ : Memory → SProp 𝓤) (run : Routine → Fun 𝓤) (κ κ₁ κ₂ κ₃ : Lft) (q q₁ q₂ q₃ : Share)
-    (s : IonoState) (b o : ℕ) (γ : GName) (ys : List EsParams) (x₁ x₂ x₃ : RefT (List Float)) (c : Circuit)
+    (s : IonoState) (b o : ℕ) (γ : GName) (ys : List EsParams) (x₁ x₂ x₃ : RefT (List Float)) (c : PathNumbers)
     (s-is : Is Io.the-row s (LL.vals Io.the-type Io′.the-laws s)) (room : Room R (length ys)) (room₁ : Room f32 (length (x₁ .now))) (room₂ : Room f32 (length (x₂ .now))) (room₃ : Room f32 (length (x₃ .now))) (c-is : Is Ci.the-row c (LL.vals Ci.the-type Ci′.the-laws c)) where
   abbrev x : GName → RefT (List EsParams)
   x δ = record { ptr = (b, o); name = δ; now = ys }
@@ -161,7 +161,7 @@ module _ {M : Type 1} (𝓤 : URA M) (H : Heap 𝓤) (A : Atoms 𝓤) (W : Given
   fv z = sliceVal (z .ptr) (length (z .now))
 
   abbrev Arg : Type 0
-  Arg = IonoState × (RefT (List EsParams) × (RefT (List Float) × (RefT (List Float) × (RefT (List Float) × (Circuit × Unit {0})))))
+  Arg = IonoState × (RefT (List EsParams) × (RefT (List Float) × (RefT (List Float) × (RefT (List Float) × (PathNumbers × Unit {0})))))
 
   abbrev a : Arg
   a = (s, (x γ, (x₁, (x₂, (x₃, (c, tt))))))
@@ -186,8 +186,8 @@ module _ {M : Type 1} (𝓤 : URA M) (H : Heap 𝓤) (A : Atoms 𝓤) (W : Given
   Post = walkOf 𝓤 H A records.ended stayed (records.clauses 𝓤 H A mem″ run) .post (((κ, (κ₁, (κ₂, (κ₃, tt)))), (q, (q₁, (q₂, (q₃, tt)))), tt, a, vals), tt)
 
   -- all that is worked out
-  abbrev all : Done
-  all = recordsDoneOf s ys (x₁ .now) (x₂ .now) (x₃ .now) c
+  abbrev all : AnswerAndRow
+  all = recordsAnswerOf s ys (x₁ .now) (x₂ .now) (x₃ .now) c
 
   exits : (r : MufAnswer) (w : Val) (zs : List EsParams) → length zs ≡ length ys → (r ≡ all .answer) × (zs ≡ recordsBy (all .rewrites) ys (all .ksx) (all .lower))
       → ent 𝓤 (⋆ 𝓤 H A ((‵ (flft κ q) ⊛ ‵ ftrue) ∷ Tokens ∷ ‵ (finally R γ zs) ∷ ‵ F₁ ∷ ‵ F₂ ∷ ‵ F₃ ∷ ‵ (An.the-row .own r (w ∷ [])) ∷ [])) (Post w)
@@ -211,26 +211,26 @@ module _ {M : Type 1} (𝓤 : URA M) (H : Heap 𝓤) (A : Atoms 𝓤) (W : Given
       nothing ! $ owned ! Ci.the-row (Is Ci.the-row) (LL.makes Ci.the-type Ci′.the-plain 𝓤 H A) c _ c-is $ fjoin ! $ owned ! usize (Is usize) (uint-makes 𝓤 H A W w64) (s .km) _ km-is $ fjoin ! $ move ! (2 ∷ 0 ∷ []) $ fjoin ! $
       move ! (1 ∷ 0 ∷ []) $ join ! $ frame ! $ done !
 
-  abbrev to-searched : EsStep → Val → Searched 𝓤 H A mem″ run .Ghost
-  to-searched step w = (((κ₁, (κ₂, (κ₃, tt))), (q₁, (q₂, (q₃, tt))), tt, (s, (step, (x₁, (x₂, (x₃, (c, tt)))))), (sv ∷ [], (w ∷ [], (fv x₁ ∷ [], (fv x₂ ∷ [], (fv x₃ ∷ [], (cv ∷ [], tt))))))), tt)
+  abbrev to-from-search : EsStep → Val → FromSearch 𝓤 H A mem″ run .Ghost
+  to-from-search step w = (((κ₁, (κ₂, (κ₃, tt))), (q₁, (q₂, (q₃, tt))), tt, (s, (step, (x₁, (x₂, (x₃, (c, tt)))))), (sv ∷ [], (w ∷ [], (fv x₁ ∷ [], (fv x₂ ∷ [], (fv x₃ ∷ [], (cv ∷ [], tt))))))), tt)
 
-  goes-searched : (step : EsStep) (w : Val) → Is St.the-row step (w ∷ []) → ent 𝓤 (⋆ 𝓤 H A (Tokens ∷ ‵ (fsep F₁ (fsep F₂ F₃)) ∷ [])) (Searched 𝓤 H A mem″ run .pre (to-searched step w))
-  goes-searched step w is =
+  goes-from-search : (step : EsStep) (w : Val) → Is St.the-row step (w ∷ []) → ent 𝓤 (⋆ 𝓤 H A (Tokens ∷ ‵ (fsep F₁ (fsep F₂ F₃)) ∷ [])) (FromSearch 𝓤 H A mem″ run .pre (to-from-search step w))
+  goes-from-search step w is =
       qed W (Tokens ∷ ‵ (fsep F₁ (fsep F₂ F₃)) ∷ []) ∵ move ! (1 ∷ []) $ fsplit ! $ move ! (1 ∷ []) $ fsplit ! $
       -- [F₂; F₃; F₁; the tokens]
       nothing ! $ owned ! Ci.the-row (Is Ci.the-row) (LL.makes Ci.the-type Ci′.the-plain 𝓤 H A) c _ c-is $ fjoin ! $ move ! (2 ∷ 0 ∷ []) $ fjoin ! $ move ! (1 ∷ 0 ∷ []) $ fjoin ! $ move ! (1 ∷ 0 ∷ []) $ fjoin ! $
       owned ! St.the-row (Is St.the-row) (EL.makes St.the-type St′.the-plain 𝓤 H A) step _ is $ fjoin ! $ owned ! Io.the-row (Is Io.the-row) (LL.makes Io.the-type Io′.the-plain 𝓤 H A) s _ s-is $ fjoin ! $
       move ! (1 ∷ 0 ∷ []) $ join ! $ frame ! $ done !
 
-  abbrev to-rewrite : Done → Val → Rewrite 𝓤 H A mem″ run .Ghost
+  abbrev to-rewrite : AnswerAndRow → Val → Rewrite 𝓤 H A mem″ run .Ghost
   to-rewrite d w = (((κ, tt), (q, tt), tt, (x γ, (d, tt)), (ev ∷ [], (w ∷ [], tt))), tt)
 
-  goes-rewrite : (d : Done) (w : Val) → Is Do.the-row d (w ∷ []) → (d .rewrites ≡ true → d .ksx < length ys) → ent 𝓤 (sep 𝓤 (A .lft κ q) (sem 𝓤 H A (MutSlice (named 0) κ R .own (x γ) (ev ∷ [])))) (Rewrite 𝓤 H A mem″ run .pre (to-rewrite d w))
+  goes-rewrite : (d : AnswerAndRow) (w : Val) → Is Do.the-row d (w ∷ []) → (d .rewrites ≡ true → d .ksx < length ys) → ent 𝓤 (sep 𝓤 (A .lft κ q) (sem 𝓤 H A (MutSlice (named 0) κ R .own (x γ) (ev ∷ [])))) (Rewrite 𝓤 H A mem″ run .pre (to-rewrite d w))
   goes-rewrite d w is within =
       qed W (‵ (flft κ q) ∷ ‵ (MutSlice (named 0) κ R .own (x γ) (ev ∷ [])) ∷ []) ∵ says ! within $ nothing ! $ move ! (1 ∷ 0 ∷ []) $ join ! $ frame ! $
       nothing ! $ owned ! Do.the-row (Is Do.the-row) (LL.makes Do.the-type Do′.the-plain 𝓤 H A) d _ is $ fjoin ! $ move ! (1 ∷ 0 ∷ []) $ fjoin ! $ done !
 
-  module _ (C : Calls 𝓤 H) (Λ : Loops 𝓤 H) (fm : FmC 𝓤 H (W .laws) C) (known-search : Triple 𝓤 (C #search) (Search 𝓤 H A mem″ run)) (known-searched : Triple 𝓤 (C #searched) (Searched 𝓤 H A mem″ run)) (known-rewrite : Triple 𝓤 (C #rewrite) (Rewrite 𝓤 H A mem″ run)) where
+  module _ (C : Calls 𝓤 H) (Λ : Loops 𝓤 H) (fm : FmC 𝓤 H (W .laws) C) (known-search : Triple 𝓤 (C #search) (Search 𝓤 H A mem″ run)) (known-from-search : Triple 𝓤 (C #from-search) (FromSearch 𝓤 H A mem″ run)) (known-rewrite : Triple 𝓤 (C #rewrite) (Rewrite 𝓤 H A mem″ run)) where
     module _ (l₀ l₁ l₂ l₃ l₄ l₅ l₆ l₇ l₈ l₉ l₁₀ l₁₁ l₁₂ : ℕ) where
       abbrev En : Env 𝓤 H
       En = (An′.mir, l₀) ∷ (Io′.mir, l₁) ∷ (sliceTy (lent (named 0)), l₂) ∷ (floats 1, l₃) ∷ (floats 2, l₄) ∷ (floats 3, l₅) ∷ (Ci′.mir, l₆) ∷ (St′.mir, l₇) ∷ (Do′.mir, l₈) ∷ (seen, l₉) ∷ (sliceTy seen, l₁₀) ∷ (lent erased, l₁₁) ∷ (sliceTy (lent erased), l₁₂) ∷ []
@@ -250,12 +250,12 @@ module _ {M : Type 1} (𝓤 : URA M) (H : Heap 𝓤) (A : Atoms 𝓤) (W : Given
       abbrev shown-at : Fml
       shown-at = fat fullShare seen l₉ 0 (vptr b o)
 
-      rewrites : (step : EsStep) (w₁ : Val) (d : Done) (w₂ : Val) → Is Do.the-row d (w₂ ∷ []) → d ≡ all → Sq W (Locals shown shown-at (fat fullShare Do′.mir l₈ 0 w₂) (fat fullShare St′.mir l₇ 0 w₁)) (runs C Λ En body.t-5 (atRet En Post))
+      rewrites : (step : EsStep) (w₁ : Val) (d : AnswerAndRow) (w₂ : Val) → Is Do.the-row d (w₂ ∷ []) → d ≡ all → Sq W (Locals shown shown-at (fat fullShare Do′.mir l₈ 0 w₂) (fat fullShare St′.mir l₇ 0 w₁)) (runs C Λ En body.t-5 (atRet En Post))
       rewrites step w₁ d w₂ is₂ e₂ =
           assigns ! (addr ! (from ! (fld ! refl (hop ! (look-in ! 20 (sub ! 0 refl (whole !))) (stop !))))) (from ! (stop !)) (init ! 2 refl (tt, tt)) $
           assigns ! (agg ! (and-then ! (load ! (from ! (stop !)) (look ! 2 refl)) (and-then ! (load ! (from ! (fld ! refl (stop !))) (look-in ! 20 (sub ! 1 refl (whole !)))) (no-more !)))) (from ! (stop !)) (init ! 0 refl (tt, (tt, (record { fits = room .0 }, tt)))) $
           move ! (26 ∷ 27 ∷ []) $ fjoin ! $ pureI ! (at-slice R (x γ) (ev ∷ [])) (tt, (tt, tt)) (refl, room) $ fjoin ! $ move ! (27 ∷ 0 ∷ []) $
-          use2 W (raw (Rewrite 𝓤 H A mem″ run .pre (to-rewrite d w₂))) (goes-rewrite d w₂ is₂ (subst (λ (z : Done). z .rewrites ≡ true → z .ksx < length ys) (sym e₂) (records-below s ys (x₁ .now) (x₂ .now) (x₃ .now) c))) $
+          use2 W (raw (Rewrite 𝓤 H A mem″ run .pre (to-rewrite d w₂))) (goes-rewrite d w₂ is₂ (subst (λ (z : AnswerAndRow). z .rewrites ≡ true → z .ksx < length ys) (sym e₂) (records-below s ys (x₁ .now) (x₂ .now) (x₃ .now) c))) $
           calls-at ! fm (Rewrite 𝓤 H A mem″ run) known-rewrite (to-rewrite d w₂) (and-then ! (load ! (from ! (stop !)) (look ! 1 refl)) (and-then ! (load ! (from ! (stop !)) (look ! 9 refl)) (no-more !))) (λ w.
           use1 W (later (some (λ (r : MufAnswer). ((‵ (flft κ q) ⊛ ‵ ftrue) ⊛ ‵ (An.the-row .own r (w ∷ []))) ⊛ raw (ensured 𝓤 H A rewrite′.ended (rewrite′.clauses 𝓤 H A mem″ run) (κ, tt) (x γ, (d, tt)) tt r)))) (id⊢ 𝓤 _) $ await ! tt $ pick ! (λ r.
           split ! $ move ! (1 ∷ []) $ use1 W (some (λ (zs : List EsParams × (Unit {0} × Unit {0})). ‵ (lasts rewrite′.ended (κ, tt) (x γ, (d, tt)) zs) ⊛ raw (fact 𝓤 ((r ≡ d .answer) × (zs .0 ≡ recordsBy (d .rewrites) ys (d .ksx) (d .lower)))))) (id⊢ 𝓤 _) $ pick ! (λ zs.
@@ -266,7 +266,7 @@ module _ {M : Type 1} (𝓤 : URA M) (H : Heap 𝓤) (A : Atoms 𝓤) (W : Given
           returns ! (look ! 28 refl) $ forget ! 4 refl $ forget ! 6 refl $ forget ! 8 refl $ forget ! 10 refl $ forget ! 12 refl $ forget ! 14 refl $ forget ! 16 refl $ forget ! 18 refl $ forget ! 20 refl $ forget ! 22 refl $ forget ! 24 refl $ forget ! 26 refl $ forget ! 28 refl $
           move ! (28 ∷ 29 ∷ []) $ free1 ! $ move ! (26 ∷ 27 ∷ []) $ free1 ! $ move ! (24 ∷ 25 ∷ []) $ free1 ! $ move ! (22 ∷ 23 ∷ []) $ free1 ! $ move ! (20 ∷ 21 ∷ []) $ free1 ! $ move ! (18 ∷ 19 ∷ []) $ free1 ! $ move ! (16 ∷ 17 ∷ []) $ free1 ! $
           move ! (14 ∷ 15 ∷ []) $ free1 ! $ move ! (12 ∷ 13 ∷ []) $ free1 ! $ move ! (10 ∷ 11 ∷ []) $ free1 ! $ move ! (8 ∷ 9 ∷ []) $ free1 ! $ move ! (6 ∷ 7 ∷ []) $ free1 ! $ move ! (4 ∷ 5 ∷ []) $ free1 ! $ free0 ! $
-          keep ! (1 ∷ 4 ∷ 2 ∷ 5 ∷ 6 ∷ 7 ∷ 0 ∷ []) $ by ! (exits r w (zs .0) l (subst (λ (z : Done). (r ≡ z .answer) × (zs .0 ≡ recordsBy (z .rewrites) ys (z .ksx) (z .lower))) e₂ e))))))))
+          keep ! (1 ∷ 4 ∷ 2 ∷ 5 ∷ 6 ∷ 7 ∷ 0 ∷ []) $ by ! (exits r w (zs .0) l (subst (λ (z : AnswerAndRow). (r ≡ z .answer) × (zs .0 ≡ recordsBy (z .rewrites) ys (z .ksx) (z .lower))) e₂ e))))))))
 
       works : (step : EsStep) (w₁ : Val) → Is St.the-row step (w₁ ∷ []) → step ≡ esFrom (recordAt ys) c (takenRows (length ys) (s .km)) 0 startOf
           → Sq W (Locals shown shown-at (froom Do′.mir l₈ 0) (fat fullShare St′.mir l₇ 0 w₁)) (runs C Λ En body.t-4 (atRet En Post))
@@ -276,12 +276,12 @@ module _ {M : Type 1} (𝓤 : URA M) (H : Heap 𝓤) (A : Atoms 𝓤) (W : Given
           move ! (2 ∷ []) $ use1 W (‵ F₂ ⊛ ‵ F₂) (shr-slice-copy 𝓤 H A W (named 2) κ₂ f32 .twice x₂ (fv x₂ ∷ [])) $ split ! $
           move ! (4 ∷ []) $ use1 W (‵ F₃ ⊛ ‵ F₃) (shr-slice-copy 𝓤 H A W (named 3) κ₃ f32 .twice x₃ (fv x₃ ∷ [])) $ split ! $
           move ! (2 ∷ 0 ∷ []) $ fjoin ! $ move ! (3 ∷ 0 ∷ []) $ fjoin ! $ move ! (4 ∷ 0 ∷ []) $
-          use2 W (raw (Searched 𝓤 H A mem″ run .pre (to-searched step w₁))) (goes-searched step w₁ is₁) $
-          -- [what `searched` asks; F₃; F₂; F₁; the locals; obs; the borrow; the token]
-          calls-at ! fm (Searched 𝓤 H A mem″ run) known-searched (to-searched step w₁) (and-then ! (load ! (from ! (stop !)) (look ! 26 refl)) (and-then ! (load ! (from ! (stop !)) (look ! 14 refl)) (and-then ! (load ! (from ! (stop !)) (look ! 22 refl))
+          use2 W (raw (FromSearch 𝓤 H A mem″ run .pre (to-from-search step w₁))) (goes-from-search step w₁ is₁) $
+          -- [what `muf_from_search` asks; F₃; F₂; F₁; the locals; obs; the borrow; the token]
+          calls-at ! fm (FromSearch 𝓤 H A mem″ run) known-from-search (to-from-search step w₁) (and-then ! (load ! (from ! (stop !)) (look ! 26 refl)) (and-then ! (load ! (from ! (stop !)) (look ! 14 refl)) (and-then ! (load ! (from ! (stop !)) (look ! 22 refl))
           (and-then ! (load ! (from ! (stop !)) (look ! 20 refl)) (and-then ! (load ! (from ! (stop !)) (look ! 18 refl)) (and-then ! (load ! (from ! (stop !)) (look ! 16 refl)) (no-more !))))))) (λ w₂.
-          use1 W (later (some (λ (r : Done). (Tokens ⊛ ‵ (Do.the-row .own r (w₂ ∷ []))) ⊛ raw (ensured 𝓤 H A searched.ended (searched.clauses 𝓤 H A mem″ run) (κ₁, (κ₂, (κ₃, tt))) (s, (step, (x₁, (x₂, (x₃, (c, tt)))))) tt r)))) (id⊢ 𝓤 _) $ await ! tt $ pick ! (λ d.
-          split ! $ move ! (1 ∷ []) $ use1 W (raw (fact 𝓤 (Worked s step (x₁ .now) (x₂ .now) (x₃ .now) c d))) (searched-of 𝓤 H A mem″ run κ₁ κ₂ κ₃ s step x₁ x₂ x₃ c d) $ heard ! (Worked s step (x₁ .now) (x₂ .now) (x₃ .now) c d) (λ e₂.
+          use1 W (later (some (λ (r : AnswerAndRow). (Tokens ⊛ ‵ (Do.the-row .own r (w₂ ∷ []))) ⊛ raw (ensured 𝓤 H A from-search.ended (from-search.clauses 𝓤 H A mem″ run) (κ₁, (κ₂, (κ₃, tt))) (s, (step, (x₁, (x₂, (x₃, (c, tt)))))) tt r)))) (id⊢ 𝓤 _) $ await ! tt $ pick ! (λ d.
+          split ! $ move ! (1 ∷ []) $ use1 W (raw (fact 𝓤 (Worked s step (x₁ .now) (x₂ .now) (x₃ .now) c d))) (from-search-of 𝓤 H A mem″ run κ₁ κ₂ κ₃ s step x₁ x₂ x₃ c d) $ heard ! (Worked s step (x₁ .now) (x₂ .now) (x₃ .now) c d) (λ e₂.
           split ! $ move ! (1 ∷ []) $ peeks ! Do.the-row (Is Do.the-row) (shows 𝓤 H A Do.the-row) d (w₂ ∷ []) (λ is₂. drop ! $
           land ! (from ! (stop !)) (init ! 12 refl (LL.lawful Do.the-type Do′.the-laws 𝓤 H A W .typed d _ is₂ .0)) $
           move ! (4 ∷ 5 ∷ 6 ∷ 7 ∷ 8 ∷ 9 ∷ 10 ∷ 11 ∷ 12 ∷ 13 ∷ 14 ∷ 15 ∷ 16 ∷ 17 ∷ 18 ∷ 19 ∷ 20 ∷ 21 ∷ 22 ∷ 23 ∷ 24 ∷ 25 ∷ 26 ∷ 27 ∷ 28 ∷ 29 ∷ 30 ∷ 31 ∷ 32 ∷ 0 ∷ 3 ∷ 2 ∷ 1 ∷ []) $
@@ -320,20 +320,20 @@ module _ {M : Type 1} (𝓤 : URA M) (H : Heap 𝓤) (A : Atoms 𝓤) (W : Given
         searches l₀ l₁ l₂ l₃ l₄ l₅ l₆ l₇ l₈ l₉ l₁₀ l₁₁ l₁₂)))))))))))))
 
 module _ {M : Type 1} (𝓤 : URA M) (H : Heap 𝓤) (A : Atoms 𝓤) (W : Given 𝓤 H A) (mem″ : Memory → SProp 𝓤) (run : Routine → Fun 𝓤) where
-  records-walks : (C : Calls 𝓤 H) (Λ : Loops 𝓤 H) → FmC 𝓤 H (W .laws) C → Triple 𝓤 (C #search) (Search 𝓤 H A mem″ run) → Triple 𝓤 (C #searched) (Searched 𝓤 H A mem″ run) → Triple 𝓤 (C #rewrite) (Rewrite 𝓤 H A mem″ run)
+  records-walks : (C : Calls 𝓤 H) (Λ : Loops 𝓤 H) → FmC 𝓤 H (W .laws) C → Triple 𝓤 (C #search) (Search 𝓤 H A mem″ run) → Triple 𝓤 (C #from-search) (FromSearch 𝓤 H A mem″ run) → Triple 𝓤 (C #rewrite) (Rewrite 𝓤 H A mem″ run)
       → Walks 𝓤 H A records.ended stayed (WpFn 𝓤 H C Λ code.function) (records.clauses 𝓤 H A mem″ run)
-  records-walks C Λ fm known-search known-searched known-rewrite = walked 𝓤 H A records.ended stayed (records.clauses 𝓤 H A mem″ run) (WpFn 𝓤 H C Λ code.function)
+  records-walks C Λ fm known-search known-from-search known-rewrite = walked 𝓤 H A records.ended stayed (records.clauses 𝓤 H A mem″ run) (WpFn 𝓤 H C Λ code.function)
       (λ κs. (LL.vals Io.the-type Io′.the-laws, (slice-vals, (slice-vals, (slice-vals, (slice-vals, (LL.vals Ci.the-type Ci′.the-laws, tt)))))))
       (λ κs. (LL.tells Io.the-type Io′.the-laws, (mut-slice-tells (named 0) (κs .0) R, (shr-slice-tells (named 1) (κs .1 .0) f32, (shr-slice-tells (named 2) (κs .1 .1 .0) f32, (shr-slice-tells (named 3) (κs .1 .1 .1 .0) f32, (LL.tells Ci.the-type Ci′.the-laws, tt)))))))
       (λ κs qs bounds a g are. via 𝓤 _ (fst∗ 𝓤 _ (emp 𝓤))
       (walk 𝓤 H A W mem″ run (κs .0) (κs .1 .0) (κs .1 .1 .0) (κs .1 .1 .1 .0) (qs .0) (qs .1 .0) (qs .1 .1 .0) (qs .1 .1 .1 .0)
       (a .0) (a .1 .0 .ptr .0) (a .1 .0 .ptr .1) (a .1 .0 .name) (a .1 .0 .now) (a .1 .1 .0) (a .1 .1 .1 .0) (a .1 .1 .1 .1 .0) (a .1 .1 .1 .1 .1 .0)
-      (are .0) (are .1 .0 .0 .1) (are .1 .1 .0 .0 .1) (are .1 .1 .1 .0 .0 .1) (are .1 .1 .1 .1 .0 .0 .1) (are .1 .1 .1 .1 .1 .0) C Λ fm known-search known-searched known-rewrite))
+      (are .0) (are .1 .0 .0 .1) (are .1 .1 .0 .0 .1) (are .1 .1 .1 .0 .0 .1) (are .1 .1 .1 .1 .0 .0 .1) (are .1 .1 .1 .1 .1 .0) C Λ fm known-search known-from-search known-rewrite))
 
 records-meets : {M : Type 1} (𝓤 : URA M) (H : Heap 𝓤) (A : Atoms 𝓤) → Given 𝓤 H A → (mem″ : Memory → SProp 𝓤) (run : Routine → Fun 𝓤) (𝓣 : Tables 𝓤 H)
-    → Triple 𝓤 (𝓣 .C #search) (Search 𝓤 H A mem″ run) → Triple 𝓤 (𝓣 .C #searched) (Searched 𝓤 H A mem″ run) → Triple 𝓤 (𝓣 .C #rewrite) (Rewrite 𝓤 H A mem″ run)
+    → Triple 𝓤 (𝓣 .C #search) (Search 𝓤 H A mem″ run) → Triple 𝓤 (𝓣 .C #from-search) (FromSearch 𝓤 H A mem″ run) → Triple 𝓤 (𝓣 .C #rewrite) (Rewrite 𝓤 H A mem″ run)
     → Meets 𝓤 H A records.signature (WpFn 𝓤 H (𝓣 .C) (𝓣 .Λ) code.function) (records.spec 𝓤 H A mem″ run)
-records-meets 𝓤 H A W mem″ run 𝓣 known-search known-searched known-rewrite =
+records-meets 𝓤 H A W mem″ run 𝓣 known-search known-from-search known-rewrite =
     walk-meets 𝓤 H A records.ended stayed W (
       goes-none 𝓤 H A W 4 (λ _. Io.the-row) yes (λ κs x f. refl),
       (
@@ -347,7 +347,7 @@ records-meets 𝓤 H A W mem″ run 𝓣 known-search known-searched known-rewri
         ),
       ),
     )
-    (records.clauses 𝓤 H A mem″ run) (WpFn 𝓤 H (𝓣 .C) (𝓣 .Λ) code.function) (WpFn-mono 𝓤 H (W .laws) 𝓣 code.function) (records-walks 𝓤 H A W mem″ run (𝓣 .C) (𝓣 .Λ) (fmOf 𝓤 H (W .laws) 𝓣) known-search known-searched known-rewrite)
+    (records.clauses 𝓤 H A mem″ run) (WpFn 𝓤 H (𝓣 .C) (𝓣 .Λ) code.function) (WpFn-mono 𝓤 H (W .laws) 𝓣 code.function) (records-walks 𝓤 H A W mem″ run (𝓣 .C) (𝓣 .Λ) (fmOf 𝓤 H (W .laws) 𝓣) known-search known-from-search known-rewrite)
 
 pub curmuf-records-spec : {M : Type 1} → stated.statement M
 unfolding code.routine tablesOf
@@ -356,5 +356,5 @@ curmuf-records-spec 𝓤 H 𝓜 𝓖 𝓡 =
     (tables 𝓤 H 𝓜 𝓡 code.env .C) (tables 𝓤 H 𝓜 𝓡 code.env .Λ) #curmuf-records code.function (code.unfolded 𝓤 H 𝓜 𝓡)
     (records-meets 𝓤 H (𝓖 .A) (givenOf 𝓤 H 𝓜 𝓖) (𝓜 .mem) (𝓡 .run) (tablesOf 𝓤 H 𝓜 (tables 𝓤 H 𝓜 𝓡 code.env))
     (cited 𝓤 H (Search 𝓤 H (𝓖 .A) (𝓜 .mem) (𝓡 .run)) 𝓜 𝓡 code.env #search search-def.routine code.calls-muf-records·search (search-thm.met 𝓤 H 𝓜 𝓖 𝓡))
-    (cited 𝓤 H (Searched 𝓤 H (𝓖 .A) (𝓜 .mem) (𝓡 .run)) 𝓜 𝓡 code.env #searched searched-def.routine code.calls-muf·searched (searched-thm.met 𝓤 H 𝓜 𝓖 𝓡))
+    (cited 𝓤 H (FromSearch 𝓤 H (𝓖 .A) (𝓜 .mem) (𝓡 .run)) 𝓜 𝓡 code.env #from-search from-search-def.routine code.calls-muf·muf-from-search (from-search-thm.met 𝓤 H 𝓜 𝓖 𝓡))
     (cited 𝓤 H (Rewrite 𝓤 H (𝓖 .A) (𝓜 .mem) (𝓡 .run)) 𝓜 𝓡 code.env #rewrite rewrite-def.routine code.calls-muf-records·rewrite (rewrite-thm.met 𝓤 H 𝓜 𝓖 𝓡)))

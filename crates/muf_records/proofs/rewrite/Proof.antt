@@ -50,9 +50,9 @@ use denote.Triple.Walked.{says, needs, Stays, stay-slice, stay-none, walkOf, goe
 use Rattle.layers.specs.declared.EsParams.{EsParams}
 use Rattle.layers.proofs.EsParams as Es
 use Rattle.layers.proofs.EsParams.Laws as Es′
-use Rattle.muf.specs.declared.Done.{Done}
-use Rattle.muf.proofs.Done as Do
-use Rattle.muf.proofs.Done.Laws as Do′
+use Rattle.muf.specs.declared.AnswerAndRow.{AnswerAndRow}
+use Rattle.muf.proofs.AnswerAndRow as Do
+use Rattle.muf.proofs.AnswerAndRow.Laws as Do′
 use Rattle.muf.proofs.MufAnswer as An
 use Rattle.muf.proofs.MufAnswer.Laws as An′
 use Rattle.muf_records.specs.Records.{noEs, lowered, recordsBy}
@@ -108,7 +108,7 @@ module _ {M : Type 1} (𝓤 : URA M) (H : Heap 𝓤) (A : Atoms 𝓤) (mem″ : 
   lowered-of : (e : EsParams) (z : Float) (r : EsParams) → ent 𝓤 (ensured 𝓤 H A with-lower.ended (with-lower.clauses 𝓤 H A mem″ run) tt (e, (z, tt)) tt r) (fact 𝓤 (r ≡ lowered e z))
   lowered-of e z r = exE 𝓤 _ (λ ws. snd∗ 𝓤 (sem 𝓤 H A (lasts with-lower.ended tt (e, (z, tt)) ws)) (fact 𝓤 (r ≡ lowered e z)))
 
-module _ {M : Type 1} (𝓤 : URA M) (H : Heap 𝓤) (A : Atoms 𝓤) (W : Given 𝓤 H A) (mem″ : Memory → SProp 𝓤) (run : Routine → Fun 𝓤) (κ : Lft) (q : Share) (b o : ℕ) (γ : GName) (ys : List EsParams) (d : Done)
+module _ {M : Type 1} (𝓤 : URA M) (H : Heap 𝓤) (A : Atoms 𝓤) (W : Given 𝓤 H A) (mem″ : Memory → SProp 𝓤) (run : Routine → Fun 𝓤) (κ : Lft) (q : Share) (b o : ℕ) (γ : GName) (ys : List EsParams) (d : AnswerAndRow)
     (room : Room R (length ys)) (d-is : Is Do.the-row d (LL.vals Do.the-type Do′.the-laws d)) where
   abbrev x : List EsParams → RefT (List EsParams)
   x l = record { ptr = (b, o); name = γ; now = l }
@@ -123,7 +123,7 @@ module _ {M : Type 1} (𝓤 : URA M) (H : Heap 𝓤) (A : Atoms 𝓤) (W : Given
   av = LL.val An.the-type An′.the-laws (d .answer)
 
   abbrev Arg : Type 0
-  Arg = RefT (List EsParams) × (Done × Unit {0})
+  Arg = RefT (List EsParams) × (AnswerAndRow × Unit {0})
 
   abbrev a : Arg
   a = (x ys, (d, tt))

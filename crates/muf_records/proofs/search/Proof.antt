@@ -51,16 +51,16 @@ use borrow.Author.Tests.{lt-ltb, le-ltb}
 use Rattle.layers.specs.declared.EsParams.{EsParams}
 use Rattle.layers.proofs.EsParams as Es
 use Rattle.layers.proofs.EsParams.Laws as Es′
-use Rattle.layer_mufs.specs.declared.Circuit.{Circuit}
-use Rattle.layer_mufs.proofs.Circuit as Ci
-use Rattle.layer_mufs.proofs.Circuit.Laws as Ci′
-use Rattle.muf.specs.declared.EsRow.{EsRow}
-use Rattle.muf.specs.declared.EsStep.{EsStep}
-use Rattle.muf.specs.Sporadic.{nextBy, esFrom, startOf}
+use Rattle.layer_mufs.specs.declared.PathNumbers.{PathNumbers}
+use Rattle.layer_mufs.proofs.PathNumbers as Ci
+use Rattle.layer_mufs.proofs.PathNumbers.Laws as Ci′
+use Rattle.sporadic.specs.declared.EsRow.{EsRow}
+use Rattle.sporadic.specs.declared.EsStep.{EsStep}
+use Rattle.sporadic.specs.Sporadic.{nextBy, esFrom, startOf}
 use Rattle.muf.specs.Curmuf.{takenRows}
 use Rattle.muf.proofs.Rows.{taken-there}
-use Rattle.muf.proofs.EsStep as St
-use Rattle.muf.proofs.EsStep.Laws as St′
+use Rattle.sporadic.proofs.EsStep as St
+use Rattle.sporadic.proofs.EsStep.Laws as St′
 use Rattle.muf_records.specs.Records.{noEs, recordAt, turnOf}
 use Rattle.muf.proofs.rows_taken as rows-taken
 use Rattle.muf.proofs.rows_taken.Symbol as rows-taken-def
@@ -105,13 +105,13 @@ function = record {
 
 -- ---- what the rows that are left do to the search so far
 -- none is left
-none-left : (row : ℕ → EsRow) (c : Circuit) (k : ℕ) (step : EsStep) → nextBy step (λ a. esFrom row c 0 k a) ≡ step
+none-left : (row : ℕ → EsRow) (c : PathNumbers) (k : ℕ) (step : EsStep) → nextBy step (λ a. esFrom row c 0 k a) ≡ step
 unfolding esFrom
 none-left row c k (EsStep.Next a) = refl
 none-left row c k (EsStep.Refused r) = refl
 
 -- row k is taken first
-one-more : (es : List EsParams) (c : Circuit) (t k : ℕ) (step : EsStep) → nextBy step (λ a. esFrom (recordAt es) c (suc t) k a) ≡ nextBy (turnOf step k (getD es k noEs) c) (λ a. esFrom (recordAt es) c t (k + 1) a)
+one-more : (es : List EsParams) (c : PathNumbers) (t k : ℕ) (step : EsStep) → nextBy step (λ a. esFrom (recordAt es) c (suc t) k a) ≡ nextBy (turnOf step k (getD es k noEs) c) (λ a. esFrom (recordAt es) c t (k + 1) a)
 unfolding esFrom turnOf
 one-more es c t k (EsStep.Next a) = refl
 one-more es c t k (EsStep.Refused r) = refl
@@ -134,10 +134,10 @@ module _ {M : Type 1} (𝓤 : URA M) (H : Heap 𝓤) (A : Atoms 𝓤) (mem″ : 
   first-of : (r : EsStep) → ent 𝓤 (ensured 𝓤 H A first.ended (first.clauses 𝓤 H A mem″ run) tt tt tt r) (fact 𝓤 (r ≡ EsStep.Next startOf))
   first-of r = exE 𝓤 _ (λ ws. snd∗ 𝓤 (sem 𝓤 H A (lasts first.ended tt tt ws)) (fact 𝓤 (r ≡ EsStep.Next startOf)))
 
-  turn-of : (step : EsStep) (k : ℕ) (e : EsParams) (c : Circuit) (r : EsStep) → ent 𝓤 (ensured 𝓤 H A turn.ended (turn.clauses 𝓤 H A mem″ run) tt (step, (k, (e, (c, tt)))) tt r) (fact 𝓤 (r ≡ turnOf step k e c))
+  turn-of : (step : EsStep) (k : ℕ) (e : EsParams) (c : PathNumbers) (r : EsStep) → ent 𝓤 (ensured 𝓤 H A turn.ended (turn.clauses 𝓤 H A mem″ run) tt (step, (k, (e, (c, tt)))) tt r) (fact 𝓤 (r ≡ turnOf step k e c))
   turn-of step k e c r = exE 𝓤 _ (λ ws. snd∗ 𝓤 (sem 𝓤 H A (lasts turn.ended tt (step, (k, (e, (c, tt)))) ws)) (fact 𝓤 (r ≡ turnOf step k e c)))
 
-module _ {M : Type 1} (𝓤 : URA M) (H : Heap 𝓤) (A : Atoms 𝓤) (W : Given 𝓤 H A) (mem″ : Memory → SProp 𝓤) (run : Routine → Fun 𝓤) (κ : Lft) (q : Share) (b o : ℕ) (γ : GName) (ys : List EsParams) (km : ℕ) (c : Circuit)
+module _ {M : Type 1} (𝓤 : URA M) (H : Heap 𝓤) (A : Atoms 𝓤) (W : Given 𝓤 H A) (mem″ : Memory → SProp 𝓤) (run : Routine → Fun 𝓤) (κ : Lft) (q : Share) (b o : ℕ) (γ : GName) (ys : List EsParams) (km : ℕ) (c : PathNumbers)
     (room : Room R (length ys)) (km-fits : km < 2 ^ 64) (c-is : Is Ci.the-row c (LL.vals Ci.the-type Ci′.the-laws c)) where
   abbrev x : RefT (List EsParams)
   x = record { ptr = (b, o); name = γ; now = ys }
@@ -152,7 +152,7 @@ module _ {M : Type 1} (𝓤 : URA M) (H : Heap 𝓤) (A : Atoms 𝓤) (W : Given
   cv = LL.val Ci.the-type Ci′.the-laws c
 
   abbrev Arg : Type 0
-  Arg = RefT (List EsParams) × (ℕ × (Circuit × Unit {0}))
+  Arg = RefT (List EsParams) × (ℕ × (PathNumbers × Unit {0}))
 
   abbrev a : Arg
   a = (x, (km, (c, tt)))

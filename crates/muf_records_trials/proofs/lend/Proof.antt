@@ -55,9 +55,9 @@ use Rattle.layers.proofs.IonoState.Laws as Io′
 use Rattle.layers.specs.declared.EsParams.{EsParams}
 use Rattle.layers.proofs.EsParams as Es
 use Rattle.layers.proofs.EsParams.Laws as Es′
-use Rattle.layer_mufs.specs.declared.Circuit.{Circuit}
-use Rattle.layer_mufs.proofs.Circuit as Ci
-use Rattle.layer_mufs.proofs.Circuit.Laws as Ci′
+use Rattle.layer_mufs.specs.declared.PathNumbers.{PathNumbers}
+use Rattle.layer_mufs.proofs.PathNumbers as Ci
+use Rattle.layer_mufs.proofs.PathNumbers.Laws as Ci′
 use Rattle.muf.specs.declared.MufAnswer.{MufAnswer}
 use Rattle.muf.proofs.MufAnswer as An
 use Rattle.muf.proofs.MufAnswer.Laws as An′
@@ -121,7 +121,7 @@ module _ {M : Type 1} (𝓤 : URA M) (H : Heap 𝓤) (A : Atoms 𝓤) (mem″ : 
   Print = tripleOf 𝓤 H A print.signature (print.spec 𝓤 H A mem″ run)
 
 module _ {M : Type 1} (𝓤 : URA M) (H : Heap 𝓤) (A : Atoms 𝓤) (W : Given 𝓤 H A) (mem″ : Memory → SProp 𝓤) (run : Routine → Fun 𝓤) (κ₁ κ₂ κ₃ : Lft) (q₁ q₂ q₃ : Share)
-    (s : IonoState) (ys : List EsParams) (x₁ x₂ x₃ : RefT (List Float)) (c : Circuit)
+    (s : IonoState) (ys : List EsParams) (x₁ x₂ x₃ : RefT (List Float)) (c : PathNumbers)
     (s-is : Is Io.the-row s (LL.vals Io.the-type Io′.the-laws s)) (ys-are : Is Five ys (fiveVals ys)) (room₁ : Room f32 (length (x₁ .now))) (room₂ : Room f32 (length (x₂ .now))) (room₃ : Room f32 (length (x₃ .now))) (c-is : Is Ci.the-row c (LL.vals Ci.the-type Ci′.the-laws c)) where
   -- the machine values
   abbrev sv : Val
@@ -137,7 +137,7 @@ module _ {M : Type 1} (𝓤 : URA M) (H : Heap 𝓤) (A : Atoms 𝓤) (W : Given
   fv z = sliceVal (z .ptr) (length (z .now))
 
   abbrev Arg : Type 0
-  Arg = IonoState × (List EsParams × (RefT (List Float) × (RefT (List Float) × (RefT (List Float) × (Circuit × Unit {0})))))
+  Arg = IonoState × (List EsParams × (RefT (List Float) × (RefT (List Float) × (RefT (List Float) × (PathNumbers × Unit {0})))))
 
   abbrev a : Arg
   a = (s, (ys, (x₁, (x₂, (x₃, (c, tt))))))

@@ -3,18 +3,12 @@ use Rattle.port_circuit.specs.Exports.{portRead}
 use mathlib.Core.Path.{refl}
 use borrow.Author.Tests.{le-leb, lt-leb}
 use borrow.Author.Needs.{needs}
-use Rattle.circuit.proofs.Followed.{small}
+use Rattle.circuit.proofs.Followed.{fit64, small}
 use Rattle.port_circuit.proofs.port_read.Statement.{statement}
 use Rattle.port_circuit.proofs.port_read.Tie as tie
 
-read-requires : tie.Need-read-requires
-read-requires c κs = search needs
-
 answer-into-requires : tie.Need-answer-into-requires
-answer-into-requires c κs = (c .before .before .if1 .taken, rw (c .before .read .ensures) (small _ .0), rw (c .before .read .ensures) (small _ .1))
-
-same-length : tie.Need-same-length
-same-length c = search needs
+answer-into-requires c κs = (c .before .before .if1 .taken, rw (c .before .read .ensures) (small _ fit64 _ .0), rw (c .before .read .ensures) (small _ fit64 _ .1))
 
 returns : tie.Need-returns
 unfolding portRead
@@ -26,4 +20,5 @@ returns-2 c = rw (lt-leb _ _ (c .if1 .left)) (refl, refl)
 
 pub port-read-spec : {M : Type 1} → statement M
 port-read-spec =
-    tie.close (tie.spec read-requires answer-into-requires same-length returns returns-2)
+    tie.close
+    (tie.spec (λ c κs. search needs) answer-into-requires (λ c. search needs) returns returns-2)

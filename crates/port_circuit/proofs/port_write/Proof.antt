@@ -7,18 +7,6 @@ use borrow.Author.Needs.{needs}
 use Rattle.port_circuit.proofs.port_write.Statement.{statement}
 use Rattle.port_circuit.proofs.port_write.Tie as tie
 
-circuit-of-requires : tie.Need-circuit-of-requires
-circuit-of-requires c κs = search needs
-
-write-requires : tie.Need-write-requires
-write-requires c κs = search needs
-
-number-requires : tie.Need-number-requires
-number-requires c κs = search needs
-
-same-length : tie.Need-same-length
-same-length c = search needs
-
 returns : tie.Need-returns
 unfolding portWrite
 returns c =
@@ -35,4 +23,5 @@ returns-2 c = rw (lt-leb _ _ (c .if1 .left)) (refl, refl)
 pub port-write-spec : {M : Type 1} → statement M
 port-write-spec =
     tie.close
-    (tie.spec circuit-of-requires write-requires number-requires same-length returns returns-2)
+    (tie.spec (λ c κs. search needs) (λ c κs. search needs) (λ c κs. search needs) (λ c. search needs) returns
+    returns-2)

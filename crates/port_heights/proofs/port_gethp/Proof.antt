@@ -1,3 +1,4 @@
+-- The two lengths are tested first; past them the cursor is at most 49, so that it fits its word.
 use Rattle.port_heights.specs.Exports.{gethpLeft}
 use mathlib.Core.Path.{refl, ap}
 use native.Mathlib.Nat.{le-trans, le-of-eq}
@@ -16,20 +17,8 @@ returns-2 : tie.Need-returns-2
 unfolding gethpLeft
 returns-2 c = rw (le-ltb _ _ (c .before .if1 .left), lt-ltb _ _ (c .if2 .taken)) (refl, refl)
 
-state-of-requires : tie.Need-state-of-requires
-state-of-requires c κs = search needs
-
-number-requires : tie.Need-number-requires
-number-requires c κs = search needs
-
-gethp-requires : tie.Need-gethp-requires
-gethp-requires c κs = search needs
-
 heights-into-requires : tie.Need-heights-into-requires
 heights-into-requires c κs = (c .before .before .before .before .if2 .left, le-trans (le-of-eq (ap (λ (h : Heights). h .cursor) (c .before .gethp .ensures))) (cursor-bound _ _))
-
-same-length : tie.Need-same-length
-same-length c = search needs
 
 returns-3 : tie.Need-returns-3
 unfolding gethpLeft
@@ -38,12 +27,5 @@ returns-3 c = rw (le-ltb _ _ (c .before .before .before .before .before .before 
 pub port-gethp-spec : {M : Type 1} → statement M
 port-gethp-spec =
     tie.close
-    (tie.spec
-    returns
-    returns-2
-    state-of-requires
-    number-requires
-    gethp-requires
-    heights-into-requires
-    same-length
-    returns-3)
+    (tie.spec returns returns-2 (λ c κs. search needs) (λ c κs. search needs) (λ c κs. search needs)
+    heights-into-requires (λ c. search needs) returns-3)

@@ -1,3 +1,4 @@
+-- The two lengths are tested first; past them the cursor of a scan is 0, which fits its word.
 use Rattle.port_heights.specs.Exports.{gethpScanLeft}
 use Prim.Native.Nat.{zero-le}
 use mathlib.Core.Path.{refl, ap}
@@ -17,20 +18,8 @@ returns-2 : tie.Need-returns-2
 unfolding gethpScanLeft
 returns-2 c = rw (le-ltb _ _ (c .before .if1 .left), lt-ltb _ _ (c .if2 .taken)) (refl, refl)
 
-state-of-requires : tie.Need-state-of-requires
-state-of-requires c κs = search needs
-
-number-requires : tie.Need-number-requires
-number-requires c κs = search needs
-
-gethp-scan-requires : tie.Need-gethp-scan-requires
-gethp-scan-requires c κs = search needs
-
 heights-into-requires : tie.Need-heights-into-requires
 heights-into-requires c κs = (c .before .before .before .before .if2 .left, le-trans (le-of-eq (ap (λ (h : Heights). h .cursor) (c .before .gethp-scan .ensures))) (le-trans (le-of-eq (scan-cursor _ _)) zero-le))
-
-same-length : tie.Need-same-length
-same-length c = search needs
 
 returns-3 : tie.Need-returns-3
 unfolding gethpScanLeft
@@ -39,12 +28,5 @@ returns-3 c = rw (le-ltb _ _ (c .before .before .before .before .before .before 
 pub port-gethp-scan-spec : {M : Type 1} → statement M
 port-gethp-scan-spec =
     tie.close
-    (tie.spec
-    returns
-    returns-2
-    state-of-requires
-    number-requires
-    gethp-scan-requires
-    heights-into-requires
-    same-length
-    returns-3)
+    (tie.spec returns returns-2 (λ c κs. search needs) (λ c κs. search needs) (λ c κs. search needs)
+    heights-into-requires (λ c. search needs) returns-3)

@@ -1,3 +1,4 @@
+-- Each path is the clause that its tests choose; each call is what its contract says.
 use Rattle.port_heights.specs.Exports.{readingLeft}
 use mathlib.Core.Path.{refl}
 use borrow.Author.Needs.{needs}
@@ -13,21 +14,6 @@ returns-2 : tie.Need-returns-2
 unfolding readingLeft
 returns-2 c = rw (le-ltb _ _ (c .before .if1 .left), lt-ltb _ _ (c .if2 .taken)) (refl, refl)
 
-state-of-requires : tie.Need-state-of-requires
-state-of-requires c κs = search needs
-
-number-requires : tie.Need-number-requires
-number-requires c κs = search needs
-
-read-by-scan-requires : tie.Need-read-by-scan-requires
-read-by-scan-requires c κs = search needs
-
-reading-into-requires : tie.Need-reading-into-requires
-reading-into-requires c κs = search needs
-
-same-length : tie.Need-same-length
-same-length c = search needs
-
 returns-3 : tie.Need-returns-3
 unfolding readingLeft
 returns-3 c = rw (le-ltb _ _ (c .before .before .before .before .before .before .before .before .before .before .before .before .if1 .left), le-ltb _ _ (c .before .before .before .before .before .before .before .before .before .before .before .if2 .left), ← c .before .before .before .before .before .before .before .before .before .before .state-of .ensures, ← c .before .before .before .before .before .before .before .before .before .number .ensures, ← c .before .before .before .before .read-by-scan .ensures) (refl, c .before .before .reading-into .ensures)
@@ -35,12 +21,5 @@ returns-3 c = rw (le-ltb _ _ (c .before .before .before .before .before .before 
 pub port-reading-spec : {M : Type 1} → statement M
 port-reading-spec =
     tie.close
-    (tie.spec
-    returns
-    returns-2
-    state-of-requires
-    number-requires
-    read-by-scan-requires
-    reading-into-requires
-    same-length
-    returns-3)
+    (tie.spec returns returns-2 (λ c κs. search needs) (λ c κs. search needs) (λ c κs. search needs)
+    (λ c κs. search needs) (λ c. search needs) returns-3)

@@ -1,3 +1,4 @@
+-- Each path is the clause that its tests choose; each call is what its contract says.
 use Rattle.port_heights.specs.Exports.{xlinLeft}
 use mathlib.Core.Path.{refl}
 use borrow.Author.Needs.{needs}
@@ -17,27 +18,6 @@ returns-3 : tie.Need-returns-3
 unfolding xlinLeft
 returns-3 c = rw (le-ltb _ _ (c .before .before .if1 .left), le-ltb _ _ (c .before .if2 .left), lt-ltb _ _ (c .if3 .taken)) (refl, refl)
 
-number-requires : tie.Need-number-requires
-number-requires c κs = search needs
-
-floats-50-requires : tie.Need-floats-50-requires
-floats-50-requires c κs = search needs
-
-floats-50-requires-2 : tie.Need-floats-50-requires-2
-floats-50-requires-2 c κs = search needs
-
-xlin-requires : tie.Need-xlin-requires
-xlin-requires c κs = search needs
-
-slice-aggregate-floats-into : tie.Need-slice-aggregate-floats-into
-slice-aggregate-floats-into c = search needs
-
-floats-into-requires : tie.Need-floats-into-requires
-floats-into-requires c κs = search needs
-
-same-length : tie.Need-same-length
-same-length c = search needs
-
 returns-4 : tie.Need-returns-4
 unfolding xlinLeft
 returns-4 c = rw (le-ltb _ _ (c .before .before .before .before .before .before .before .before .before .before .before .before .before .if1 .left), le-ltb _ _ (c .before .before .before .before .before .before .before .before .before .before .before .before .if2 .left), le-ltb _ _ (c .before .before .before .before .before .before .before .before .before .before .before .if3 .left), ← c .before .before .before .before .before .before .before .before .before .before .number .ensures, ← c .before .before .before .before .before .before .before .before .before .floats-50 .ensures, ← c .before .before .before .before .before .before .before .before .floats-502 .ensures, ← c .before .before .before .before .before .xlin .ensures) (refl, c .before .before .floats-into .ensures)
@@ -45,15 +25,5 @@ returns-4 c = rw (le-ltb _ _ (c .before .before .before .before .before .before 
 pub port-xlin-spec : {M : Type 1} → statement M
 port-xlin-spec =
     tie.close
-    (tie.spec
-    returns
-    returns-2
-    returns-3
-    number-requires
-    floats-50-requires
-    floats-50-requires-2
-    xlin-requires
-    slice-aggregate-floats-into
-    floats-into-requires
-    same-length
-    returns-4)
+    (tie.spec returns returns-2 returns-3 (λ c κs. search needs) (λ c κs. search needs) (λ c κs. search needs)
+    (λ c κs. search needs) (λ c. search needs) (λ c κs. search needs) (λ c. search needs) returns-4)

@@ -18,51 +18,6 @@ returns-3 : tie.Need-returns-3
 unfolding f2disLeft
 returns-3 c = rw (le-ltb _ _ (c .before .before .if1 .left), le-ltb _ _ (c .before .if2 .left), ne-eqb _ _ (c .if3 .taken)) (refl, refl)
 
-floats-576-requires : tie.Need-floats-576-requires
-floats-576-requires c κs = search needs
-
-shared-slice-read-number : tie.Need-shared-slice-read-number
-shared-slice-read-number c = search needs
-
-number-requires : tie.Need-number-requires
-number-requires c κs = search needs
-
-shared-slice-read-number-2 : tie.Need-shared-slice-read-number-2
-shared-slice-read-number-2 c = search needs
-
-number-requires-2 : tie.Need-number-requires-2
-number-requires-2 c κs = search needs
-
-shared-slice-read-number-3 : tie.Need-shared-slice-read-number-3
-shared-slice-read-number-3 c = search needs
-
-number-requires-3 : tie.Need-number-requires-3
-number-requires-3 c κs = search needs
-
-shared-slice-read-number-4 : tie.Need-shared-slice-read-number-4
-shared-slice-read-number-4 c = search needs
-
-number-requires-4 : tie.Need-number-requires-4
-number-requires-4 c κs = search needs
-
-shared-slice-read-number-5 : tie.Need-shared-slice-read-number-5
-shared-slice-read-number-5 c = search needs
-
-number-requires-5 : tie.Need-number-requires-5
-number-requires-5 c κs = search needs
-
-slice-aggregate-f2dis : tie.Need-slice-aggregate-f2dis
-slice-aggregate-f2dis c = search needs
-
-f2dis-requires : tie.Need-f2dis-requires
-f2dis-requires c κs = search needs
-
-deviation-into-requires : tie.Need-deviation-into-requires
-deviation-into-requires c κs = search needs
-
-same-length : tie.Need-same-length
-same-length c = search needs
-
 returns-4 : tie.Need-returns-4
 unfolding f2disLeft
 returns-4 c =
@@ -85,23 +40,7 @@ returns-4 c =
 pub port-f2dis-spec : {M : Type 1} → statement M
 port-f2dis-spec =
     tie.close
-    (tie.spec
-    returns
-    returns-2
-    returns-3
-    floats-576-requires
-    shared-slice-read-number
-    number-requires
-    shared-slice-read-number-2
-    number-requires-2
-    shared-slice-read-number-3
-    number-requires-3
-    shared-slice-read-number-4
-    number-requires-4
-    shared-slice-read-number-5
-    number-requires-5
-    slice-aggregate-f2dis
-    f2dis-requires
-    deviation-into-requires
-    same-length
-    returns-4)
+    (tie.spec returns returns-2 returns-3 (λ c κs. search needs) (λ c. search needs) (λ c κs. search needs)
+    (λ c. search needs) (λ c κs. search needs) (λ c. search needs) (λ c κs. search needs) (λ c. search needs)
+    (λ c κs. search needs) (λ c. search needs) (λ c κs. search needs) (λ c. search needs) (λ c κs. search needs)
+    (λ c κs. search needs) (λ c. search needs) returns-4)

@@ -24,30 +24,6 @@ loop-holds c =
     let a = c .before .before .args in
     (omega arith, refl, refl, λ h. paste-zero (a .w .now) (a .from) (map (toBits binary32) (a .x .now)))
 
-add-j : tie.Need-add-j Inv-loop μ-loop
-add-j c = omega arith
-
-mul-bits : tie.Need-mul-bits Inv-loop μ-loop
-mul-bits c = omega arith
-
-shared-slice-read-bits : tie.Need-shared-slice-read-bits Inv-loop μ-loop
-shared-slice-read-bits c = omega arith
-
-bits-requires : tie.Need-bits-requires Inv-loop μ-loop
-bits-requires c κs = search needs
-
-mul-w : tie.Need-mul-w Inv-loop μ-loop
-mul-w c = omega arith
-
-slice-write-w : tie.Need-slice-write-w Inv-loop μ-loop
-slice-write-w c = omega arith
-
-add-i : tie.Need-add-i Inv-loop μ-loop
-add-i c = omega arith
-
-loop-less : tie.Need-loop-less Inv-loop μ-loop
-loop-less c = omega arith
-
 loop-again : tie.Need-loop-again Inv-loop μ-loop
 loop-again c =
     let a = c .before .before .before .before .before .before .args in
@@ -74,18 +50,6 @@ returns c =
 pub floats-into-spec : {M : Type 1} → statement M
 floats-into-spec =
     tie.close
-    (tie.spec
-    Inv-loop
-    μ-loop
-    loop-holds
-    add-j
-    mul-bits
-    shared-slice-read-bits
-    bits-requires
-    mul-w
-    slice-write-w
-    add-i
-    loop-less
-    loop-again
-    same-length
-    returns)
+    (tie.spec Inv-loop μ-loop loop-holds (λ c. omega arith) (λ c. omega arith) (λ c. omega arith)
+    (λ c κs. search needs) (λ c. omega arith) (λ c. omega arith) (λ c. omega arith) (λ c. omega arith) loop-again
+    same-length returns)

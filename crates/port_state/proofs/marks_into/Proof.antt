@@ -11,44 +11,19 @@ use Rattle.port_state.proofs.Signs.{read-back}
 use Rattle.port_state.proofs.marks_into.Statement.{statement}
 use Rattle.port_state.proofs.marks_into.Tie as tie
 
-flag-requires : tie.Need-flag-requires
-flag-requires c κs = search needs
-
-slice-write-w : tie.Need-slice-write-w
-slice-write-w c = search needs
-
-word-requires : tie.Need-word-requires
-word-requires c κs = search needs
-
 slice-write-w-2 : tie.Need-slice-write-w-2
 slice-write-w-2 c = rw length-set (omega arith)
-
-flag-requires-2 : tie.Need-flag-requires-2
-flag-requires-2 c κs = search needs
-
-slice-write-w-3 : tie.Need-slice-write-w-3
-slice-write-w-3 c = search needs
-
-same-length : tie.Need-same-length
-same-length c = search needs
 
 returns : tie.Need-returns
 unfolding marksInto
 returns c =
     let z = c .before .before .before .before .before .args .s .iedp in
-    let m : mag z < 2147483648 = search needs in
+    let m : mag z < 0x8000_0000 = search needs in
     let e : c .before .word .result ≡ wordOf z = c .before .word .ensures ∙ ap wordOf (read-back z m) in
     rw (← c .before .before .flag .ensures, ← e, ← c .flag2 .ensures)
 
 pub marks-into-spec : {M : Type 1} → statement M
 marks-into-spec =
     tie.close
-    (tie.spec
-    flag-requires
-    slice-write-w
-    word-requires
-    slice-write-w-2
-    flag-requires-2
-    slice-write-w-3
-    same-length
-    returns)
+    (tie.spec (λ c κs. search needs) (λ c. search needs) (λ c κs. search needs) slice-write-w-2
+    (λ c κs. search needs) (λ c. search needs) (λ c. search needs) returns)

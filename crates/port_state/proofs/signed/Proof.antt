@@ -9,31 +9,23 @@ use Rattle.port_state.proofs.Signs.{below-half, less-pos, read-back}
 use Rattle.port_state.proofs.signed.Statement.{statement}
 use Rattle.port_state.proofs.signed.Tie as tie
 
-cast-result : tie.Need-cast-result
-cast-result c = search needs
-
 returns : tie.Need-returns
 unfolding signedOf
-returns c = rw (lt-ltb (c .before .args .w) 2147483648 (c .if1 .taken))
-
-sub-result : tie.Need-sub-result
-sub-result c = search needs
-
-cast-result-2 : tie.Need-cast-result-2
-cast-result-2 c = search needs
+returns c = rw (lt-ltb (c .before .args .w) 0x8000_0000 (c .if1 .taken))
 
 sub-result-2 : tie.Need-sub-result-2
 sub-result-2 c =
-    let n = 4294967295 - c .before .args .w in
+    let n = 0xffff_ffff - c .before .args .w in
     rw (below-half n (omega arith), less-pos n) (record { sfits = omega arith })
 
 returns-2 : tie.Need-returns-2
 unfolding signedOf
 returns-2 c =
     let w = c .before .args .w in
-    let n = 4294967295 - w in
-    rw (below-half n (omega arith), less-pos n, le-ltb w 2147483648 (c .if1 .left)) (read-back (negsuc n) (omega arith))
+    let n = 0xffff_ffff - w in
+    rw (below-half n (omega arith), less-pos n, le-ltb w 0x8000_0000 (c .if1 .left)) (read-back (negsuc n) (omega arith))
 
 pub signed-spec : {M : Type 1} → statement M
 signed-spec =
-    tie.close (tie.spec cast-result returns sub-result cast-result-2 sub-result-2 returns-2)
+    tie.close
+    (tie.spec (λ c. search needs) returns (λ c. search needs) (λ c. search needs) sub-result-2 returns-2)

@@ -4,12 +4,9 @@ use borrow.Author.Needs.{needs}
 use Rattle.profile.proofs.curves_of.Statement.{statement}
 use Rattle.profile.proofs.curves_of.Tie as tie
 
-max-requires : tie.Need-max-requires
-max-requires c κs = search needs
-
 returns : tie.Need-returns
 unfolding curvesOf
 returns c = rw (← c .before .max .ensures)
 
 pub curves-of-spec : {M : Type 1} → statement M
-curves-of-spec = tie.close (tie.spec max-requires returns)
+curves-of-spec = tie.close (tie.spec (λ c κs. search needs) returns)

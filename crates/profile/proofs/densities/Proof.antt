@@ -20,27 +20,6 @@ abbrev μ-loop : tie.MeasureT-loop
 loop-holds : tie.Need-loop-holds Inv-loop μ-loop
 loop-holds c = (omega arith, refl)
 
-mul-density : tie.Need-mul-density Inv-loop μ-loop
-mul-density c = omega arith
-
-array-read-density : tie.Need-array-read-density Inv-loop μ-loop
-array-read-density c = omega arith
-
-density-requires : tie.Need-density-requires Inv-loop μ-loop
-density-requires c κs = search needs
-
-mul-fnsq : tie.Need-mul-fnsq Inv-loop μ-loop
-mul-fnsq c = omega arith
-
-array-write-fnsq : tie.Need-array-write-fnsq Inv-loop μ-loop
-array-write-fnsq c = omega arith
-
-add-ih : tie.Need-add-ih Inv-loop μ-loop
-add-ih c = omega arith
-
-loop-less : tie.Need-loop-less Inv-loop μ-loop
-loop-less c = omega arith
-
 loop-again : tie.Need-loop-again Inv-loop μ-loop
 loop-again c =
     let a = c .before .before .before .args in
@@ -62,16 +41,5 @@ returns c =
 pub densities-spec : {M : Type 1} → statement M
 densities-spec =
     tie.close
-    (tie.spec
-    Inv-loop
-    μ-loop
-    loop-holds
-    mul-density
-    array-read-density
-    density-requires
-    mul-fnsq
-    array-write-fnsq
-    add-ih
-    loop-less
-    loop-again
-    returns)
+    (tie.spec Inv-loop μ-loop loop-holds (λ c. omega arith) (λ c. omega arith) (λ c κs. search needs)
+    (λ c. omega arith) (λ c. omega arith) (λ c. omega arith) (λ c. omega arith) loop-again returns)

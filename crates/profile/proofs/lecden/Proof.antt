@@ -5,9 +5,6 @@ use borrow.Author.Tests.{lt-ltb, le-ltb}
 use Rattle.profile.proofs.lecden.Statement.{statement}
 use Rattle.profile.proofs.lecden.Tie as tie
 
-lecden-slot-requires : tie.Need-lecden-slot-requires
-lecden-slot-requires c κs = search needs
-
 returns : tie.Need-returns
 unfolding lecdenAnswer
 returns c = rw (lt-ltb _ _ (c .before .if1 .taken), c .lecden-slot .ensures)
@@ -17,4 +14,4 @@ unfolding lecdenAnswer
 returns-2 c = rw (le-ltb _ _ (c .if1 .left))
 
 pub lecden-spec : {M : Type 1} → statement M
-lecden-spec = tie.close (tie.spec lecden-slot-requires returns returns-2)
+lecden-spec = tie.close (tie.spec (λ c κs. search needs) returns returns-2)

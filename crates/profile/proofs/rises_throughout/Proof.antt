@@ -6,7 +6,7 @@ use Prim.Native.Nat.{_≤_, _<_, _+_, _-_, ℕ, suc}
 use native.Mathlib.Nat.{le-antisymm}
 use native.Mathlib.Omega.{arith}
 use lib.Ieee.{Float, lt}
-use Rattle.layers.specs.State.{at}
+use Rattle.scalar.specs.F32.{at}
 use Rattle.profile.specs.Rising.{risesFrom}
 use Rattle.profile.proofs.rises_throughout.Statement.{statement}
 use Rattle.profile.proofs.rises_throughout.Tie as tie
@@ -28,32 +28,11 @@ abbrev μ-loop : tie.MeasureT-loop
 loop-holds : tie.Need-loop-holds Inv-loop μ-loop
 loop-holds c = (omega arith, refl)
 
-add-j : tie.Need-add-j Inv-loop μ-loop
-add-j c = omega arith
-
-mul-if1 : tie.Need-mul-if1 Inv-loop μ-loop
-mul-if1 c = omega arith
-
-element-copy-out-if1 : tie.Need-element-copy-out-if1 Inv-loop μ-loop
-element-copy-out-if1 c = omega arith
-
-mul-if1-2 : tie.Need-mul-if1-2 Inv-loop μ-loop
-mul-if1-2 c = omega arith
-
-element-copy-out-if1-2 : tie.Need-element-copy-out-if1-2 Inv-loop μ-loop
-element-copy-out-if1-2 c = omega arith
-
 returns : tie.Need-returns Inv-loop μ-loop
 returns c =
     let p = c .before .before .before .before in
     let h : p .loop .i < 49 = omega arith in
     rw (rises-more _ _ h, c .if1 .left) at (p .loop .inv .1)
-
-add-i : tie.Need-add-i Inv-loop μ-loop
-add-i c = omega arith
-
-loop-less : tie.Need-loop-less Inv-loop μ-loop
-loop-less c = omega arith
 
 loop-again : tie.Need-loop-again Inv-loop μ-loop
 loop-again c =
@@ -69,17 +48,5 @@ returns-2 c =
 pub rises-throughout-spec : {M : Type 1} → statement M
 rises-throughout-spec =
     tie.close
-    (tie.spec
-    Inv-loop
-    μ-loop
-    loop-holds
-    add-j
-    mul-if1
-    element-copy-out-if1
-    mul-if1-2
-    element-copy-out-if1-2
-    returns
-    add-i
-    loop-less
-    loop-again
-    returns-2)
+    (tie.spec Inv-loop μ-loop loop-holds (λ c. omega arith) (λ c. omega arith) (λ c. omega arith) (λ c. omega arith)
+    (λ c. omega arith) returns (λ c. omega arith) (λ c. omega arith) loop-again returns-2)

@@ -4,12 +4,9 @@ use borrow.Author.Needs.{needs}
 use Rattle.profile.proofs.tail_of.Statement.{statement}
 use Rattle.profile.proofs.tail_of.Tie as tie
 
-exp-requires : tie.Need-exp-requires
-exp-requires c κs = search needs
-
 returns : tie.Need-returns
 unfolding tailOf
 returns c = rw (← c .exp .ensures)
 
 pub tail-of-spec : {M : Type 1} → statement M
-tail-of-spec = tie.close (tie.spec exp-requires returns)
+tail-of-spec = tie.close (tie.spec (λ c κs. search needs) returns)

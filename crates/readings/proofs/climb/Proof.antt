@@ -4,7 +4,7 @@ use mathlib.Core.List.{List}
 use Prim.Native.Nat.{_≤_, _<_, _+_, _-_, ℕ, suc}
 use native.Mathlib.Omega.{arith}
 use lib.Ieee.{Float, le}
-use Rattle.readings.specs.Scan.{at}
+use Rattle.scalar.specs.F32.{at}
 use Rattle.readings.specs.Cursor.{onBy, climbFrom, climbOf}
 use Rattle.readings.proofs.climb.Statement.{statement}
 use Rattle.readings.proofs.climb.Tie as tie
@@ -29,18 +29,6 @@ abbrev μ-loop : tie.MeasureT-loop
 loop-holds : tie.Need-loop-holds Inv-loop μ-loop
 loop-holds c = refl
 
-add-next : tie.Need-add-next Inv-loop μ-loop
-add-next c = omega arith
-
-mul-if1 : tie.Need-mul-if1 Inv-loop μ-loop
-mul-if1 c = omega arith
-
-element-copy-out-if1 : tie.Need-element-copy-out-if1 Inv-loop μ-loop
-element-copy-out-if1 c = omega arith
-
-loop-less : tie.Need-loop-less Inv-loop μ-loop
-loop-less c = omega arith
-
 loop-again : tie.Need-loop-again Inv-loop μ-loop
 loop-again c =
     let p = c .before .before .before in
@@ -57,4 +45,7 @@ returns-2 : tie.Need-returns-2 Inv-loop μ-loop
 returns-2 c = at-end _ _ _ _ (c .loop-test .left) (c .before .loop .inv)
 
 pub climb-spec : {M : Type 1} → statement M
-climb-spec = tie.close (tie.spec Inv-loop μ-loop loop-holds add-next mul-if1 element-copy-out-if1 loop-less loop-again returns returns-2)
+climb-spec =
+    tie.close
+    (tie.spec Inv-loop μ-loop loop-holds (λ c. omega arith) (λ c. omega arith) (λ c. omega arith) (λ c. omega arith)
+    loop-again returns returns-2)

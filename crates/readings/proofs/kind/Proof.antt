@@ -1,16 +1,8 @@
+-- Each case is the definition's clause for it.
 use Rattle.readings.specs.Scan.{kindOf}
 use borrow.Author.Needs.{needs}
 use Rattle.readings.proofs.kind.Statement.{statement}
 use Rattle.readings.proofs.kind.Tie as tie
-
-enum-told : tie.Need-enum-told
-enum-told c = search needs
-
-enum-told-2 : tie.Need-enum-told-2
-enum-told-2 c = search needs
-
-enum-told-3 : tie.Need-enum-told-3
-enum-told-3 c = search needs
 
 returns : tie.Need-returns
 unfolding kindOf
@@ -25,4 +17,6 @@ unfolding kindOf
 returns-3 c = rw (c .enum-told3 .given .1)
 
 pub kind-spec : {M : Type 1} → statement M
-kind-spec = tie.close (tie.spec enum-told enum-told-2 enum-told-3 returns returns-2 returns-3)
+kind-spec =
+    tie.close
+    (tie.spec (λ c. search needs) (λ c. search needs) (λ c. search needs) returns returns-2 returns-3)

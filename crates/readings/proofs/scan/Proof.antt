@@ -6,7 +6,8 @@ use native.Mathlib.Nat.{le-antisymm}
 use native.Mathlib.Omega.{arith}
 use borrow.Author.Needs.{needs}
 use lib.Ieee.{Float}
-use Rattle.readings.specs.Scan.{at, segmentOf, orOn, scanFrom, scanOf}
+use Rattle.scalar.specs.F32.{at}
+use Rattle.readings.specs.Scan.{segmentOf, orOn, scanFrom, scanOf}
 use Rattle.readings.specs.declared.Reading.the-variants.{Top}
 use Rattle.readings.proofs.scan.Statement.{statement}
 use Rattle.readings.proofs.scan.Tie as tie
@@ -28,62 +29,17 @@ abbrev μ-loop : tie.MeasureT-loop
 loop-holds : tie.Need-loop-holds Inv-loop μ-loop
 loop-holds c = (omega arith, refl)
 
-add-next : tie.Need-add-next Inv-loop μ-loop
-add-next c = omega arith
-
-mul-segment : tie.Need-mul-segment Inv-loop μ-loop
-mul-segment c = omega arith
-
-element-copy-out-segment : tie.Need-element-copy-out-segment Inv-loop μ-loop
-element-copy-out-segment c = omega arith
-
-mul-segment-2 : tie.Need-mul-segment-2 Inv-loop μ-loop
-mul-segment-2 c = omega arith
-
-element-copy-out-segment-2 : tie.Need-element-copy-out-segment-2 Inv-loop μ-loop
-element-copy-out-segment-2 c = omega arith
-
-mul-segment-3 : tie.Need-mul-segment-3 Inv-loop μ-loop
-mul-segment-3 c = omega arith
-
-element-copy-out-segment-3 : tie.Need-element-copy-out-segment-3 Inv-loop μ-loop
-element-copy-out-segment-3 c = omega arith
-
-mul-segment-4 : tie.Need-mul-segment-4 Inv-loop μ-loop
-mul-segment-4 c = omega arith
-
-element-copy-out-segment-4 : tie.Need-element-copy-out-segment-4 Inv-loop μ-loop
-element-copy-out-segment-4 c = omega arith
-
-segment-requires : tie.Need-segment-requires Inv-loop μ-loop
-segment-requires c κs = search needs
-
-enum-known-v : tie.Need-enum-known-v Inv-loop μ-loop
-enum-known-v c = search needs
-
 returns : tie.Need-returns Inv-loop μ-loop
 returns c =
     let p = c .before .before .before .before .before .before .before .before .before in
     let h : p .loop .ih < 49 = omega arith in
     rw (one-more _ _ _ _ h, ← c .before .before .before .segment .ensures, c .before .v .given .1) at (p .loop .inv .1)
 
-enum-told : tie.Need-enum-told Inv-loop μ-loop
-enum-told c = search needs
-
-add-ih : tie.Need-add-ih Inv-loop μ-loop
-add-ih c = omega arith
-
-loop-less : tie.Need-loop-less Inv-loop μ-loop
-loop-less c = omega arith
-
 loop-again : tie.Need-loop-again Inv-loop μ-loop
 loop-again c =
     let p = c .before .before .before .before .before .before .before .before in
     let h : p .loop .ih < 49 = omega arith in
     (omega arith, rw (one-more _ _ _ _ h, ← c .before .before .segment .ensures, c .enum-told .given .1) at (p .loop .inv .1))
-
-element-copy-out-top : tie.Need-element-copy-out-top Inv-loop μ-loop
-element-copy-out-top c = omega arith
 
 returns-2 : tie.Need-returns-2 Inv-loop μ-loop
 returns-2 c =
@@ -93,25 +49,7 @@ returns-2 c =
 pub scan-spec : {M : Type 1} → statement M
 scan-spec =
     tie.close
-    (tie.spec
-    Inv-loop
-    μ-loop
-    loop-holds
-    add-next
-    mul-segment
-    element-copy-out-segment
-    mul-segment-2
-    element-copy-out-segment-2
-    mul-segment-3
-    element-copy-out-segment-3
-    mul-segment-4
-    element-copy-out-segment-4
-    segment-requires
-    enum-known-v
-    returns
-    enum-told
-    add-ih
-    loop-less
-    loop-again
-    element-copy-out-top
-    returns-2)
+    (tie.spec Inv-loop μ-loop loop-holds (λ c. omega arith) (λ c. omega arith) (λ c. omega arith) (λ c. omega arith)
+    (λ c. omega arith) (λ c. omega arith) (λ c. omega arith) (λ c. omega arith) (λ c. omega arith)
+    (λ c κs. search needs) (λ c. search needs) returns (λ c. search needs) (λ c. omega arith) (λ c. omega arith)
+    loop-again (λ c. omega arith) returns-2)

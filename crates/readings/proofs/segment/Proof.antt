@@ -1,3 +1,4 @@
+-- Each path is the clause that its tests choose.
 use Rattle.readings.specs.Scan.{segmentOf}
 use Rattle.readings.proofs.segment.Statement.{statement}
 use Rattle.readings.proofs.segment.Tie as tie
@@ -35,6 +36,4 @@ unfolding segmentOf
 returns-8 c = rw (c .before .before .if1 .left, c .before .if4 .left, c .if6 .left)
 
 pub segment-spec : {M : Type 1} → statement M
-segment-spec =
-    tie.close
-    (tie.spec returns returns-2 returns-3 returns-4 returns-5 returns-6 returns-7 returns-8)
+segment-spec = tie.close (tie.spec returns returns-2 returns-3 returns-4 returns-5 returns-6 returns-7 returns-8)

@@ -1,16 +1,8 @@
+-- Each path is its clause of the definition.
 use Rattle.readings.specs.Scan.{valueOf}
 use borrow.Author.Needs.{needs}
 use Rattle.readings.proofs.value.Statement.{statement}
 use Rattle.readings.proofs.value.Tie as tie
-
-enum-known-r : tie.Need-enum-known-r
-enum-known-r c = search needs
-
-enum-known-r-2 : tie.Need-enum-known-r-2
-enum-known-r-2 c = search needs
-
-enum-known-r-3 : tie.Need-enum-known-r-3
-enum-known-r-3 c = search needs
 
 returns : tie.Need-returns
 unfolding valueOf
@@ -26,4 +18,5 @@ returns-3 c = rw (c .before .r3 .given .1)
 
 pub value-spec : {M : Type 1} → statement M
 value-spec =
-    tie.close (tie.spec enum-known-r enum-known-r-2 enum-known-r-3 returns returns-2 returns-3)
+    tie.close
+    (tie.spec (λ c. search needs) (λ c. search needs) (λ c. search needs) returns returns-2 returns-3)

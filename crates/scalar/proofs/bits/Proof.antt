@@ -12,8 +12,5 @@ returns c = sym (ap (toBits binary32) (differs (c .before .args .x) (c .if1 .tak
 float-to-bits-result : tie.Need-float-to-bits-result
 float-to-bits-result c = not-nan (c .before .args .x) (c .if1 .left)
 
-returns-2 : tie.Need-returns-2
-returns-2 c = search needs
-
 pub bits-spec : {M : Type 1} → statement M
-bits-spec = tie.close (tie.spec returns float-to-bits-result returns-2)
+bits-spec = tie.close (tie.spec returns float-to-bits-result (λ c. search needs))

@@ -27,17 +27,11 @@ float-to-bits-b c = not-nan (c .before .args .x) (c .if1 .left)
 returns-2 : tie.Need-returns-2
 returns-2 c = let s = c .before .before .before in own (s .args .x) (toBits binary32 (s .args .x)) 0 (is s) (c .if3 .taken) zero-root
 
-subnormal-root-requires : tie.Need-subnormal-root-requires
-subnormal-root-requires c κs = search needs
-
 float-from-bits-result : tie.Need-float-from-bits-result
 float-from-bits-result c = number-pattern (c .subnormal-root .result) (let l = c .subnormal-root .ensures .1 in omega arith)
 
 returns-3 : tie.Need-returns-3
 returns-3 c = c .subnormal-root .ensures .0 ∙ ap sqrtOf (sym (is (c .before .before .before .before)))
-
-normal-root-requires : tie.Need-normal-root-requires
-normal-root-requires c κs = search needs
 
 float-from-bits-result-2 : tie.Need-float-from-bits-result-2
 float-from-bits-result-2 c = number-pattern (c .normal-root .result) (let l = c .normal-root .ensures .1 in omega arith)
@@ -59,4 +53,6 @@ returns-7 c =
 
 pub sqrt-spec : {M : Type 1} → statement M
 sqrt-spec =
-    tie.close (tie.spec returns float-to-bits-b returns-2 subnormal-root-requires float-from-bits-result returns-3 normal-root-requires float-from-bits-result-2 returns-4 returns-5 returns-6 returns-7)
+    tie.close
+    (tie.spec returns float-to-bits-b returns-2 (λ c κs. search needs) float-from-bits-result returns-3
+    (λ c κs. search needs) float-from-bits-result-2 returns-4 returns-5 returns-6 returns-7)

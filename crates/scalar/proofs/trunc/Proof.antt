@@ -52,24 +52,6 @@ returns-2 c = let s = c .before .before .before in sym (cut-end false (b s) (plu
 returns-3 : tie.Need-returns-3
 returns-3 c = let s = c .before .before .before in sym (cut-end true (b s) (minus (b s) (c .if3 .left)) (c .before .if2 .taken) (number (c .before .before))) ∙ ap truncOf (is s)
 
-mul-digits : tie.Need-mul-digits
-mul-digits c = search needs
-
-add-digits : tie.Need-add-digits
-add-digits c = search needs
-
-cast-whole : tie.Need-cast-whole
-cast-whole c = search needs
-
-places-requires : tie.Need-places-requires
-places-requires c κs = search needs
-
-cast-whole-2 : tie.Need-cast-whole-2
-cast-whole-2 c = search needs
-
-shr-whole : tie.Need-shr-whole
-shr-whole c = search needs
-
 -- the whole part, which is an i32 with either sign
 abbrev whole : tie.Start → ℕ → ℕ
 whole s k = (2147483648 + b s % 2 ^ 23 * 256) / 2 ^ k
@@ -111,4 +93,6 @@ returns-5 c =
 pub trunc-spec : {M : Type 1} → statement M
 trunc-spec =
     tie.close
-    (tie.spec returns float-to-bits-b returns-2 returns-3 mul-digits add-digits cast-whole places-requires cast-whole-2 shr-whole cast-result returns-4 cast-result-2 sub-result returns-5)
+    (tie.spec returns float-to-bits-b returns-2 returns-3 (λ c. search needs) (λ c. search needs) (λ c. search needs)
+    (λ c κs. search needs) (λ c. search needs) (λ c. search needs) cast-result returns-4 cast-result-2 sub-result
+    returns-5)

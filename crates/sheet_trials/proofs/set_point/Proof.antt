@@ -11,65 +11,9 @@ Inv-loop f₀ n next p i₀ f i = i ≤ 15
 abbrev μ-loop : tie.MeasureT-loop
 μ-loop f₀ n next p i₀ f i = 15 - i
 
-set-record-requires : tie.Need-set-record-requires Inv-loop μ-loop
-set-record-requires c κs = search needs
-
-loop-holds : tie.Need-loop-holds Inv-loop μ-loop
-loop-holds c = omega arith
-
-mul-bits : tie.Need-mul-bits Inv-loop μ-loop
-mul-bits c = omega arith
-
-element-copy-out-bits : tie.Need-element-copy-out-bits Inv-loop μ-loop
-element-copy-out-bits c = omega arith
-
-bits-requires : tie.Need-bits-requires Inv-loop μ-loop
-bits-requires c κs = search needs
-
-mul-set-word : tie.Need-mul-set-word Inv-loop μ-loop
-mul-set-word c = omega arith
-
-add-set-word : tie.Need-add-set-word Inv-loop μ-loop
-add-set-word c = omega arith
-
-mul-set-word-2 : tie.Need-mul-set-word-2 Inv-loop μ-loop
-mul-set-word-2 c = omega arith
-
-add-set-word-2 : tie.Need-add-set-word-2 Inv-loop μ-loop
-add-set-word-2 c = omega arith
-
-set-word-requires : tie.Need-set-word-requires Inv-loop μ-loop
-set-word-requires c κs = search needs
-
-add-i : tie.Need-add-i Inv-loop μ-loop
-add-i c = omega arith
-
-loop-less : tie.Need-loop-less Inv-loop μ-loop
-loop-less c = omega arith
-
-loop-again : tie.Need-loop-again Inv-loop μ-loop
-loop-again c = omega arith
-
-returns : tie.Need-returns Inv-loop μ-loop
-returns c = search needs
-
 pub set-point-spec : {M : Type 1} → statement M
 set-point-spec =
     tie.close
-    (tie.spec
-    Inv-loop
-    μ-loop
-    set-record-requires
-    loop-holds
-    mul-bits
-    element-copy-out-bits
-    bits-requires
-    mul-set-word
-    add-set-word
-    mul-set-word-2
-    add-set-word-2
-    set-word-requires
-    add-i
-    loop-less
-    loop-again
-    returns)
+    (tie.spec Inv-loop μ-loop (λ c κs. search needs) (λ c. omega arith) (λ c. omega arith) (λ c. omega arith)
+    (λ c κs. search needs) (λ c. omega arith) (λ c. omega arith) (λ c. omega arith) (λ c. omega arith)
+    (λ c κs. search needs) (λ c. omega arith) (λ c. omega arith) (λ c. omega arith) (λ c. search needs))

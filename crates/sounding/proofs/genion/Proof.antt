@@ -5,19 +5,13 @@ use borrow.Author.Needs.{needs}
 use Rattle.sounding.proofs.genion.Statement.{statement}
 use Rattle.sounding.proofs.genion.Tie as tie
 
-genion-slot-requires : tie.Need-genion-slot-requires
-genion-slot-requires c κs = search needs
-
 returns : tie.Need-returns
 unfolding genionAnswer
 returns c = rw (le-leb _ _ (c .before .if1 .taken), ← c .genion-slot .ensures)
-
-no-rows-requires : tie.Need-no-rows-requires
-no-rows-requires c κs = search needs
 
 returns-2 : tie.Need-returns-2
 unfolding genionAnswer
 returns-2 c = rw (lt-leb _ _ (c .before .if1 .left), ← c .no-rows .ensures)
 
 pub genion-spec : {M : Type 1} → statement M
-genion-spec = tie.close (tie.spec genion-slot-requires returns no-rows-requires returns-2)
+genion-spec = tie.close (tie.spec (λ c κs. search needs) returns (λ c κs. search needs) returns-2)

@@ -14,23 +14,11 @@ abbrev μ-loop : tie.MeasureT-loop
 loop-holds : tie.Need-loop-holds Inv-loop μ-loop
 loop-holds c = (omega arith, omega arith)
 
-row-differs-requires : tie.Need-row-differs-requires Inv-loop μ-loop
-row-differs-requires c κs = search needs
-
-add-n : tie.Need-add-n Inv-loop μ-loop
-add-n c = omega arith
-
-add-i : tie.Need-add-i Inv-loop μ-loop
-add-i c = omega arith
-
-loop-less : tie.Need-loop-less Inv-loop μ-loop
-loop-less c = omega arith
-
 loop-again : tie.Need-loop-again Inv-loop μ-loop
 loop-again c = (omega arith, omega arith)
 
-returns : tie.Need-returns Inv-loop μ-loop
-returns c = search needs
-
 pub differing-rows-spec : {M : Type 1} → statement M
-differing-rows-spec = tie.close (tie.spec Inv-loop μ-loop loop-holds row-differs-requires add-n add-i loop-less loop-again returns)
+differing-rows-spec =
+    tie.close
+    (tie.spec Inv-loop μ-loop loop-holds (λ c κs. search needs) (λ c. omega arith) (λ c. omega arith)
+    (λ c. omega arith) loop-again (λ c. search needs))

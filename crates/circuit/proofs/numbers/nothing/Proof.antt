@@ -1,3 +1,4 @@
+-- The code's operations are the definition's, in its order.
 use Rattle.circuit.specs.Read.{noCircuit}
 use mathlib.Core.Path.{refl}
 use Rattle.circuit.proofs.numbers.nothing.Statement.{statement}

@@ -13,7 +13,7 @@ use Rattle.circuit.proofs.numbers.points.Tie as tie
 
 abbrev Inv-loop : tie.InvT-loop
 Inv-loop file order km out₀ i₀ out i =
-    (i ≤ km) × (length out ≡ 75) × (out ≡ padded 75 (numbersOf form64 file order 1 15 i))
+    (i ≤ km) × (length out ≡ 75) × (out ≡ padded 75 (numbersOf form64 file order 1 0 15 i))
 
 abbrev μ-loop : tie.MeasureT-loop
 μ-loop file order km out₀ i₀ out i = km - i
@@ -21,15 +21,6 @@ abbrev μ-loop : tie.MeasureT-loop
 loop-holds : tie.Need-loop-holds Inv-loop μ-loop
 unfolding numbersOf
 loop-holds c = (omega arith, refl, refl)
-
-add-n : tie.Need-add-n Inv-loop μ-loop
-add-n c = omega arith
-
-mul-n : tie.Need-mul-n Inv-loop μ-loop
-mul-n c = omega arith
-
-shared-slice-read-n : tie.Need-shared-slice-read-n Inv-loop μ-loop
-shared-slice-read-n c = omega arith
 
 -- the record is there
 there : (c : tie.After-shared-slice-known3 Inv-loop μ-loop)
@@ -46,89 +37,37 @@ mul-read-point-2 c = omega (arith, there c)
 add-read-point : tie.Need-add-read-point Inv-loop μ-loop
 add-read-point c = omega (arith, there c)
 
-sub-read-point : tie.Need-sub-read-point Inv-loop μ-loop
-sub-read-point c = omega arith
-
-part-read-point-start : tie.Need-part-read-point-start Inv-loop μ-loop
-part-read-point-start c = omega arith
-
 part-read-point-end : tie.Need-part-read-point-end Inv-loop μ-loop
 part-read-point-end c = omega (arith, there c)
-
-mul-out : tie.Need-mul-out Inv-loop μ-loop
-mul-out c = omega arith
-
-mul-read-point-3 : tie.Need-mul-read-point-3 Inv-loop μ-loop
-mul-read-point-3 c = omega arith
-
-add-read-point-2 : tie.Need-add-read-point-2 Inv-loop μ-loop
-add-read-point-2 c = omega arith
-
-mul-out-2 : tie.Need-mul-out-2 Inv-loop μ-loop
-mul-out-2 c = omega arith
-
-sub-read-point-2 : tie.Need-sub-read-point-2 Inv-loop μ-loop
-sub-read-point-2 c = omega arith
-
-part-out-start : tie.Need-part-out-start Inv-loop μ-loop
-part-out-start c = omega arith
-
-part-out-end : tie.Need-part-out-end Inv-loop μ-loop
-part-out-end c = omega arith
 
 read-point-requires : tie.Need-read-point-requires Inv-loop μ-loop
 read-point-requires c κs =
     let l = c .before .before .before .before .loop in
-    (length-part _ 64 _ (there (c .before .before)), length-part (15 * l .i) 15 (l .out) (omega arith))
-
-add-i : tie.Need-add-i Inv-loop μ-loop
-add-i c = omega arith
-
-loop-less : tie.Need-loop-less Inv-loop μ-loop
-loop-less c = omega arith
+    let a = c .before .before .before .before .before .before .before .args in
+    let n = 64 * getD (now (a .order)) (1 + l .i) 0 in
+    (omega (arith, length-part n 64 (now (a .file)) (there (c .before .before))), length-part (15 * l .i) 15 (l .out) (omega arith))
 
 loop-again : tie.Need-loop-again Inv-loop μ-loop
 loop-again c =
     let a = c .before .before .before .before .before .before .before .before .before in
     let l = c .before .before .before .before .before .before .loop in
     let e =
-    read-on 75 15 (1) (l .i) (now (a .args .file)) (now (a .args .order)) (l .out) _ (l .inv .2)
+    read-on form64 (now (a .args .file)) (now (a .args .order)) 1 0 15 75 (l .i) (l .out) _ (l .inv .2)
     (c .before .read-point .ensures) (omega arith)
     in
-    (omega arith, ap length e ∙ length-read 75 form64 (now (a .args .file)) (now (a .args .order)) 1 15 (l .i + 1) (omega arith), e)
+    (omega arith, ap length e ∙ length-read form64 (now (a .args .file)) (now (a .args .order)) 1 0 15 75 (l .i + 1) (omega arith), e)
 
 returns : tie.Need-returns Inv-loop μ-loop
 returns c =
     let a = c .before .before .before .before .args in
     let e : c .before .loop .i ≡ a .km = omega arith in
     c .before .loop .inv .2
-    ∙ ap (λ (n : ℕ). padded 75 (numbersOf form64 (now (a .file)) (now (a .order)) 1 15 n)) e
+    ∙ ap (λ (n : ℕ). padded 75 (numbersOf form64 (now (a .file)) (now (a .order)) 1 0 15 n)) e
 
 pub points-spec : {M : Type 1} → statement M
 points-spec =
     tie.close
-    (tie.spec
-    Inv-loop
-    μ-loop
-    loop-holds
-    add-n
-    mul-n
-    shared-slice-read-n
-    mul-read-point
-    mul-read-point-2
-    add-read-point
-    sub-read-point
-    part-read-point-start
-    part-read-point-end
-    mul-out
-    mul-read-point-3
-    add-read-point-2
-    mul-out-2
-    sub-read-point-2
-    part-out-start
-    part-out-end
-    read-point-requires
-    add-i
-    loop-less
-    loop-again
-    returns)
+    (tie.spec Inv-loop μ-loop loop-holds (λ c. omega arith) (λ c. omega arith) (λ c. omega arith) mul-read-point
+    mul-read-point-2 add-read-point (λ c. omega arith) (λ c. omega arith) part-read-point-end (λ c. omega arith)
+    (λ c. omega arith) (λ c. omega arith) (λ c. omega arith) (λ c. omega arith) (λ c. omega arith) (λ c. omega arith)
+    read-point-requires (λ c. omega arith) (λ c. omega arith) loop-again returns)

@@ -1,3 +1,4 @@
+-- Each path is the clause that its tests choose; each call is what its contract says.
 use Rattle.circuit.specs.Chain.{headGood}
 use Rattle.circuit.proofs.Lists.{rest}
 use denote.Ref.{now}
@@ -6,15 +7,9 @@ use borrow.Author.Needs.{needs}
 use Rattle.circuit.proofs.walk.head_good.Statement.{statement}
 use Rattle.circuit.proofs.walk.head_good.Tie as tie
 
-half-requires : tie.Need-half-requires
-half-requires c κs = search needs
-
 returns : tie.Need-returns
 unfolding headGood
 returns c = rw (← c .before .half .ensures, ne-eqb _ _ (c .if1 .taken))
-
-byte-requires : tie.Need-byte-requires
-byte-requires c κs = search needs
 
 returns-2 : tie.Need-returns-2
 unfolding headGood
@@ -24,40 +19,13 @@ returns-3 : tie.Need-returns-3
 unfolding headGood
 returns-3 c = rw (← c .before .before .before .before .half .ensures, eq-eqb _ _ (c .before .before .before .if1 .left), ← c .before .before .byte .ensures, le-leb _ _ (c .before .if2 .left), lt-leb _ _ (c .if3 .taken))
 
-byte-requires-2 : tie.Need-byte-requires-2
-byte-requires-2 c κs = search needs
-
 returns-4 : tie.Need-returns-4
 unfolding headGood
 returns-4 c = rw (← c .before .before .before .before .before .before .half .ensures, eq-eqb _ _ (c .before .before .before .before .before .if1 .left), ← c .before .before .before .before .byte .ensures, le-leb _ _ (c .before .before .before .if2 .left), le-leb _ _ (c .before .before .if3 .left), ← c .before .byte2 .ensures, lt-leb _ _ (c .if4 .taken))
 
-sub-all-zero : tie.Need-sub-all-zero
-sub-all-zero c = search needs
-
-part-all-zero-start : tie.Need-part-all-zero-start
-part-all-zero-start c = search needs
-
-part-all-zero-end : tie.Need-part-all-zero-end
-part-all-zero-end c = search needs
-
-all-zero-requires : tie.Need-all-zero-requires
-all-zero-requires c κs = search needs
-
 returns-5 : tie.Need-returns-5
 unfolding headGood
 returns-5 c = rw (← c .before .before .before .before .before .before .before .before .before .half .ensures, eq-eqb _ _ (c .before .before .before .before .before .before .before .before .if1 .left), ← c .before .before .before .before .before .before .before .byte .ensures, le-leb _ _ (c .before .before .before .before .before .before .if2 .left), le-leb _ _ (c .before .before .before .before .before .if3 .left), ← c .before .before .before .before .byte2 .ensures, le-leb _ _ (c .before .before .before .if4 .left), ← c .before .all-zero .ensures, not-true (c .before .all-zero .result) (c .if5 .taken))
-
-sub-all-zero-2 : tie.Need-sub-all-zero-2
-sub-all-zero-2 c = search needs
-
-part-all-zero-start-2 : tie.Need-part-all-zero-start-2
-part-all-zero-start-2 c = search needs
-
-part-all-zero-end-2 : tie.Need-part-all-zero-end-2
-part-all-zero-end-2 c = search needs
-
-all-zero-requires-2 : tie.Need-all-zero-requires-2
-all-zero-requires-2 c κs = search needs
 
 returns-6 : tie.Need-returns-6
 unfolding headGood
@@ -66,21 +34,6 @@ returns-6 c = rw (← c .before .before .before .before .before .before .before 
 pub head-good-spec : {M : Type 1} → statement M
 head-good-spec =
     tie.close
-    (tie.spec
-    half-requires
-    returns
-    byte-requires
-    returns-2
-    returns-3
-    byte-requires-2
-    returns-4
-    sub-all-zero
-    part-all-zero-start
-    part-all-zero-end
-    all-zero-requires
-    returns-5
-    sub-all-zero-2
-    part-all-zero-start-2
-    part-all-zero-end-2
-    all-zero-requires-2
-    returns-6)
+    (tie.spec (λ c κs. search needs) returns (λ c κs. search needs) returns-2 returns-3 (λ c κs. search needs)
+    returns-4 (λ c. search needs) (λ c. search needs) (λ c. search needs) (λ c κs. search needs) returns-5
+    (λ c. search needs) (λ c. search needs) (λ c. search needs) (λ c κs. search needs) returns-6)

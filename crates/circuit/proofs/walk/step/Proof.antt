@@ -3,71 +3,49 @@ use Prim.Native.Nat.{ℕ}
 use mathlib.Core.Path.{_≡_, ap, _∙_}
 use mathlib.Core.List.{List}
 use borrow.Author.Needs.{needs}
+use native.Mathlib.Omega.{arith}
 use borrow.Author.Tests.{eq-eqb, ne-eqb, lt-ltb, le-ltb}
 use denote.Ref.{now}
 use Rattle.circuit.specs.declared.Step.{Step}
-use Rattle.circuit.specs.Record.{form64, recordAt, halfAt}
+use Rattle.circuit.specs.Record.{recordAt, halfAt}
 use Rattle.circuit.specs.Chain.{stepOf}
 use Rattle.circuit.proofs.Lists.{part}
 use Rattle.circuit.proofs.Steps.{step-told}
 use Rattle.circuit.proofs.walk.step.Statement.{statement}
 use Rattle.circuit.proofs.walk.step.Tie as tie
 
-mul-half : tie.Need-mul-half
-mul-half c = search needs
-
-mul-half-2 : tie.Need-mul-half-2
-mul-half-2 c = search needs
-
-add-half : tie.Need-add-half
-add-half c = search needs
-
-sub-half : tie.Need-sub-half
-sub-half c = search needs
-
-part-half-start : tie.Need-part-half-start
-part-half-start c = search needs
-
-part-half-end : tie.Need-part-half-end
-part-half-end c = search needs
-
-half-requires : tie.Need-half-requires
-half-requires c κs = search needs
-
 -- the next index of record `at`
 read : (c : tie.After-half)
     → c .half .result
     ≡ halfAt
-    (recordAt form64 (now (c .before .before .before .before .args .file)) (c .before .before .before .before .args .at))
+    (recordAt (c .before .before .before .before .args .o) (now (c .before .before .before .before .args .file))
+    (c .before .before .before .before .args .at))
     2
 read c =
     let a = c .before .before .before .before .args in
-    c .half .ensures ∙ ap (λ (r : List ℕ). halfAt r 2) (part (now (a .file)) (a .at))
+    c .half .ensures ∙ ap (λ (r : List ℕ). halfAt r 2) (part (a .o) (now (a .file)) (a .at))
 
 returns : tie.Need-returns
 unfolding stepOf
 returns c =
     let h = c .before in
     let a = h .before .before .before .before .args in
-    step-told form64 (now (a .file)) (now (a .order)) (a .at) Step.End (rw (← read h, eq-eqb _ _ (c .if1 .taken)))
+    step-told (a .o) (now (a .file)) (now (a .order)) (a .at) Step.End (rw (← read h, eq-eqb _ _ (c .if1 .taken)))
 
 returns-2 : tie.Need-returns-2
 unfolding stepOf
 returns-2 c =
     let h = c .before .before in
     let a = h .before .before .before .before .args in
-    step-told form64 (now (a .file)) (now (a .order)) (a .at) Step.Astray
+    step-told (a .o) (now (a .file)) (now (a .order)) (a .at) Step.Astray
     (rw (← read h, ne-eqb _ _ (c .before .if1 .left), le-ltb _ _ (c .if2 .taken)))
-
-is-among-requires : tie.Need-is-among-requires
-is-among-requires c κs = search needs
 
 returns-3 : tie.Need-returns-3
 unfolding stepOf
 returns-3 c =
     let h = c .before .before .before .before in
     let a = h .before .before .before .before .args in
-    step-told form64 (now (a .file)) (now (a .order)) (a .at) Step.Astray
+    step-told (a .o) (now (a .file)) (now (a .order)) (a .at) Step.Astray
     (rw (
       ← read h,
       ne-eqb _ _ (c .before .before .before .if1 .left),
@@ -81,7 +59,7 @@ unfolding stepOf
 returns-4 c =
     let h = c .before .before .before .before in
     let a = h .before .before .before .before .args in
-    step-told form64 (now (a .file)) (now (a .order)) (a .at) (Step.To (h .half .result))
+    step-told (a .o) (now (a .file)) (now (a .order)) (a .at) (Step.To (h .half .result))
     (rw (
       ← read h,
       ne-eqb _ _ (c .before .before .before .if1 .left),
@@ -93,16 +71,6 @@ returns-4 c =
 pub step-spec : {M : Type 1} → statement M
 step-spec =
     tie.close
-    (tie.spec
-    mul-half
-    mul-half-2
-    add-half
-    sub-half
-    part-half-start
-    part-half-end
-    half-requires
-    returns
-    returns-2
-    is-among-requires
-    returns-3
+    (tie.spec (λ c. search needs) (λ c. search needs) (λ c. search needs) (λ c. search needs) (λ c. search needs)
+    (λ c. search needs) (λ c κs. search needs) returns (λ c. omega arith) returns-2 (λ c κs. search needs) returns-3
     returns-4)

@@ -1,5 +1,5 @@
 -- The records met stand at the front of the array, and the walk from here on is the walk from record 0.
-use Prim.Native.Nat.{ℕ, _≤_, _<_, _+_, _-_, _/_}
+use Prim.Native.Nat.{ℕ, _≤_, _+_, _*_, _-_}
 use mathlib.Core.Path.{_≡_, refl, sym, ap, _∙_}
 use mathlib.Core.List.{List, [], _∷_}
 use native.Mathlib.Omega.{arith}
@@ -10,42 +10,27 @@ use denote.Ref.{now}
 use Rattle.circuit.specs.declared.Step.{Step}
 use lib.Dec.{leb}
 use borrow.Author.Tests.{not-true, not-false}
-use Rattle.circuit.specs.Record.{form64, recordAt}
+use Rattle.circuit.specs.Record.{recordAt}
 use Rattle.circuit.specs.Chain as chain
-use Rattle.circuit.proofs.Steps.{step-to, walk-end, walk-astray, walk-long, walk-bad, walk-on, as-answered, one-more, stored}
+use Rattle.circuit.proofs.Steps.{in-file, step-to, walk-end, walk-astray, walk-long, walk-bad, walk-on, as-answered, one-more, stored}
 use Rattle.circuit.proofs.Lists.{part}
 use Rattle.circuit.proofs.walk.walk.Statement.{statement}
 use Rattle.circuit.proofs.walk.walk.Tie as tie
 
 abbrev Inv-loop : tie.InvT-loop
-Inv-loop file km order₀ count₀ at₀ left₀ order count at left =
-    (1 ≤ count) × (count + left ≡ km + 49) × (at < length file / 64) × (length order ≡ 64)
+Inv-loop o file km size order₀ count₀ at₀ left₀ order count at left =
+    (1 ≤ count) × (count + left ≡ km + 49) × (o .size * at + o .size ≤ length file) × (length order ≡ 64)
     × (order ≡ chain.padded 64 (take count order))
-    × (chain.walk form64 file left (take count order) at ≡ chain.walk form64 file (km + 48) (0 ∷ []) 0)
+    × (chain.walk o file left (take count order) at ≡ chain.walk o file (km + 48) (0 ∷ []) 0)
 
 abbrev μ-loop : tie.MeasureT-loop
-μ-loop file km order₀ count₀ at₀ left₀ order count at left = left
-
-add-left : tie.Need-add-left Inv-loop μ-loop
-add-left c = omega arith
+μ-loop o file km size order₀ count₀ at₀ left₀ order count at left = left
 
 loop-holds : tie.Need-loop-holds Inv-loop μ-loop
 loop-holds c = (omega arith, omega arith, omega arith, refl, refl, refl)
 
-array-share-prefix-order : tie.Need-array-share-prefix-order Inv-loop μ-loop
-array-share-prefix-order c = omega arith
-
 slice-aggregate-step : tie.Need-slice-aggregate-step Inv-loop μ-loop
 slice-aggregate-step c = sym (length-take-le (c .before .loop .count) (c .before .loop .order) (omega arith))
-
-step-requires : tie.Need-step-requires Inv-loop μ-loop
-step-requires c κs = search needs
-
-enum-told : tie.Need-enum-told Inv-loop μ-loop
-enum-told c = search needs
-
-ended-requires : tie.Need-ended-requires Inv-loop μ-loop
-ended-requires c κs = search needs
 
 returns : tie.Need-returns Inv-loop μ-loop
 returns c =
@@ -53,157 +38,104 @@ returns c =
     let t = length-take-le (l .count) (l .order) (omega arith) in
     c .ended .ensures
     ∙ ap (chain.ended (l .left)) (as-answered (l .order) (l .count) (l .inv .4) t)
-    ∙ sym (walk-end form64 _ _ _ (l .left) (sym (c .before .before .before .step .ensures .0) ∙ c .before .enum-told .given .1))
+    ∙ sym (walk-end _ _ _ _ (l .left) (sym (c .before .before .before .step .ensures .0) ∙ c .before .enum-told .given .1))
     ∙ l .inv .5
-
-enum-told-2 : tie.Need-enum-told-2 Inv-loop μ-loop
-enum-told-2 c = search needs
-
-refused-requires : tie.Need-refused-requires Inv-loop μ-loop
-refused-requires c κs = search needs
 
 returns-2 : tie.Need-returns-2 Inv-loop μ-loop
 returns-2 c =
     let l = c .before .before .before .before .before .loop in
     c .refused .ensures
-    ∙ sym (walk-astray form64 _ _ _ (l .left) (sym (c .before .before .before .step .ensures .0) ∙ c .before .enum-told2 .given .1))
+    ∙ sym (walk-astray _ _ _ _ (l .left) (sym (c .before .before .before .step .ensures .0) ∙ c .before .enum-told2 .given .1))
     ∙ l .inv .5
-
-enum-known-s : tie.Need-enum-known-s Inv-loop μ-loop
-enum-known-s c = search needs
 
 -- the record that the step goes to is there
 went : (c : tie.After-s Inv-loop μ-loop)
-    → chain.stepOf form64 (now (c .before .before .before .before .before .before .args .file))
+    → chain.stepOf (c .before .before .before .before .before .before .args .o)
+    (now (c .before .before .before .before .before .before .args .file))
     (take (c .before .before .before .before .loop .count) (c .before .before .before .before .loop .order))
     (c .before .before .before .before .loop .at)
     ≡ Step.To (c .s .given .0 .0)
 went c = sym (c .before .before .step .ensures .0) ∙ c .s .given .1
 
 there : (c : tie.After-s Inv-loop μ-loop)
-    → c .s .given .0 .0 < length (now (c .before .before .before .before .before .before .args .file)) / 64
-there c = step-to form64 _ _ _ _ (went c)
-
-refused-requires-2 : tie.Need-refused-requires-2 Inv-loop μ-loop
-refused-requires-2 c κs = search needs
+    → c .before .before .before .before .before .before .args .o .size * c .s .given .0 .0
+    + c .before .before .before .before .before .before .args .o .size
+    ≤ length (now (c .before .before .before .before .before .before .args .file))
+there c =
+    let a = c .before .before .before .before .before .before .args in
+    in-file (a .o) (now (a .file)) (c .s .given .0 .0) (step-to (a .o) (now (a .file)) _ _ (c .s .given .0 .0) (went c))
 
 returns-3 : tie.Need-returns-3 Inv-loop μ-loop
 returns-3 c =
     let l = c .before .before .before .before .before .before .before .loop in
     c .refused2 .ensures
-    ∙ sym (walk-long form64 _ _ _ _ (l .left) (went (c .before .before .before)) (c .before .if1 .taken))
+    ∙ sym (walk-long _ _ _ _ _ (l .left) (went (c .before .before .before)) (c .before .if1 .taken))
     ∙ l .inv .5
 
-sub-left : tie.Need-sub-left Inv-loop μ-loop
-sub-left c = omega arith
+mul-may-stand : tie.Need-mul-may-stand Inv-loop μ-loop
+mul-may-stand c = omega (arith, there (c .before .before))
 
-mul-landed : tie.Need-mul-landed Inv-loop μ-loop
-mul-landed c = omega (arith, there (c .before .before))
+mul-may-stand-2 : tie.Need-mul-may-stand-2 Inv-loop μ-loop
+mul-may-stand-2 c = omega (arith, there (c .before .before))
 
-mul-landed-2 : tie.Need-mul-landed-2 Inv-loop μ-loop
-mul-landed-2 c = omega (arith, there (c .before .before))
+add-may-stand : tie.Need-add-may-stand Inv-loop μ-loop
+add-may-stand c = omega (arith, there (c .before .before))
 
-add-landed : tie.Need-add-landed Inv-loop μ-loop
-add-landed c = omega (arith, there (c .before .before))
+sub-may-stand : tie.Need-sub-may-stand Inv-loop μ-loop
+sub-may-stand c = omega (arith, there (c .before .before))
 
-sub-landed : tie.Need-sub-landed Inv-loop μ-loop
-sub-landed c = omega (arith, there (c .before .before))
+part-may-stand-start : tie.Need-part-may-stand-start Inv-loop μ-loop
+part-may-stand-start c = omega (arith, there (c .before .before))
 
-part-landed-start : tie.Need-part-landed-start Inv-loop μ-loop
-part-landed-start c = omega (arith, there (c .before .before))
-
-part-landed-end : tie.Need-part-landed-end Inv-loop μ-loop
-part-landed-end c = omega (arith, there (c .before .before))
-
-landed-requires : tie.Need-landed-requires Inv-loop μ-loop
-landed-requires c κs = search needs
+part-may-stand-end : tie.Need-part-may-stand-end Inv-loop μ-loop
+part-may-stand-end c = omega (arith, there (c .before .before))
 
 -- what was asked of the record there
-landed-is : (c : tie.After-landed Inv-loop μ-loop)
-    → chain.soundBy form64 (leb 48 (c .before .before .before .before .before .before .before .before .loop .left - 1))
-    (recordAt form64 (now (c .before .before .before .before .before .before .before .before .before .before .args .file))
+may-stand-is : (c : tie.After-may-stand Inv-loop μ-loop)
+    → chain.soundBy (c .before .before .before .before .before .before .before .before .before .before .args .o)
+    (leb 48 (c .before .before .before .before .before .before .before .before .loop .left - 1))
+    (recordAt (c .before .before .before .before .before .before .before .before .before .before .args .o) (now (c .before .before .before .before .before .before .before .before .before .before .args .file))
     (c .before .before .before .before .s .given .0 .0))
-    ≡ c .landed .result
-landed-is c =
+    ≡ c .may-stand .result
+may-stand-is c =
     let l = c .before .before .before .before .before .before .before .before .loop in
-    let f = now (c .before .before .before .before .before .before .before .before .before .before .args .file) in
-    sym (c .landed .ensures ∙ ap (chain.soundBy form64 (leb 48 (l .left - 1))) (part f (c .before .before .before .before .s .given .0 .0)))
-
-refused-requires-3 : tie.Need-refused-requires-3 Inv-loop μ-loop
-refused-requires-3 c κs = search needs
+    let a = c .before .before .before .before .before .before .before .before .before .before .args in
+    sym (c .may-stand .ensures ∙ ap (chain.soundBy (a .o) (leb 48 (l .left - 1))) (part (a .o) (now (a .file)) (c .before .before .before .before .s .given .0 .0)))
 
 returns-4 : tie.Need-returns-4 Inv-loop μ-loop
 returns-4 c =
     let l = c .before .before .before .before .before .before .before .before .before .before .loop in
     c .refused3 .ensures
     ∙ sym
-    (walk-bad form64 _ _ _ _ (l .left) (went (c .before .before .before .before .before .before))
+    (walk-bad _ _ _ _ _ (l .left) (went (c .before .before .before .before .before .before))
     (c .before .before .before .before .if1 .left)
-    (landed-is (c .before .before) ∙ not-true (c .before .before .landed .result) (c .before .if2 .taken)))
+    (may-stand-is (c .before .before) ∙ not-true (c .before .before .may-stand .result) (c .before .if2 .taken)))
     ∙ l .inv .5
-
-mul-order : tie.Need-mul-order Inv-loop μ-loop
-mul-order c = omega arith
-
-array-write-order : tie.Need-array-write-order Inv-loop μ-loop
-array-write-order c = omega arith
-
-add-count : tie.Need-add-count Inv-loop μ-loop
-add-count c = omega arith
-
-loop-less : tie.Need-loop-less Inv-loop μ-loop
-loop-less c = omega arith
 
 loop-again : tie.Need-loop-again Inv-loop μ-loop
 loop-again c =
     let l = c .before .before .before .before .before .before .before .before .before .loop in
     let n = c .before .before .before .before .before .s .given .0 .0 in
-    let f = now (c .before .before .before .before .before .before .before .before .before .before .before .args .file) in (
+    let a = c .before .before .before .before .before .before .before .before .before .before .before .args in (
       omega arith,
       omega arith,
       there (c .before .before .before .before .before),
       simp length-set (l .inv .3),
       stored (l .order) (l .count) n (omega arith) (l .inv .3) (l .inv .4),
-      ap (λ (o : List ℕ). chain.walk form64 f (l .left - 1) o n) (one-more (l .order) (l .count) n (omega arith))
+      ap (λ (order : List ℕ). chain.walk (a .o) (now (a .file)) (l .left - 1) order n) (one-more (l .order) (l .count) n (omega arith))
           ∙ sym
-          (walk-on form64 _ _ _ _ (l .left) (went (c .before .before .before .before .before))
+          (walk-on _ _ _ _ _ (l .left) (went (c .before .before .before .before .before))
           (c .before .before .before .if1 .left)
-          (landed-is (c .before) ∙ not-false (c .before .landed .result) (c .if2 .left)))
+          (may-stand-is (c .before) ∙ not-false (c .before .may-stand .result) (c .if2 .left)))
           ∙ l .inv .5,
     )
 
 pub walk-spec : {M : Type 1} → statement M
 walk-spec =
     tie.close
-    (tie.spec
-    Inv-loop
-    μ-loop
-    add-left
-    loop-holds
-    array-share-prefix-order
-    slice-aggregate-step
-    step-requires
-    enum-told
-    ended-requires
-    returns
-    enum-told-2
-    refused-requires
-    returns-2
-    enum-known-s
-    refused-requires-2
-    returns-3
-    sub-left
-    mul-landed
-    mul-landed-2
-    add-landed
-    sub-landed
-    part-landed-start
-    part-landed-end
-    landed-requires
-    refused-requires-3
-    returns-4
-    mul-order
-    array-write-order
-    add-count
-    loop-less
+    (tie.spec Inv-loop μ-loop (λ c. omega arith) loop-holds (λ c. omega arith) slice-aggregate-step
+    (λ c κs. search needs) (λ c. search needs) (λ c κs. search needs) returns (λ c. search needs)
+    (λ c κs. search needs) returns-2 (λ c. search needs) (λ c κs. search needs) returns-3 (λ c. omega arith)
+    mul-may-stand mul-may-stand-2 add-may-stand sub-may-stand part-may-stand-start part-may-stand-end (λ c κs. search needs)
+    (λ c κs. search needs) returns-4 (λ c. omega arith) (λ c. omega arith) (λ c. omega arith) (λ c. omega arith)
     loop-again)

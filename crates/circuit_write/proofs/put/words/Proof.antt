@@ -6,7 +6,7 @@ use native.Mathlib.Omega.{arith}
 use lib.ListN.{length, take, drop}
 use lib.Seq.{take-all}
 use denote.Ref.{now}
-use Rattle.circuit.proofs.Lists.{length-part, filled}
+use Rattle.circuit.proofs.Lists.{length-part, filled-up}
 use Rattle.circuit_write.specs.Written.{bytesOf}
 use Rattle.circuit_write.proofs.Cells.{words-more, length-filled, bytes-took}
 use Rattle.circuit_write.proofs.put.words.Statement.{statement}
@@ -23,40 +23,10 @@ loop-holds : tie.Need-loop-holds Inv-loop μ-loop
 unfolding bytesOf
 loop-holds c = (omega arith, refl, refl)
 
-mul-word : tie.Need-mul-word Inv-loop μ-loop
-mul-word c = omega arith
-
-shared-slice-read-word : tie.Need-shared-slice-read-word Inv-loop μ-loop
-shared-slice-read-word c = omega arith
-
-mul-word-2 : tie.Need-mul-word-2 Inv-loop μ-loop
-mul-word-2 c = omega arith
-
-mul-word-3 : tie.Need-mul-word-3 Inv-loop μ-loop
-mul-word-3 c = omega arith
-
-add-word : tie.Need-add-word Inv-loop μ-loop
-add-word c = omega arith
-
-sub-word : tie.Need-sub-word Inv-loop μ-loop
-sub-word c = omega arith
-
-part-word-start : tie.Need-part-word-start Inv-loop μ-loop
-part-word-start c = omega arith
-
-part-word-end : tie.Need-part-word-end Inv-loop μ-loop
-part-word-end c = omega arith
-
 word-requires : tie.Need-word-requires Inv-loop μ-loop
 word-requires c κs =
     let l = c .before .before .before .loop in
     length-part (4 * l .i) 4 (l .out) (omega arith)
-
-add-i : tie.Need-add-i Inv-loop μ-loop
-add-i c = omega arith
-
-loop-less : tie.Need-loop-less Inv-loop μ-loop
-loop-less c = omega arith
 
 loop-again : tie.Need-loop-again Inv-loop μ-loop
 loop-again c =
@@ -81,27 +51,12 @@ returns c =
     let a = c .before .before .before .before .args in
     let l = c .before .loop in
     l .inv .2
-    ∙ filled _ (now (a .out)) (4 * l .i) (omega arith)
+    ∙ filled-up _ (now (a .out)) (4 * l .i) (omega arith)
     ∙ ap bytesOf (take-all (l .i) (now (a .ws)) (omega arith))
 
 pub words-spec : {M : Type 1} → statement M
 words-spec =
     tie.close
-    (tie.spec
-    Inv-loop
-    μ-loop
-    loop-holds
-    mul-word
-    shared-slice-read-word
-    mul-word-2
-    mul-word-3
-    add-word
-    sub-word
-    part-word-start
-    part-word-end
-    word-requires
-    add-i
-    loop-less
-    loop-again
-    same-length
-    returns)
+    (tie.spec Inv-loop μ-loop loop-holds (λ c. omega arith) (λ c. omega arith) (λ c. omega arith) (λ c. omega arith)
+    (λ c. omega arith) (λ c. omega arith) (λ c. omega arith) (λ c. omega arith) word-requires (λ c. omega arith)
+    (λ c. omega arith) loop-again same-length returns)

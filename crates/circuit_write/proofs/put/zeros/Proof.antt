@@ -6,7 +6,7 @@ use native.Mathlib.Omega.{arith}
 use borrow.Author.Fill.{fill-more}
 use lib.ListN.{length, drop, replicate, length-set}
 use denote.Ref.{now}
-use Rattle.circuit.proofs.Lists.{filled}
+use Rattle.circuit.proofs.Lists.{filled-up}
 use Rattle.circuit_write.proofs.put.zeros.Statement.{statement}
 use Rattle.circuit_write.proofs.put.zeros.Tie as tie
 
@@ -20,15 +20,6 @@ abbrev μ-loop : tie.MeasureT-loop
 loop-holds : tie.Need-loop-holds Inv-loop μ-loop
 loop-holds c = (omega arith, refl, refl)
 
-slice-write-out : tie.Need-slice-write-out Inv-loop μ-loop
-slice-write-out c = omega arith
-
-add-i : tie.Need-add-i Inv-loop μ-loop
-add-i c = omega arith
-
-loop-less : tie.Need-loop-less Inv-loop μ-loop
-loop-less c = omega arith
-
 loop-again : tie.Need-loop-again Inv-loop μ-loop
 loop-again c =
     let l = c .before .loop in
@@ -41,18 +32,10 @@ returns : tie.Need-returns Inv-loop μ-loop
 returns c =
     let a = now (c .before .before .args .out) in
     let e : c .before .loop .i ≡ length a = omega arith in
-    c .before .loop .inv .2 ∙ filled _ a (c .before .loop .i) (omega arith) ∙ ap (λ (n : ℕ). replicate n 0) e
+    c .before .loop .inv .2 ∙ filled-up _ a (c .before .loop .i) (omega arith) ∙ ap (λ (n : ℕ). replicate n 0) e
 
 pub zeros-spec : {M : Type 1} → statement M
 zeros-spec =
     tie.close
-    (tie.spec
-    Inv-loop
-    μ-loop
-    loop-holds
-    slice-write-out
-    add-i
-    loop-less
-    loop-again
-    same-length
-    returns)
+    (tie.spec Inv-loop μ-loop loop-holds (λ c. omega arith) (λ c. omega arith) (λ c. omega arith) loop-again
+    same-length returns)

@@ -19,12 +19,6 @@ returns c = sym (at-nan (c .before .args .b) (c .if1 .taken))
 returns-2 : tie.Need-returns-2
 returns-2 c = sym (at-tiny (c .before .before .args .b) (c .if2 .taken))
 
-limit-requires : tie.Need-limit-requires
-limit-requires c κs = search needs
-
-past-requires : tie.Need-past-requires
-past-requires c κs = search needs
-
 returns-3 : tie.Need-returns-3
 returns-3 c = let s = c .before .before .before .before .before in at-past (s .args .b) (c .before .before .limit .result) (c .before .before .limit .ensures) (c .past .result) (c .before .before .before .before .if1 .left) (c .before .if3 .taken) (c .past .ensures)
 
@@ -40,12 +34,5 @@ returns-4 c = let s = c .before .before .before .before .before .before in at-si
 pub exp-bits-spec : {M : Type 1} → statement M
 exp-bits-spec =
     tie.close
-    (tie.spec
-    returns
-    returns-2
-    limit-requires
-    past-requires
-    returns-3
-    scaled-requires
-    signed-requires
-    returns-4)
+    (tie.spec returns returns-2 (λ c κs. search needs) (λ c κs. search needs) returns-3 scaled-requires
+    signed-requires returns-4)

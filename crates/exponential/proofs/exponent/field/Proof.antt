@@ -8,17 +8,11 @@ use borrow.Author.Needs.{needs}
 use Rattle.exponential.proofs.exponent.field.Statement.{statement}
 use Rattle.exponential.proofs.exponent.field.Tie as tie
 
-add-result : tie.Need-add-result
-add-result c = search needs
-
 returns : tie.Need-returns
 returns c = sym (ap (λ (t : Bool). pick t (126 + (c .before .args .e)) (125 - (c .before .args .e))) (lt-ltb _ _ (c .if1 .taken)))
-
-sub-result : tie.Need-sub-result
-sub-result c = search needs
 
 returns-2 : tie.Need-returns-2
 returns-2 c = sym (ap (λ (t : Bool). pick t (126 + (c .before .args .e)) (125 - (c .before .args .e))) (le-ltb _ _ (c .if1 .left)))
 
 pub field-spec : {M : Type 1} → statement M
-field-spec = tie.close (tie.spec add-result returns sub-result returns-2)
+field-spec = tie.close (tie.spec (λ c. search needs) returns (λ c. search needs) returns-2)

@@ -12,11 +12,8 @@ use Rattle.exponential.proofs.exponent.folded.Tie as tie
 returns : tie.Need-returns
 returns c = sym (ap (λ (t : Bool). pick t ((c .before .args .r)) (ln2 - (c .before .args .r))) (lt-ltb _ _ (c .if1 .taken)))
 
-sub-result : tie.Need-sub-result
-sub-result c = search needs
-
 returns-2 : tie.Need-returns-2
 returns-2 c = sym (ap (λ (t : Bool). pick t ((c .before .args .r)) (ln2 - (c .before .args .r))) (le-ltb _ _ (c .if1 .left)))
 
 pub folded-spec : {M : Type 1} → statement M
-folded-spec = tie.close (tie.spec returns sub-result returns-2)
+folded-spec = tie.close (tie.spec returns (λ c. search needs) returns-2)

@@ -5,7 +5,7 @@ use native.Mathlib.Omega.{arith}
 use mathlib.Core.Bool.{Bool}
 use lib.Dec.{ltb}
 use borrow.Author.Tests.{lt-ltb, le-ltb}
-use Rattle.series.proofs.Cases.{split}
+use Rattle.cases.proofs.Cases.{split}
 use Rattle.fixed.specs.Fixed.{pick}
 use Rattle.exponential.specs.Exp.{rounded, lowered}
 use Rattle.exponential.proofs.ExpCases.{lowered-normal, lowered-subnormal}
@@ -40,18 +40,6 @@ module _ (s e f : ℕ) (is : f ≡ pick (ltb s 1) (126 + e) (125 - e)) where
       (λ l. ap (λ (x : ℕ). x * 2 ^ 23 + rounded h) (is ∙ ap (λ (t : Bool). pick t (126 + e) (125 - e)) (lt-ltb _ _ l)) ∙ sym (ap (λ (t : Bool). pick t ((126 + e) * 2 ^ 23 + rounded h) (lowered e h)) (lt-ltb _ _ l)))
       (λ l. ap (λ (x : ℕ). x * 2 ^ 23 + rounded h) (is ∙ ap (λ (t : Bool). pick t (126 + e) (125 - e)) (le-ltb _ _ l)) ∙ sym (lowered-normal e h (omega arith)) ∙ sym (ap (λ (t : Bool). pick t ((126 + e) * 2 ^ 23 + rounded h) (lowered e h)) (le-ltb _ _ l)))
 
-mul-if1 : tie.Need-mul-if1
-mul-if1 c = search needs
-
-add-if1 : tie.Need-add-if1
-add-if1 c = search needs
-
-sub-result : tie.Need-sub-result
-sub-result c = search needs
-
-shr-result : tie.Need-shr-result
-shr-result c = search needs
-
 add-result : tie.Need-add-result
 add-result c = omega (arith, few c)
 
@@ -61,20 +49,8 @@ cast-result c = omega (arith, few c)
 returns : tie.Need-returns
 returns c = let s = c .before .args .s in let e = c .before .args .e in let h = c .before .args .h in sym (ap (λ (t : Bool). pick t ((126 + e) * 2 ^ 23 + rounded h) (lowered e h)) (le-ltb s 1 (omega arith)) ∙ lowered-subnormal e h (deep s e (c .before .pre .0) (c .before .pre .1) (c .if1 .taken)))
 
-cast-field : tie.Need-cast-field
-cast-field c = search needs
-
-field-requires : tie.Need-field-requires
-field-requires c κs = search needs
-
 mul-result : tie.Need-mul-result
 mul-result c = let s = c .before .before in omega (arith, small (s .args .s) (s .args .e) (c .field .result) (c .field .ensures) (s .pre .1))
-
-add-result-2 : tie.Need-add-result-2
-add-result-2 c = search needs
-
-cast-result-2 : tie.Need-cast-result-2
-cast-result-2 c = search needs
 
 add-result-3 : tie.Need-add-result-3
 add-result-3 c = let s = c .before .before in omega (arith, small (s .args .s) (s .args .e) (c .field .result) (c .field .ensures) (s .pre .1))
@@ -85,18 +61,6 @@ returns-2 c = let s = c .before .before in normal (s .args .s) (s .args .e) (c .
 pub packed-spec : {M : Type 1} → statement M
 packed-spec =
     tie.close
-    (tie.spec
-    mul-if1
-    add-if1
-    sub-result
-    shr-result
-    add-result
-    cast-result
-    returns
-    cast-field
-    field-requires
-    mul-result
-    add-result-2
-    cast-result-2
-    add-result-3
-    returns-2)
+    (tie.spec (λ c. search needs) (λ c. search needs) (λ c. search needs) (λ c. search needs) add-result cast-result
+    returns (λ c. search needs) (λ c κs. search needs) mul-result (λ c. search needs) (λ c. search needs)
+    add-result-3 returns-2)

@@ -24,12 +24,6 @@ module _ (R f p : ℕ) (h : R ≤ ln2) (e : f ≡ factor R) (r : p ≡ riseOf (l
   unfolding powerOf
   is = ap₂ (λ (x y : ℕ). x + x / 2 ^ 32 * y / 2 ^ 4) e r
 
-sixteenth-requires : tie.Need-sixteenth-requires
-sixteenth-requires c κs = search needs
-
-rise-requires : tie.Need-rise-requires
-rise-requires c κs = search needs
-
 mul-result : tie.Need-mul-result
 mul-result c = let s = c .before .before in let b = bound (s .args .r) (c .before .sixteenth .result) (c .rise .result) (s .pre) (c .before .sixteenth .ensures) (c .rise .ensures) in omega arith
 
@@ -40,4 +34,4 @@ returns : tie.Need-returns
 returns c = let s = c .before .before in is (s .args .r) (c .before .sixteenth .result) (c .rise .result) (s .pre) (c .before .sixteenth .ensures) (c .rise .ensures)
 
 pub power-spec : {M : Type 1} → statement M
-power-spec = tie.close (tie.spec sixteenth-requires rise-requires mul-result add-result returns)
+power-spec = tie.close (tie.spec (λ c κs. search needs) (λ c κs. search needs) mul-result add-result returns)

@@ -45,15 +45,4 @@ unfolding term sumTo
 returns c = refl
 
 pub rise-spec : {M : Type 1} → statement M
-rise-spec =
-    tie.close
-    (tie.spec
-    mul-t2
-    mul-t3
-    mul-t4
-    mul-t5
-    add-result
-    add-result-2
-    add-result-3
-    add-result-4
-    returns)
+rise-spec = tie.close (tie.spec mul-t2 mul-t3 mul-t4 mul-t5 add-result add-result-2 add-result-3 add-result-4 returns)

@@ -20,17 +20,11 @@ unfolding grown shrunk
 joined true r x y e p q f = ap₂ (λ (z u : ℕ). (126 + z) * 2 ^ 23 + rounded u) f (sym p ∙ ap powerOf q)
 joined false r x y e p q f = ap₂ (λ (z u : ℕ). lowered z u) f (sym p ∙ ap powerOf q)
 
-folded-requires : tie.Need-folded-requires
-folded-requires c κs = search needs
-
 power-requires : tie.Need-power-requires
 power-requires c κs = let x = c .before .args .x in subst (λ (r : ℕ). r ≤ ln2) (sym (c .folded .ensures)) (picked (ltb (c .before .args .s) 1) (x % ln2) (ln2 - x % ln2) ln2 (omega arith) (omega arith))
-
-packed-requires : tie.Need-packed-requires
-packed-requires c κs = search needs
 
 returns : tie.Need-returns
 returns c = let s = c .before .before .before in c .packed .ensures ∙ joined (ltb (s .args .s) 1) (c .before .before .folded .result) (s .args .x) (c .before .power .result) (s .args .x / ln2) (sym (c .before .power .ensures)) (c .before .before .folded .ensures) refl
 
 pub signed-spec : {M : Type 1} → statement M
-signed-spec = tie.close (tie.spec folded-requires power-requires packed-requires returns)
+signed-spec = tie.close (tie.spec (λ c κs. search needs) power-requires (λ c κs. search needs) returns)

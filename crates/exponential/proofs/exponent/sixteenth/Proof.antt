@@ -4,7 +4,7 @@ use Prim.Native.Nat.{ℕ, _<_, _≤_}
 use native.Mathlib.Omega.{arith}
 use lib.ListN.{getD}
 use Rattle.exponential.specs.Tables.{sixteenths}
-use Rattle.series.proofs.Arms.{Others, from-up}
+use Rattle.cases.proofs.Arms.{Others, from-up}
 use Rattle.exponential.proofs.exponent.sixteenth.Statement.{statement}
 use Rattle.exponential.proofs.exponent.sixteenth.Tie as tie
 
@@ -21,16 +21,8 @@ last c = at (only (c .before .args .j) (c .before .pre) (from-up (c .before .arg
 pub sixteenth-spec : {M : Type 1} → statement M
 unfolding sixteenths
 sixteenth-spec =
-    tie.close (tie.spec
-    (λ c. at (c .match .keys1))
-    (λ c. at (c .match .keys2))
-    (λ c. at (c .match .keys3))
-    (λ c. at (c .match .keys4))
-    (λ c. at (c .match .keys5))
-    (λ c. at (c .match .keys6))
-    (λ c. at (c .match .keys7))
-    (λ c. at (c .match .keys8))
-    (λ c. at (c .match .keys9))
-    (λ c. at (c .match .keys10))
-    (λ c. at (c .match .keys11))
+    tie.close
+    (tie.spec (λ c. at (c .match .keys1)) (λ c. at (c .match .keys2)) (λ c. at (c .match .keys3))
+    (λ c. at (c .match .keys4)) (λ c. at (c .match .keys5)) (λ c. at (c .match .keys6)) (λ c. at (c .match .keys7))
+    (λ c. at (c .match .keys8)) (λ c. at (c .match .keys9)) (λ c. at (c .match .keys10)) (λ c. at (c .match .keys11))
     last)

@@ -2,7 +2,7 @@
 use mathlib.Core.Path.{sym, ap, _∙_, subst}
 use Prim.Native.Nat.{ℕ, _+_, _*_, _^_, _≤_}
 use native.Mathlib.Omega.{arith}
-use Rattle.series.proofs.Cases.{split}
+use Rattle.cases.proofs.Cases.{split}
 use Rattle.fixed.specs.Fixed.{pattern}
 use Rattle.exponential.specs.Tables.{ln2}
 use Rattle.exponential.specs.Ln.{above}
@@ -36,12 +36,6 @@ module _ (c : tie.After-rest) where
       many : (e y : ℕ) → 1 ≤ e → 2 ^ 30 ≤ e * ln2 + y
       many e y h = omega arith
 
-rest-requires : tie.Need-rest-requires
-rest-requires c κs = search needs
-
-mul-pack : tie.Need-mul-pack
-mul-pack c = search needs
-
 add-pack : tie.Need-add-pack
 add-pack c = omega (arith, most c)
 
@@ -53,4 +47,4 @@ unfolding above
 returns c = c .pack .ensures ∙ ap (λ (x : ℕ). pattern (c .before .before .args .e * ln2 + x)) (c .before .rest .ensures)
 
 pub above-bits-spec : {M : Type 1} → statement M
-above-bits-spec = tie.close (tie.spec rest-requires mul-pack add-pack pack-requires returns)
+above-bits-spec = tie.close (tie.spec (λ c κs. search needs) (λ c. search needs) add-pack pack-requires returns)

@@ -26,14 +26,8 @@ module _ (c : tie.After-rest) where
   most : y + 2 ^ 30 ≤ ln2
   most = subst (λ (x : ℕ). x + 2 ^ 30 ≤ ln2) (sym (c .rest .ensures)) (rest-le m (c .before .pre .0) (c .before .pre .1))
 
-small : (x p : ℕ) → x ≡ p → p < 255 * 2 ^ 23 → Fits w32 (2147483648 + x)
+small : (x p : ℕ) → x ≡ p → p < 255 * 2 ^ 23 → Fits w32 (0x8000_0000 + x)
 small x p e h = omega arith
-
-rest-requires : tie.Need-rest-requires
-rest-requires c κs = search needs
-
-mul-pack : tie.Need-mul-pack
-mul-pack c = search needs
 
 sub-pack : tie.Need-sub-pack
 sub-pack c = omega (arith, most c)
@@ -50,4 +44,5 @@ returns c = ap (λ (x : ℕ). 2 ^ 31 + x) (c .pack .ensures ∙ ap (λ (x : ℕ)
 
 pub below-bits-spec : {M : Type 1} → statement M
 below-bits-spec =
-    tie.close (tie.spec rest-requires mul-pack sub-pack pack-requires add-result returns)
+    tie.close
+    (tie.spec (λ c κs. search needs) (λ c. search needs) sub-pack pack-requires add-result returns)

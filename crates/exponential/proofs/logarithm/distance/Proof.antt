@@ -11,11 +11,8 @@ use Rattle.exponential.proofs.logarithm.distance.Tie as tie
 returns : tie.Need-returns
 returns c = sym (ap (λ (t : Bool). pick t (c .before .args .m - c .before .args .c) (c .before .args .c - c .before .args .m)) (le-leb _ _ (c .if1 .taken)))
 
-sub-result : tie.Need-sub-result
-sub-result c = search needs
-
 returns-2 : tie.Need-returns-2
 returns-2 c = sym (ap (λ (t : Bool). pick t (c .before .args .m - c .before .args .c) (c .before .args .c - c .before .args .m)) (lt-leb _ _ (c .if1 .left)))
 
 pub distance-spec : {M : Type 1} → statement M
-distance-spec = tie.close (tie.spec returns sub-result returns-2)
+distance-spec = tie.close (tie.spec returns (λ c. search needs) returns-2)

@@ -4,7 +4,7 @@ use Prim.Native.Nat.{ℕ, _<_, _≤_}
 use native.Mathlib.Omega.{arith}
 use lib.ListN.{getD}
 use Rattle.exponential.specs.Tables.{eighths}
-use Rattle.series.proofs.Arms.{Others, from-up}
+use Rattle.cases.proofs.Arms.{Others, from-up}
 use Rattle.exponential.proofs.logarithm.eighth.Statement.{statement}
 use Rattle.exponential.proofs.logarithm.eighth.Tie as tie
 
@@ -21,13 +21,7 @@ last c = at (only (c .before .args .i) (c .before .pre) (from-up (c .before .arg
 pub eighth-spec : {M : Type 1} → statement M
 unfolding eighths
 eighth-spec =
-    tie.close (tie.spec
-    (λ c. at (c .match .keys1))
-    (λ c. at (c .match .keys2))
-    (λ c. at (c .match .keys3))
-    (λ c. at (c .match .keys4))
-    (λ c. at (c .match .keys5))
-    (λ c. at (c .match .keys6))
-    (λ c. at (c .match .keys7))
-    (λ c. at (c .match .keys8))
-    last)
+    tie.close
+    (tie.spec (λ c. at (c .match .keys1)) (λ c. at (c .match .keys2)) (λ c. at (c .match .keys3))
+    (λ c. at (c .match .keys4)) (λ c. at (c .match .keys5)) (λ c. at (c .match .keys6)) (λ c. at (c .match .keys7))
+    (λ c. at (c .match .keys8)) last)

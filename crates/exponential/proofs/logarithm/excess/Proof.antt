@@ -22,8 +22,5 @@ mul-result c = omega (arith, small (c .args .s * c .args .s) (square (c .args .s
 add-result : tie.Need-add-result
 add-result c = omega (arith, excess-le (c .args .s) (c .pre))
 
-returns : tie.Need-returns
-returns c = search needs
-
 pub excess-spec : {M : Type 1} → statement M
-excess-spec = tie.close (tie.spec mul-u mul-result add-result returns)
+excess-spec = tie.close (tie.spec mul-u mul-result add-result (λ c. search needs))

@@ -5,7 +5,7 @@ use native.Mathlib.Omega.{arith}
 use native.Mathlib.Nat.{le-trans, le-of-eq, lt-of-lt-of-le, mod-eq-of-lt}
 use lib.Dec.{lit≤}
 use lib.Count.{leadingZeros}
-use Rattle.series.proofs.Cases.{split}
+use Rattle.cases.proofs.Cases.{split}
 use Rattle.exponential.specs.Ln.{below}
 use Rattle.exponential.proofs.LnCases.{ln-zero, ln-none, ln-inf, ln-1, ln-up, ln-down, ln-deep, Shifted, shifted}
 use borrow.Author.Needs.{needs}
@@ -24,7 +24,7 @@ more b d h n = split d b (λ l. l) (λ l. absurd (n (omega arith)))
 deep : (c : tie.Else6) → Shifted (c .before .before .before .before .before .args .b)
 deep c = shifted (c .before .before .before .before .before .args .b) (positive (c .before .before .before .before .before .args .b) (c .before .before .before .before .if1 .left)) (c .if6 .left)
 
-m-is : (c : tie.Else6) → let b = c .before .before .before .before .before .args .b in b * 2 ^ (leadingZeros 32 b - 8) % 4294967296 ≡ b * 2 ^ (leadingZeros 32 b - 8)
+m-is : (c : tie.Else6) → let b = c .before .before .before .before .before .args .b in b * 2 ^ (leadingZeros 32 b - 8) % 0x1_0000_0000 ≡ b * 2 ^ (leadingZeros 32 b - 8)
 m-is c = mod-eq-of-lt (lt-of-lt-of-le (deep c .below) (lit≤ tt))
 
 returns : tie.Need-returns
@@ -39,38 +39,11 @@ returns-3 c = sym (ln-inf (c .before .before .before .args .b) (c .if3 .taken))
 returns-4 : tie.Need-returns-4
 returns-4 c = sym (ln-1 (c .before .before .before .before .before .args .b) (c .if5 .taken))
 
-add-above-bits : tie.Need-add-above-bits
-add-above-bits c = search needs
-
-cast-above-bits : tie.Need-cast-above-bits
-cast-above-bits c = search needs
-
-sub-above-bits : tie.Need-sub-above-bits
-sub-above-bits c = search needs
-
-cast-above-bits-2 : tie.Need-cast-above-bits-2
-cast-above-bits-2 c = search needs
-
 above-bits-requires : tie.Need-above-bits-requires
 above-bits-requires c κs = let b = c .before .before .before .before .before .args .b in let g = less b 0x7f80_0000 (c .before .before .before .if2 .left) (c .before .before .if3 .left) in let f = more b 0x3f80_0000 (c .before .if4 .taken) (c .if5 .left) in (omega arith, omega arith, omega arith, omega arith)
 
 returns-5 : tie.Need-returns-5
 returns-5 c = let b = c .before .before .before .before .before .before .args .b in c .above-bits .ensures ∙ sym (ln-up b (more b 0x3f80_0000 (c .before .before .if4 .taken) (c .before .if5 .left)) (less b 0x7f80_0000 (c .before .before .before .before .if2 .left) (c .before .before .before .if3 .left)))
-
-add-below-bits : tie.Need-add-below-bits
-add-below-bits c = search needs
-
-cast-below-bits : tie.Need-cast-below-bits
-cast-below-bits c = search needs
-
-sub-below-bits : tie.Need-sub-below-bits
-sub-below-bits c = search needs
-
-cast-below-bits-2 : tie.Need-cast-below-bits-2
-cast-below-bits-2 c = search needs
-
-below-bits-requires : tie.Need-below-bits-requires
-below-bits-requires c κs = search needs
 
 returns-6 : tie.Need-returns-6
 returns-6 c = let b = c .before .before .before .before .before .before .args .b in c .below-bits .ensures ∙ sym (ln-down b (c .before .if6 .taken) (c .before .before .if4 .left))
@@ -80,9 +53,6 @@ sub-below-bits-2 c = omega (arith, deep c .zeros)
 
 shl-below-bits : tie.Need-shl-below-bits
 shl-below-bits c = omega (arith, deep c .most)
-
-cast-below-bits-3 : tie.Need-cast-below-bits-3
-cast-below-bits-3 c = search needs
 
 add-below-bits-2 : tie.Need-add-below-bits-2
 add-below-bits-2 c = omega (arith, deep c .most)
@@ -99,27 +69,7 @@ returns-7 c = let b = c .before .before .before .before .before .before .args .b
 pub ln-bits-spec : {M : Type 1} → statement M
 ln-bits-spec =
     tie.close
-    (tie.spec
-    returns
-    returns-2
-    returns-3
-    returns-4
-    add-above-bits
-    cast-above-bits
-    sub-above-bits
-    cast-above-bits-2
-    above-bits-requires
-    returns-5
-    add-below-bits
-    cast-below-bits
-    sub-below-bits
-    cast-below-bits-2
-    below-bits-requires
-    returns-6
-    sub-below-bits-2
-    shl-below-bits
-    cast-below-bits-3
-    add-below-bits-2
-    cast-below-bits-4
-    below-bits-requires-2
-    returns-7)
+    (tie.spec returns returns-2 returns-3 returns-4 (λ c. search needs) (λ c. search needs) (λ c. search needs)
+    (λ c. search needs) above-bits-requires returns-5 (λ c. search needs) (λ c. search needs) (λ c. search needs)
+    (λ c. search needs) (λ c κs. search needs) returns-6 sub-below-bits-2 shl-below-bits (λ c. search needs)
+    add-below-bits-2 cast-below-bits-4 below-bits-requires-2 returns-7)

@@ -44,24 +44,6 @@ module _ (m y n a : ℕ) (low : 2 ^ 23 ≤ m) (high : m < 2 ^ 24) (y-is : y ≡ 
   less : m < centre m → a ≤ y
   less h = subst₂ (λ (x z : ℕ). x ≤ z) (sym (a-down h)) (sym y-is) (taken m low high h)
 
-sub-i : tie.Need-sub-i
-sub-i c = search needs
-
-add-c : tie.Need-add-c
-add-c c = search needs
-
-mul-c : tie.Need-mul-c
-mul-c c = search needs
-
-eighth-requires : tie.Need-eighth-requires
-eighth-requires c κs = search needs
-
-distance-requires : tie.Need-distance-requires
-distance-requires c κs = search needs
-
-add-twice : tie.Need-add-twice
-add-twice c = search needs
-
 twice-requires : tie.Need-twice-requires
 twice-requires c κs = let s = c .before .before in (near (s .args .m) (c .before .eighth .result) (c .distance .result) (twiceOf (c .distance .result) (s .args .m + centre (s .args .m))) (s .pre .0) (s .pre .1) (c .before .eighth .ensures) (c .distance .ensures) refl, sum-ge (s .args .m) (s .pre .0) (s .pre .1))
 
@@ -80,15 +62,5 @@ returns-2 c = let s = c .before .before .before .before in downward (s .args .m)
 pub rest-spec : {M : Type 1} → statement M
 rest-spec =
     tie.close
-    (tie.spec
-    sub-i
-    add-c
-    mul-c
-    eighth-requires
-    distance-requires
-    add-twice
-    twice-requires
-    add-result
-    returns
-    sub-result
-    returns-2)
+    (tie.spec (λ c. search needs) (λ c. search needs) (λ c. search needs) (λ c κs. search needs)
+    (λ c κs. search needs) (λ c. search needs) twice-requires add-result returns sub-result returns-2)

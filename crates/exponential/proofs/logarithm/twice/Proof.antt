@@ -62,9 +62,6 @@ cast-q c = omega (arith, Z c .most)
 shl-q : tie.Need-shl-q
 shl-q c = omega (arith, Z c .most)
 
-div-q : tie.Need-div-q
-div-q c = search needs
-
 sub-excess : tie.Need-sub-excess
 sub-excess c = omega (arith, Z c .few)
 
@@ -102,19 +99,5 @@ returns-2 c = ap₂ (λ (x y : ℕ). lengthened x y * 2 ^ 20 / 2 ^ (leadingZeros
 pub twice-spec : {M : Type 1} → statement M
 twice-spec =
     tie.close
-    (tie.spec
-    returns
-    cast-q
-    shl-q
-    div-q
-    sub-excess
-    cast-excess
-    shr-excess
-    excess-requires
-    mul-result
-    add-result
-    mul-result-2
-    sub-result
-    cast-result
-    shr-result
-    returns-2)
+    (tie.spec returns cast-q shl-q (λ c. search needs) sub-excess cast-excess shr-excess excess-requires mul-result
+    add-result mul-result-2 sub-result cast-result shr-result returns-2)

@@ -4,9 +4,9 @@ use mathlib.Core.List.{List}
 use Prim.Native.Nat.{ℕ, _*_}
 use lib.IntN.{ℤ}
 use lib.ListN.{length}
-use Rattle.ionogram.specs.Fobby.{cellsAfter}
-use Rattle.ionogram.specs.declared.Ionogram.{Ionogram}
-use Rattle.port_ionogram.specs.Layouts.{cellsOf, cellsInto}
+use Rattle.reflectrix.specs.Fobby.{cellsAfter}
+use Rattle.reflectrix.specs.declared.Ionogram.{Ionogram}
+use Rattle.port_layouts.specs.Layouts.{cellsOf, cellsInto}
 use borrow.Author.Needs.{needs}
 use Rattle.port_ionogram.proofs.exports.fobby_by.Statement.{statement}
 use Rattle.port_ionogram.proofs.exports.fobby_by.Tie as tie
@@ -14,21 +14,6 @@ use Rattle.port_ionogram.proofs.exports.fobby_by.Tie as tie
 in-turn : (ion : Ionogram) (nang : ℕ) (cells : List ℕ) (n : ℕ) (c d : List ℤ) (w : List ℕ)
     → n ≡ 30 * nang → c ≡ cellsOf cells n → d ≡ cellsAfter ion nang c → w ≡ cellsInto cells d → w ≡ cellsInto cells (cellsAfter ion nang (cellsOf cells (30 * nang)))
 in-turn ion nang cells n c d w en ec ed ew = rw (ew, ed, ec, en)
-
-cells-of-requires : tie.Need-cells-of-requires
-cells-of-requires c κs = search needs
-
-fobby-requires : tie.Need-fobby-requires
-fobby-requires c κs = search needs
-
-cells-into-requires : tie.Need-cells-into-requires
-cells-into-requires c κs = search needs
-
-same-length : tie.Need-same-length
-same-length c = search needs
-
-same-length-2 : tie.Need-same-length-2
-same-length-2 c = search needs
 
 returns : tie.Need-returns
 returns c =
@@ -39,10 +24,5 @@ returns c =
 pub fobby-by-spec : {M : Type 1} → statement M
 fobby-by-spec =
     tie.close
-    (tie.spec
-    cells-of-requires
-    fobby-requires
-    cells-into-requires
-    same-length
-    same-length-2
-    returns)
+    (tie.spec (λ c κs. search needs) (λ c κs. search needs) (λ c κs. search needs) (λ c. search needs)
+    (λ c. search needs) returns)

@@ -18,27 +18,6 @@ returns-3 : tie.Need-returns-3
 unfolding portAlosfv
 returns-3 c = rw (le-ltb _ _ (c .before .before .if1 .left), le-ltb _ _ (c .before .if2 .left), lt-ltb _ _ (c .if3 .taken)) (refl, refl)
 
-state-of-requires : tie.Need-state-of-requires
-state-of-requires c κs = search needs
-
-ionogram-of-requires : tie.Need-ionogram-of-requires
-ionogram-of-requires c κs = search needs
-
-lines-of-requires : tie.Need-lines-of-requires
-lines-of-requires c κs = search needs
-
-wide-requires : tie.Need-wide-requires
-wide-requires c κs = search needs
-
-alosfv-requires : tie.Need-alosfv-requires
-alosfv-requires c κs = search needs
-
-rows-into-requires : tie.Need-rows-into-requires
-rows-into-requires c κs = search needs
-
-same-length : tie.Need-same-length
-same-length c = search needs
-
 returns-4 : tie.Need-returns-4
 unfolding portAlosfv
 returns-4 c = rw (le-ltb _ _ (c .before .before .before .before .before .before .before .before .before .before .before .before .if1 .left), le-ltb _ _ (c .before .before .before .before .before .before .before .before .before .before .before .if2 .left), le-ltb _ _ (c .before .before .before .before .before .before .before .before .before .before .if3 .left), ← c .before .before .before .before .before .before .before .before .before .state-of .ensures, ← c .before .before .before .before .before .before .before .ionogram-of .ensures, ← c .before .before .before .before .before .before .lines-of .ensures, ← c .before .before .before .before .before .wide .ensures, ← c .before .before .before .before .alosfv .ensures) (c .before .before .rows-into .ensures)
@@ -46,15 +25,5 @@ returns-4 c = rw (le-ltb _ _ (c .before .before .before .before .before .before 
 pub port-alosfv-spec : {M : Type 1} → statement M
 port-alosfv-spec =
     tie.close
-    (tie.spec
-    returns
-    returns-2
-    returns-3
-    state-of-requires
-    ionogram-of-requires
-    lines-of-requires
-    wide-requires
-    alosfv-requires
-    rows-into-requires
-    same-length
-    returns-4)
+    (tie.spec returns returns-2 returns-3 (λ c κs. search needs) (λ c κs. search needs) (λ c κs. search needs)
+    (λ c κs. search needs) (λ c κs. search needs) (λ c κs. search needs) (λ c. search needs) returns-4)

@@ -17,31 +17,16 @@ returns-2 c =
     let a = c .before .before .before .before .args in
     rw (fobby-many (a .ion .now) (a .nang) (a .cells .now) (c .before .if1 .left) (c .if2 .taken)) (refl, refl)
 
-wide-requires : tie.Need-wide-requires
-wide-requires c κs = search needs
-
-mul-count : tie.Need-mul-count
-mul-count c = search needs
-
 returns-3 : tie.Need-returns-3
 returns-3 c =
     let a = c .before .before .before .before .before .before .args in
     rw (fobby-short (a .ion .now) (a .nang) (a .cells .now) (c .before .before .before .if1 .left) (c .before .before .if2 .left) (rw (c .before .wide .ensures) at (c .if3 .taken))) (refl, refl)
-
-ionogram-of-requires : tie.Need-ionogram-of-requires
-ionogram-of-requires c κs = search needs
-
-array-borrow-prefix-c : tie.Need-array-borrow-prefix-c
-array-borrow-prefix-c c = search needs
 
 slice-aggregate-fobby-by : tie.Need-slice-aggregate-fobby-by
 slice-aggregate-fobby-by c = sym (prefix _ (rw (c .before .before .before .wide .ensures) (c .before .before .before .before .if2 .left)))
 
 fobby-by-requires : tie.Need-fobby-by-requires
 fobby-by-requires c κs = (prefix _ (rw (c .before .before .before .before .wide .ensures) (c .before .before .before .before .before .if2 .left)), c .before .before .before .if3 .left)
-
-same-length : tie.Need-same-length
-same-length c = search needs
 
 returns-4 : tie.Need-returns-4
 returns-4 c =
@@ -52,15 +37,5 @@ returns-4 c =
 pub port-fobby-spec : {M : Type 1} → statement M
 port-fobby-spec =
     tie.close
-    (tie.spec
-    returns
-    returns-2
-    wide-requires
-    mul-count
-    returns-3
-    ionogram-of-requires
-    array-borrow-prefix-c
-    slice-aggregate-fobby-by
-    fobby-by-requires
-    same-length
-    returns-4)
+    (tie.spec returns returns-2 (λ c κs. search needs) (λ c. search needs) returns-3 (λ c κs. search needs)
+    (λ c. search needs) slice-aggregate-fobby-by fobby-by-requires (λ c. search needs) returns-4)

@@ -14,21 +14,6 @@ returns-2 : tie.Need-returns-2
 unfolding portGenion
 returns-2 c = rw (le-ltb _ _ (c .before .if1 .left), lt-ltb _ _ (c .if2 .taken)) (refl, refl)
 
-state-of-requires : tie.Need-state-of-requires
-state-of-requires c κs = search needs
-
-wide-requires : tie.Need-wide-requires
-wide-requires c κs = search needs
-
-genion-requires : tie.Need-genion-requires
-genion-requires c κs = search needs
-
-rows-into-requires : tie.Need-rows-into-requires
-rows-into-requires c κs = search needs
-
-same-length : tie.Need-same-length
-same-length c = search needs
-
 returns-3 : tie.Need-returns-3
 unfolding portGenion
 returns-3 c = rw (le-ltb _ _ (c .before .before .before .before .before .before .before .before .if1 .left), le-ltb _ _ (c .before .before .before .before .before .before .before .if2 .left), ← c .before .before .before .before .before .before .state-of .ensures, ← c .before .before .before .before .before .wide .ensures, ← c .before .before .before .before .genion .ensures) (c .before .before .rows-into .ensures)
@@ -36,12 +21,5 @@ returns-3 c = rw (le-ltb _ _ (c .before .before .before .before .before .before 
 pub port-genion-spec : {M : Type 1} → statement M
 port-genion-spec =
     tie.close
-    (tie.spec
-    returns
-    returns-2
-    state-of-requires
-    wide-requires
-    genion-requires
-    rows-into-requires
-    same-length
-    returns-3)
+    (tie.spec returns returns-2 (λ c κs. search needs) (λ c κs. search needs) (λ c κs. search needs)
+    (λ c κs. search needs) (λ c. search needs) returns-3)

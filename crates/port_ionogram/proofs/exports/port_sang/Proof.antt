@@ -11,20 +11,8 @@ returns : tie.Need-returns
 unfolding portSang
 returns c = rw (lt-ltb _ _ (c .if1 .taken)) (refl, refl)
 
-number-requires : tie.Need-number-requires
-number-requires c κs = search needs
-
-number-requires-2 : tie.Need-number-requires-2
-number-requires-2 c κs = search needs
-
-sang-requires : tie.Need-sang-requires
-sang-requires c κs = search needs
-
 scan-into-requires : tie.Need-scan-into-requires
 scan-into-requires c κs = (c .before .before .before .before .if1 .left, rw (c .before .sang .ensures) (angles-range _ _))
-
-same-length : tie.Need-same-length
-same-length c = search needs
 
 returns-2 : tie.Need-returns-2
 unfolding portSang
@@ -33,11 +21,5 @@ returns-2 c = rw (le-ltb _ _ (c .before .before .before .before .before .before 
 pub port-sang-spec : {M : Type 1} → statement M
 port-sang-spec =
     tie.close
-    (tie.spec
-    returns
-    number-requires
-    number-requires-2
-    sang-requires
-    scan-into-requires
-    same-length
-    returns-2)
+    (tie.spec returns (λ c κs. search needs) (λ c κs. search needs) (λ c κs. search needs) scan-into-requires
+    (λ c. search needs) returns-2)

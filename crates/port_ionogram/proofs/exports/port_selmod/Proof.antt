@@ -16,22 +16,10 @@ returns-2 : tie.Need-returns-2
 unfolding portSelmod
 returns-2 c = rw (le-ltb _ _ (c .before .if1 .left), lt-ltb _ _ (c .if2 .taken)) (refl, refl)
 
-state-of-requires : tie.Need-state-of-requires
-state-of-requires c κs = search needs
-
-selmod-requires : tie.Need-selmod-requires
-selmod-requires c κs = search needs
-
 cast-out : tie.Need-cast-out
 cast-out c =
     let h : c .selmod .result ≤ 2 = rw (c .selmod .ensures) (selmod-range _) in
     search (needs, h)
-
-slice-write-out : tie.Need-slice-write-out
-slice-write-out c = search needs
-
-same-length : tie.Need-same-length
-same-length c = search needs
 
 returns-3 : tie.Need-returns-3
 unfolding portSelmod
@@ -40,12 +28,5 @@ returns-3 c = rw (le-ltb _ _ (c .before .before .before .if1 .left), le-ltb _ _ 
 pub port-selmod-spec : {M : Type 1} → statement M
 port-selmod-spec =
     tie.close
-    (tie.spec
-    returns
-    returns-2
-    state-of-requires
-    selmod-requires
-    cast-out
-    slice-write-out
-    same-length
-    returns-3)
+    (tie.spec returns returns-2 (λ c κs. search needs) (λ c κs. search needs) cast-out (λ c. search needs)
+    (λ c. search needs) returns-3)

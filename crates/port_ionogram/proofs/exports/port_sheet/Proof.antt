@@ -30,31 +30,10 @@ returns-5 c =
     let a = c .before .before .before .before .before .before .before .before .before .args in
     rw (sheet-refused (a .state .now) (a .k) (a .nang) (a .layers .now) (a .cells .now) (a .out .now) (c .before .before .before .before .if1 .left) (c .before .before .before .if2 .left) (c .before .before .if3 .left) Refusal.Reflectrix (angles-above (a .state .now) (a .k) (a .nang) (a .layers .now) (a .cells .now) (a .out .now) (c .before .if4 .left) (c .if5 .taken))) (refl, refl, refl, refl)
 
-wide-requires : tie.Need-wide-requires
-wide-requires c κs = search needs
-
-mul-if6 : tie.Need-mul-if6
-mul-if6 c = search needs
-
 returns-6 : tie.Need-returns-6
 returns-6 c =
     let a = c .before .before .before .before .before .before .before .before .before .before .before .args in
     rw (sheet-refused (a .state .now) (a .k) (a .nang) (a .layers .now) (a .cells .now) (a .out .now) (c .before .before .before .before .before .before .if1 .left) (c .before .before .before .before .before .if2 .left) (c .before .before .before .before .if3 .left) Refusal.Reflectrix (cells-short (a .state .now) (a .k) (a .nang) (a .layers .now) (a .cells .now) (a .out .now) (c .before .before .before .if4 .left) (c .before .before .if5 .left) (rw (c .before .wide .ensures) at (c .if6 .taken)))) (refl, refl, refl, refl)
-
-wide-requires-2 : tie.Need-wide-requires-2
-wide-requires-2 c κs = search needs
-
-sheet-into-requires : tie.Need-sheet-into-requires
-sheet-into-requires c κs = search needs
-
-same-length : tie.Need-same-length
-same-length c = search needs
-
-same-length-2 : tie.Need-same-length-2
-same-length-2 c = search needs
-
-same-length-3 : tie.Need-same-length-3
-same-length-3 c = search needs
 
 returns-7 : tie.Need-returns-7
 returns-7 c =
@@ -66,18 +45,6 @@ returns-7 c =
 pub port-sheet-spec : {M : Type 1} → statement M
 port-sheet-spec =
     tie.close
-    (tie.spec
-    returns
-    returns-2
-    returns-3
-    returns-4
-    returns-5
-    wide-requires
-    mul-if6
-    returns-6
-    wide-requires-2
-    sheet-into-requires
-    same-length
-    same-length-2
-    same-length-3
+    (tie.spec returns returns-2 returns-3 returns-4 returns-5 (λ c κs. search needs) (λ c. search needs) returns-6
+    (λ c κs. search needs) (λ c κs. search needs) (λ c. search needs) (λ c. search needs) (λ c. search needs)
     returns-7)

@@ -5,21 +5,6 @@ use borrow.Author.Needs.{needs}
 use Rattle.port_ionogram.proofs.exports.scan_into.Statement.{statement}
 use Rattle.port_ionogram.proofs.exports.scan_into.Tie as tie
 
-scan-number-requires : tie.Need-scan-number-requires
-scan-number-requires c κs = search needs
-
-scan-value-requires : tie.Need-scan-value-requires
-scan-value-requires c κs = search needs
-
-cast-out : tie.Need-cast-out
-cast-out c = search needs
-
-slice-write-out : tie.Need-slice-write-out
-slice-write-out c = search needs
-
-same-length : tie.Need-same-length
-same-length c = search needs
-
 returns : tie.Need-returns
 returns c = rw (← c .before .before .scan-number .ensures, eq-eqb _ _ (c .before .if1 .taken), ← c .scan-value .ensures) (refl, refl)
 
@@ -29,11 +14,5 @@ returns-2 c = rw (← c .before .scan-number .ensures, ne-eqb _ _ (c .if1 .left)
 pub scan-into-spec : {M : Type 1} → statement M
 scan-into-spec =
     tie.close
-    (tie.spec
-    scan-number-requires
-    scan-value-requires
-    cast-out
-    slice-write-out
-    same-length
-    returns
-    returns-2)
+    (tie.spec (λ c κs. search needs) (λ c κs. search needs) (λ c. search needs) (λ c. search needs)
+    (λ c. search needs) returns returns-2)

@@ -6,9 +6,9 @@ use lib.IntN.{ℤ}
 use lib.ListN.{length}
 use Rattle.layers.specs.declared.IonoState.{IonoState}
 use Rattle.layers.specs.declared.LayerMuf.{LayerMuf}
-use Rattle.hour.specs.Sheet.{slotSheetOf, sheetCellsOf}
-use Rattle.hour.specs.declared.SlotSheet.{SlotSheet}
-use Rattle.port_ionogram.specs.Layouts.{cellsOf, cellsInto}
+use Rattle.slot_sheet.specs.Sheet.{slotSheetOf, sheetCellsOf}
+use Rattle.slot_sheet.specs.declared.SlotSheet.{SlotSheet}
+use Rattle.port_layouts.specs.Layouts.{cellsOf, cellsInto}
 use borrow.Author.Needs.{needs}
 use Rattle.port_ionogram.proofs.exports.sheet_by.Statement.{statement}
 use Rattle.port_ionogram.proofs.exports.sheet_by.Tie as tie
@@ -17,21 +17,6 @@ in-turn : (s : IonoState) (k nang : ℕ) (layers : List LayerMuf) (cells : List 
     → n ≡ 30 * nang → c ≡ cellsOf cells n → a ≡ slotSheetOf s k nang layers c → d ≡ sheetCellsOf s k nang c → w ≡ cellsInto cells d
     → (a ≡ slotSheetOf s k nang layers (cellsOf cells (30 * nang))) × (w ≡ cellsInto cells (sheetCellsOf s k nang (cellsOf cells (30 * nang))))
 in-turn s k nang layers cells n a c d w en ec ea ed ew = (rw (ea, ec, en), rw (ew, ed, ec, en))
-
-cells-of-requires : tie.Need-cells-of-requires
-cells-of-requires c κs = search needs
-
-slot-sheet-requires : tie.Need-slot-sheet-requires
-slot-sheet-requires c κs = search needs
-
-cells-into-requires : tie.Need-cells-into-requires
-cells-into-requires c κs = search needs
-
-same-length : tie.Need-same-length
-same-length c = search needs
-
-same-length-2 : tie.Need-same-length-2
-same-length-2 c = search needs
 
 returns : tie.Need-returns
 returns c =
@@ -43,10 +28,5 @@ returns c =
 pub sheet-by-spec : {M : Type 1} → statement M
 sheet-by-spec =
     tie.close
-    (tie.spec
-    cells-of-requires
-    slot-sheet-requires
-    cells-into-requires
-    same-length
-    same-length-2
-    returns)
+    (tie.spec (λ c κs. search needs) (λ c κs. search needs) (λ c κs. search needs) (λ c. search needs)
+    (λ c. search needs) returns)

@@ -6,10 +6,10 @@ use Prim.Native.Nat.{ℕ, _*_}
 use native.Mathlib.Omega.{arith}
 use Rattle.layers.specs.declared.IonoState.{IonoState}
 use Rattle.layers.specs.declared.LayerMuf.{LayerMuf}
-use Rattle.hour.specs.Sheet.{slotSheetOf, sheetCellsOf}
-use Rattle.hour.specs.declared.SlotSheet.{SlotSheet}
+use Rattle.slot_sheet.specs.Sheet.{slotSheetOf, sheetCellsOf}
+use Rattle.slot_sheet.specs.declared.SlotSheet.{SlotSheet}
 use Rattle.port_state.specs.State.{stateOf, stateInto}
-use Rattle.port_ionogram.specs.Layouts.{cellsOf, cellsInto, ionogramInto, linesOf}
+use Rattle.port_layouts.specs.Layouts.{cellsOf, cellsInto, ionogramInto, linesOf}
 use Rattle.port_ionogram.specs.Exports.{sheetOn, sheetCellsOn}
 use borrow.Author.Needs.{needs}
 use Rattle.port_ionogram.proofs.exports.sheet_into.Statement.{statement}
@@ -22,38 +22,11 @@ in-turn : (state : List ℕ) (k nang : ℕ) (layers cells out : List ℕ) (s : I
 unfolding sheetOn sheetCellsOn
 in-turn state k nang layers cells out s lines a state' cells' out' es el ea ec et eo = (rw (et, ea, el, es), rw (ec, es), rw (eo, ea, el, es))
 
-state-of-requires : tie.Need-state-of-requires
-state-of-requires c κs = search needs
-
-lines-of-requires : tie.Need-lines-of-requires
-lines-of-requires c κs = search needs
-
-mul-count : tie.Need-mul-count
-mul-count c = search needs
-
-array-borrow-prefix-c : tie.Need-array-borrow-prefix-c
-array-borrow-prefix-c c = search needs
-
 slice-aggregate-sheet-by : tie.Need-slice-aggregate-sheet-by
 slice-aggregate-sheet-by c = sym (prefix (c .before .before .before .before .before .before .before .before .args .nang) (omega arith))
 
 sheet-by-requires : tie.Need-sheet-by-requires
 sheet-by-requires c κs = (prefix (c .before .before .before .before .before .before .before .before .before .args .nang) (omega arith), omega arith)
-
-state-into-requires : tie.Need-state-into-requires
-state-into-requires c κs = search needs
-
-ionogram-into-requires : tie.Need-ionogram-into-requires
-ionogram-into-requires c κs = search needs
-
-same-length : tie.Need-same-length
-same-length c = search needs
-
-same-length-2 : tie.Need-same-length-2
-same-length-2 c = search needs
-
-same-length-3 : tie.Need-same-length-3
-same-length-3 c = search needs
 
 returns : tie.Need-returns
 returns c =
@@ -69,16 +42,6 @@ returns c =
 pub sheet-into-spec : {M : Type 1} → statement M
 sheet-into-spec =
     tie.close
-    (tie.spec
-    state-of-requires
-    lines-of-requires
-    mul-count
-    array-borrow-prefix-c
-    slice-aggregate-sheet-by
-    sheet-by-requires
-    state-into-requires
-    ionogram-into-requires
-    same-length
-    same-length-2
-    same-length-3
-    returns)
+    (tie.spec (λ c κs. search needs) (λ c κs. search needs) (λ c. search needs) (λ c. search needs)
+    slice-aggregate-sheet-by sheet-by-requires (λ c κs. search needs) (λ c κs. search needs) (λ c. search needs)
+    (λ c. search needs) (λ c. search needs) returns)

@@ -12,15 +12,6 @@ use Rattle.port_muf.proofs.Floats.{not-in-domain, lists-short, taken-up
 use Rattle.port_muf.proofs.hour.called.Statement.{statement}
 use Rattle.port_muf.proofs.hour.called.Tie as tie
 
-in-domain-requires : tie.Need-in-domain-requires
-in-domain-requires c κs = search needs
-
-controlling-requires : tie.Need-controlling-requires
-controlling-requires c κs = search needs
-
-lists-reach-requires : tie.Need-lists-reach-requires
-lists-reach-requires c κs = search needs
-
 floats-576-requires : tie.Need-floats-576-requires
 floats-576-requires c κs = le-of-eq (sym (deciles-whole _ _ _ _ (sym (c .before .lists-reach .ensures) ∙ c .if2 .taken)))
 
@@ -33,9 +24,6 @@ mul-number c =
 shared-slice-read-number : tie.Need-shared-slice-read-number
 shared-slice-read-number c = lists-reach _ _ _ _ (sym (c .before .before .before .lists-reach .ensures) ∙ c .before .before .if2 .taken) .0
 
-number-requires : tie.Need-number-requires
-number-requires c κs = search needs
-
 mul-number-2 : tie.Need-mul-number-2
 mul-number-2 c =
     let b = c .before .before .before .before .before .controlling in
@@ -45,20 +33,11 @@ mul-number-2 c =
 shared-slice-read-number-2 : tie.Need-shared-slice-read-number-2
 shared-slice-read-number-2 c = lists-reach _ _ _ _ (sym (c .before .before .before .before .before .lists-reach .ensures) ∙ c .before .before .before .before .if2 .taken) .1
 
-number-requires-2 : tie.Need-number-requires-2
-number-requires-2 c κs = search needs
-
-row-count-requires : tie.Need-row-count-requires
-row-count-requires c κs = search needs
-
 word-rows-requires : tie.Need-word-rows-requires
 word-rows-requires c κs = rw (c .row-count .ensures) (rows-there _ _)
 
-slice-aggregate-worked : tie.Need-slice-aggregate-worked
-slice-aggregate-worked c = search needs
-
-worked-requires : tie.Need-worked-requires
-worked-requires c κs =
+muf-at-slot-requires : tie.Need-muf-at-slot-requires
+muf-at-slot-requires c κs =
     let b = c .before .before .before .before .before .before .before .before .before .before .controlling in
     rw (b .ensures) (controlling-small _)
 
@@ -67,7 +46,7 @@ returns c =
     let f = c .before .before .before .before .before .before .before .before in
     let q = f .before .before .before .before .before in
     let a = q .before .before .before .before .before .args in
-    c .worked .ensures
+    c .muf-at-slot .ensures
     ∙ taken-up (a .s) (a .es .now) (a .deciles .now) (a .clat .now) (a .clck .now) (a .c) _ _ _ _ _ (f .before .before .before .controlling .ensures)
     (sym (q .in-domain .ensures) ∙ f .before .before .before .before .if1 .taken)
     (sym (f .before .before .lists-reach .ensures) ∙ f .before .if2 .taken)
@@ -76,48 +55,26 @@ returns c =
     (c .before .before .before .before .before .before .number .ensures)
     (c .before .before .before .before .number2 .ensures)
 
-refused-done-requires : tie.Need-refused-done-requires
-refused-done-requires c κs = search needs
-
 returns-2 : tie.Need-returns-2
 returns-2 c =
     let q = c .before .before .before .before .before in
     let a = q .before .before .before .before .before .args in
-    c .refused-done .ensures
+    c .refused-rows-kept .ensures
     ∙ lists-short (a .s) (a .es .now) (a .deciles .now) (a .clat .now) (a .clck .now) (a .c) _ (c .before .before .before .controlling .ensures)
     (sym (q .in-domain .ensures) ∙ c .before .before .before .before .if1 .taken)
     (sym (c .before .before .lists-reach .ensures) ∙ c .before .if2 .left)
-
-refused-done-requires-2 : tie.Need-refused-done-requires-2
-refused-done-requires-2 c κs = search needs
 
 returns-3 : tie.Need-returns-3
 returns-3 c =
     let q = c .before .before in
     let a = q .before .before .before .before .before .args in
-    c .refused-done2 .ensures
+    c .refused-rows-kept2 .ensures
     ∙ not-in-domain (a .s) (a .es .now) (a .deciles .now) (a .clat .now) (a .clck .now) (a .c) (sym (q .in-domain .ensures) ∙ c .before .if1 .left)
 
 pub called-spec : {M : Type 1} → statement M
 called-spec =
     tie.close
-    (tie.spec
-    in-domain-requires
-    controlling-requires
-    lists-reach-requires
-    floats-576-requires
-    mul-number
-    shared-slice-read-number
-    number-requires
-    mul-number-2
-    shared-slice-read-number-2
-    number-requires-2
-    row-count-requires
-    word-rows-requires
-    slice-aggregate-worked
-    worked-requires
-    returns
-    refused-done-requires
-    returns-2
-    refused-done-requires-2
-    returns-3)
+    (tie.spec (λ c κs. search needs) (λ c κs. search needs) (λ c κs. search needs) floats-576-requires mul-number
+    shared-slice-read-number (λ c κs. search needs) mul-number-2 shared-slice-read-number-2 (λ c κs. search needs)
+    (λ c κs. search needs) word-rows-requires (λ c. search needs) muf-at-slot-requires returns (λ c κs. search needs)
+    returns-2 (λ c κs. search needs) returns-3)

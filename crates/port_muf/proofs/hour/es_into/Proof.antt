@@ -7,17 +7,11 @@ use Rattle.port_muf.proofs.hour.es_into.Tie as tie
 mul-at : tie.Need-mul-at
 mul-at c = let h = c .before .before .pre (c .if1 .taken) in omega arith
 
-bits-requires : tie.Need-bits-requires
-bits-requires c κs = search needs
-
 mul-es : tie.Need-mul-es
 mul-es c = let h = c .before .before .before .pre (c .before .if1 .taken) in omega arith
 
 slice-write-es : tie.Need-slice-write-es
 slice-write-es c = c .before .before .before .pre (c .before .if1 .taken)
-
-same-length : tie.Need-same-length
-same-length c = search needs
 
 returns : tie.Need-returns
 returns c = rw (c .before .if1 .taken, ← c .bits .ensures)
@@ -28,4 +22,4 @@ returns-2 c = rw (c .if1 .left)
 pub es-into-spec : {M : Type 1} → statement M
 es-into-spec =
     tie.close
-    (tie.spec mul-at bits-requires mul-es slice-write-es same-length returns returns-2)
+    (tie.spec mul-at (λ c κs. search needs) mul-es slice-write-es (λ c. search needs) returns returns-2)

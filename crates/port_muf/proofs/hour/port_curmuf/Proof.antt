@@ -18,30 +18,12 @@ returns-3 : tie.Need-returns-3
 unfolding curmufLeft
 returns-3 c = rw (le-ltb _ _ (c .before .before .if1 .left), le-ltb _ _ (c .before .if2 .left), lt-ltb _ _ (c .if3 .taken))
 
-state-of-requires : tie.Need-state-of-requires
-state-of-requires c κs = search needs
-
-circuit-of-requires : tie.Need-circuit-of-requires
-circuit-of-requires c κs = search needs
-
-called-requires : tie.Need-called-requires
-called-requires c κs = search needs
-
 done-into-requires : tie.Need-done-into-requires
 done-into-requires c κs =
     let d = c .before .before .before in
     let f = d .before .before .before .before .before in
     let a = f .before .before .before .before .before .before .before .before .before .before .args in
     (f .before .before .if1 .left, f .if3 .left, row-there _ (a .es .now) (a .deciles .now) (a .clat .now) (a .clck .now) _ _ (d .called .ensures))
-
-same-length : tie.Need-same-length
-same-length c = search needs
-
-same-length-2 : tie.Need-same-length-2
-same-length-2 c = search needs
-
-same-length-3 : tie.Need-same-length-3
-same-length-3 c = search needs
 
 returns-4 : tie.Need-returns-4
 unfolding curmufLeft
@@ -54,7 +36,7 @@ returns-4 c =
       le-ltb _ _ (f .before .if2 .left),
       le-ltb _ _ (f .if3 .left),
       ← d .before .before .before .state-of .ensures,
-      ← d .before .before .circuit-of .ensures,
+      ← d .before .before .path-numbers-of .ensures,
       ← d .called .ensures,
     )
     (w .done-into .ensures)
@@ -62,15 +44,5 @@ returns-4 c =
 pub port-curmuf-spec : {M : Type 1} → statement M
 port-curmuf-spec =
     tie.close
-    (tie.spec
-    returns
-    returns-2
-    returns-3
-    state-of-requires
-    circuit-of-requires
-    called-requires
-    done-into-requires
-    same-length
-    same-length-2
-    same-length-3
-    returns-4)
+    (tie.spec returns returns-2 returns-3 (λ c κs. search needs) (λ c κs. search needs) (λ c κs. search needs)
+    done-into-requires (λ c. search needs) (λ c. search needs) (λ c. search needs) returns-4)

@@ -3,9 +3,9 @@ use mathlib.Core.Path.{_≡_}
 use Prim.Native.Nat.{_≤_, _-_}
 use native.Mathlib.Omega.{arith}
 use borrow.Author.Needs.{needs}
-use Rattle.muf.specs.Sporadic.{rowAt, esFrom, startOf}
+use Rattle.sporadic.specs.Sporadic.{rowAt, esFrom, startOf}
 use Rattle.port_muf.specs.Exports.{floats}
-use Rattle.muf.proofs.Rows.{one-more, none-left}
+use Rattle.sporadic.proofs.Searches.{one-more, none-left}
 use Rattle.port_muf.proofs.hour.word_rows.Statement.{statement}
 use Rattle.port_muf.proofs.hour.word_rows.Tie as tie
 
@@ -15,37 +15,16 @@ Inv-loop es n c a₀ k₀ a k = (k ≤ n) × (esFrom (rowAt (floats es)) c (n - 
 abbrev μ-loop : tie.MeasureT-loop
 μ-loop es n c a₀ k₀ a k = n - k
 
-es-start-requires : tie.Need-es-start-requires Inv-loop μ-loop
-es-start-requires c κs = search needs
-
 loop-holds : tie.Need-loop-holds Inv-loop μ-loop
 loop-holds c =
     let e : c .before .before .args .n - 0 ≡ c .before .before .args .n = omega arith in
     (omega arith, rw (c .es-start .ensures, e))
-
-word-row-requires : tie.Need-word-row-requires Inv-loop μ-loop
-word-row-requires c κs = omega arith
-
-es-row-requires : tie.Need-es-row-requires Inv-loop μ-loop
-es-row-requires c κs = search needs
-
-enum-known-step : tie.Need-enum-known-step Inv-loop μ-loop
-enum-known-step c = search needs
 
 returns : tie.Need-returns Inv-loop μ-loop
 returns c =
     let b = c .before .before .before in
     let q = b .before .before .before .loop in
     rw (one-more _ _ _ _ _ (b .before .before .loop-test .taken), ← b .before .word-row .ensures, ← b .es-row .ensures, c .before .step .given .1) at (q .inv .1)
-
-enum-known-step-2 : tie.Need-enum-known-step-2 Inv-loop μ-loop
-enum-known-step-2 c = search needs
-
-add-k : tie.Need-add-k Inv-loop μ-loop
-add-k c = omega arith
-
-loop-less : tie.Need-loop-less Inv-loop μ-loop
-loop-less c = omega arith
 
 loop-again : tie.Need-loop-again Inv-loop μ-loop
 loop-again c =
@@ -64,17 +43,5 @@ returns-2 c =
 pub word-rows-spec : {M : Type 1} → statement M
 word-rows-spec =
     tie.close
-    (tie.spec
-    Inv-loop
-    μ-loop
-    es-start-requires
-    loop-holds
-    word-row-requires
-    es-row-requires
-    enum-known-step
-    returns
-    enum-known-step-2
-    add-k
-    loop-less
-    loop-again
-    returns-2)
+    (tie.spec Inv-loop μ-loop (λ c κs. search needs) loop-holds (λ c κs. omega arith) (λ c κs. search needs)
+    (λ c. search needs) returns (λ c. search needs) (λ c. omega arith) (λ c. omega arith) loop-again returns-2)

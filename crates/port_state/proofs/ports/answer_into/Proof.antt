@@ -5,21 +5,6 @@ use borrow.Author.Needs.{needs}
 use Rattle.port_state.proofs.ports.answer_into.Statement.{statement}
 use Rattle.port_state.proofs.ports.answer_into.Tie as tie
 
-enum-told : tie.Need-enum-told
-enum-told c = search needs
-
-state-into-requires : tie.Need-state-into-requires
-state-into-requires c κs = search needs
-
-enum-known-o : tie.Need-enum-known-o
-enum-known-o c = search needs
-
-number-requires : tie.Need-number-requires
-number-requires c κs = search needs
-
-same-length : tie.Need-same-length
-same-length c = search needs
-
 returns : tie.Need-returns
 unfolding answerOf
 returns c = rw (c .before .before .before .before .before .enum-told .given .1) (refl, c .before .before .state-into .ensures)
@@ -31,11 +16,5 @@ returns-2 c = rw (c .before .before .o .given .1) (c .number .ensures, refl)
 pub answer-into-spec : {M : Type 1} → statement M
 answer-into-spec =
     tie.close
-    (tie.spec
-    enum-told
-    state-into-requires
-    enum-known-o
-    number-requires
-    same-length
-    returns
-    returns-2)
+    (tie.spec (λ c. search needs) (λ c κs. search needs) (λ c. search needs) (λ c κs. search needs)
+    (λ c. search needs) returns returns-2)

@@ -15,27 +15,9 @@ Inv-loop points n l₀ k₀ l k = (k ≤ n) × (l ≡ pointsOf points k)
 abbrev μ-loop : tie.MeasureT-loop
 μ-loop points n l₀ k₀ l k = n - k
 
-zero-point-requires : tie.Need-zero-point-requires Inv-loop μ-loop
-zero-point-requires c κs = search needs
-
 loop-holds : tie.Need-loop-holds Inv-loop μ-loop
 unfolding pointsOf
 loop-holds c = (omega arith, rw (c .zero-point .ensures))
-
-point-of-requires : tie.Need-point-of-requires Inv-loop μ-loop
-point-of-requires c κs = omega arith
-
-mul-l : tie.Need-mul-l Inv-loop μ-loop
-mul-l c = omega arith
-
-array-set-from-l : tie.Need-array-set-from-l Inv-loop μ-loop
-array-set-from-l c = omega arith
-
-add-k : tie.Need-add-k Inv-loop μ-loop
-add-k c = omega arith
-
-loop-less : tie.Need-loop-less Inv-loop μ-loop
-loop-less c = omega arith
 
 loop-again : tie.Need-loop-again Inv-loop μ-loop
 unfolding pointsOf
@@ -47,15 +29,5 @@ returns c = let k≡n = le-antisymm (c .before .loop .inv .0) (c .loop-test .lef
 pub points-of-spec : {M : Type 1} → statement M
 points-of-spec =
     tie.close
-    (tie.spec
-    Inv-loop
-    μ-loop
-    zero-point-requires
-    loop-holds
-    point-of-requires
-    mul-l
-    array-set-from-l
-    add-k
-    loop-less
-    loop-again
-    returns)
+    (tie.spec Inv-loop μ-loop (λ c κs. search needs) loop-holds (λ c κs. omega arith) (λ c. omega arith)
+    (λ c. omega arith) (λ c. omega arith) (λ c. omega arith) loop-again returns)

@@ -6,18 +6,6 @@ use borrow.Author.Needs.{needs}
 use Rattle.port_state.proofs.ports.port_from_layers.Statement.{statement}
 use Rattle.port_state.proofs.ports.port_from_layers.Tie as tie
 
-points-of-requires : tie.Need-points-of-requires
-points-of-requires c κs = search needs
-
-from-layers-requires : tie.Need-from-layers-requires
-from-layers-requires c κs = search needs
-
-answer-into-requires : tie.Need-answer-into-requires
-answer-into-requires c κs = search needs
-
-same-length : tie.Need-same-length
-same-length c = search needs
-
 returns : tie.Need-returns
 unfolding portFromLayers
 returns c = rw (le-leb _ _ (c .before .before .before .before .before .before .before .before .if1 .taken), eq-eqb _ _ (c .before .before .before .before .before .before .before .if2 .taken), le-leb _ _ (c .before .before .before .before .before .before .if3 .taken), ← c .before .before .before .before .before .points-of .ensures, ← c .before .before .before .before .from-layers .ensures) (c .before .before .answer-into .ensures)
@@ -37,12 +25,5 @@ returns-4 c = rw (lt-leb _ _ (c .if1 .left)) (refl, refl)
 pub port-from-layers-spec : {M : Type 1} → statement M
 port-from-layers-spec =
     tie.close
-    (tie.spec
-    points-of-requires
-    from-layers-requires
-    answer-into-requires
-    same-length
-    returns
-    returns-2
-    returns-3
-    returns-4)
+    (tie.spec (λ c κs. search needs) (λ c κs. search needs) (λ c κs. search needs) (λ c. search needs) returns
+    returns-2 returns-3 returns-4)

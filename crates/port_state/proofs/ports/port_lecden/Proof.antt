@@ -6,21 +6,6 @@ use borrow.Author.Needs.{needs}
 use Rattle.port_state.proofs.ports.port_lecden.Statement.{statement}
 use Rattle.port_state.proofs.ports.port_lecden.Tie as tie
 
-state-of-requires : tie.Need-state-of-requires
-state-of-requires c κs = search needs
-
-wide-requires : tie.Need-wide-requires
-wide-requires c κs = search needs
-
-lecden-requires : tie.Need-lecden-requires
-lecden-requires c κs = search needs
-
-answer-into-requires : tie.Need-answer-into-requires
-answer-into-requires c κs = search needs
-
-same-length : tie.Need-same-length
-same-length c = search needs
-
 returns : tie.Need-returns
 unfolding portLecden
 returns c = rw (le-leb _ _ (c .before .before .before .before .before .before .before .before .if1 .taken), ← c .before .before .before .before .before .before .state-of .ensures, ← c .before .before .before .before .before .wide .ensures, ← c .before .before .before .before .lecden .ensures) (c .before .before .answer-into .ensures)
@@ -32,11 +17,5 @@ returns-2 c = rw (lt-leb _ _ (c .if1 .left)) (refl, refl)
 pub port-lecden-spec : {M : Type 1} → statement M
 port-lecden-spec =
     tie.close
-    (tie.spec
-    state-of-requires
-    wide-requires
-    lecden-requires
-    answer-into-requires
-    same-length
-    returns
-    returns-2)
+    (tie.spec (λ c κs. search needs) (λ c κs. search needs) (λ c κs. search needs) (λ c κs. search needs)
+    (λ c. search needs) returns returns-2)

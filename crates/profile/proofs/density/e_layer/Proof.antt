@@ -4,9 +4,6 @@ use borrow.Author.Needs.{needs}
 use Rattle.profile.proofs.density.e_layer.Statement.{statement}
 use Rattle.profile.proofs.density.e_layer.Tie as tie
 
-parabola-requires : tie.Need-parabola-requires
-parabola-requires c κs = search needs
-
 returns : tie.Need-returns
 unfolding fneOf
 returns c = rw (c .before .before .before .if1 .taken, c .before .if2 .taken, ← c .parabola .ensures)
@@ -20,4 +17,4 @@ unfolding fneOf
 returns-3 c = rw (c .if1 .left)
 
 pub e-layer-spec : {M : Type 1} → statement M
-e-layer-spec = tie.close (tie.spec parabola-requires returns returns-2 returns-3)
+e-layer-spec = tie.close (tie.spec (λ c κs. search needs) returns returns-2 returns-3)

@@ -8,9 +8,6 @@ returns : tie.Need-returns
 unfolding fn1Of
 returns c = rw (c .before .before .before .before .before .before .before .if1 .taken, c .before .before .before .before .before .if2 .taken, c .before .before .before .if3 .taken, c .before .before .if4 .taken)
 
-parabola-requires : tie.Need-parabola-requires
-parabola-requires c κs = search needs
-
 returns-2 : tie.Need-returns-2
 unfolding fn1Of
 returns-2 c = rw (c .before .before .before .before .before .before .if1 .taken, c .before .before .before .before .if2 .taken, c .before .before .if3 .taken, c .before .if4 .left, ← c .parabola .ensures)
@@ -28,5 +25,4 @@ unfolding fn1Of
 returns-5 c = rw (c .if1 .left)
 
 pub f1-layer-spec : {M : Type 1} → statement M
-f1-layer-spec =
-    tie.close (tie.spec returns parabola-requires returns-2 returns-3 returns-4 returns-5)
+f1-layer-spec = tie.close (tie.spec returns (λ c κs. search needs) returns-2 returns-3 returns-4 returns-5)

@@ -4,9 +4,6 @@ use borrow.Author.Needs.{needs}
 use Rattle.profile.proofs.density.f2_layer.Statement.{statement}
 use Rattle.profile.proofs.density.f2_layer.Tie as tie
 
-parabola-requires : tie.Need-parabola-requires
-parabola-requires c κs = search needs
-
 returns : tie.Need-returns
 unfolding fn2Of
 returns c = rw (c .before .if1 .taken, ← c .parabola .ensures)
@@ -16,4 +13,4 @@ unfolding fn2Of
 returns-2 c = rw (c .if1 .left)
 
 pub f2-layer-spec : {M : Type 1} → statement M
-f2-layer-spec = tie.close (tie.spec parabola-requires returns returns-2)
+f2-layer-spec = tie.close (tie.spec (λ c κs. search needs) returns returns-2)

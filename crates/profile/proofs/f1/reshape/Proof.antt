@@ -4,31 +4,13 @@ use borrow.Author.Needs.{needs}
 use Rattle.profile.proofs.f1.reshape.Statement.{statement}
 use Rattle.profile.proofs.f1.reshape.Tie as tie
 
-sqrt-requires : tie.Need-sqrt-requires
-sqrt-requires c κs = search needs
-
-min-requires : tie.Need-min-requires
-min-requires c κs = search needs
-
 returns : tie.Need-returns
 unfolding f1Of
 returns c = rw (c .before .before .before .before .before .before .before .before .before .before .before .if1 .taken, ← c .before .before .before .before .before .before .sqrt .ensures, c .before .before .if2 .taken, ← c .min .ensures)
 
-max-requires : tie.Need-max-requires
-max-requires c κs = search needs
-
-min-requires-2 : tie.Need-min-requires-2
-min-requires-2 c κs = search needs
-
 returns-2 : tie.Need-returns-2
 unfolding f1Of
 returns-2 c = rw (c .before .before .before .before .before .before .before .before .before .before .before .before .before .before .before .if1 .taken, ← c .before .before .before .before .before .before .before .before .before .before .sqrt .ensures, c .before .before .before .before .before .before .if2 .left, ← c .before .before .before .before .before .max .ensures, c .before .before .before .if3 .taken, ← c .min2 .ensures)
-
-max-requires-2 : tie.Need-max-requires-2
-max-requires-2 c κs = search needs
-
-sqrt-requires-2 : tie.Need-sqrt-requires-2
-sqrt-requires-2 c κs = search needs
 
 returns-3 : tie.Need-returns-3
 unfolding f1Of
@@ -45,15 +27,5 @@ returns-5 c = rw (c .if1 .left)
 pub reshape-spec : {M : Type 1} → statement M
 reshape-spec =
     tie.close
-    (tie.spec
-    sqrt-requires
-    min-requires
-    returns
-    max-requires
-    min-requires-2
-    returns-2
-    max-requires-2
-    sqrt-requires-2
-    returns-3
-    returns-4
-    returns-5)
+    (tie.spec (λ c κs. search needs) (λ c κs. search needs) returns (λ c κs. search needs) (λ c κs. search needs)
+    returns-2 (λ c κs. search needs) (λ c κs. search needs) returns-3 returns-4 returns-5)

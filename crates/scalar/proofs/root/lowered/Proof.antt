@@ -13,12 +13,6 @@ Inv-loop n guess r₀ r = r < 2 ^ 25
 abbrev μ-loop : tie.MeasureT-loop
 μ-loop n guess r₀ r = r
 
-loop-holds : tie.Need-loop-holds Inv-loop μ-loop
-loop-holds c = omega arith
-
-add-loop : tie.Need-add-loop Inv-loop μ-loop
-add-loop c = omega arith
-
 mul-loop : tie.Need-mul-loop Inv-loop μ-loop
 mul-loop c = record { fits = lt-of-le-of-lt (mul-le-mul (le-of-lt (c .loop .inv)) (le-of-lt (c .loop .inv))) (lit< tt) }
 
@@ -28,11 +22,8 @@ sub-r c = guess-pos (c .before .before .args .n) (c .before .loop .r) (c .before
 loop-less : tie.Need-loop-less Inv-loop μ-loop
 loop-less c = omega (arith, guess-pos (c .before .before .args .n) (c .before .loop .r) (c .before .before .pre .0) (c .loop-test .taken))
 
-loop-again : tie.Need-loop-again Inv-loop μ-loop
-loop-again c = omega arith
-
-returns : tie.Need-returns Inv-loop μ-loop
-returns c = omega arith
-
 pub lowered-spec : {M : Type 1} → statement M
-lowered-spec = tie.close (tie.spec Inv-loop μ-loop loop-holds add-loop mul-loop sub-r loop-less loop-again returns)
+lowered-spec =
+    tie.close
+    (tie.spec Inv-loop μ-loop (λ c. omega arith) (λ c. omega arith) mul-loop sub-r loop-less (λ c. omega arith)
+    (λ c. omega arith))

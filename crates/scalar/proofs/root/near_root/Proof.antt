@@ -50,12 +50,6 @@ int-to-float-w : tie.Need-int-to-float-w
 unfolding inFloat
 int-to-float-w c = le→leb (c .before .args .n) (2 ^ 53) (omega arith)
 
-mul-y : tie.Need-mul-y
-mul-y c = search needs
-
-sub-y : tie.Need-sub-y
-sub-y c = search needs
-
 float-from-bits-y : tie.Need-float-from-bits-y
 float-from-bits-y c = number-pattern-64 _ (omega arith)
 
@@ -69,8 +63,8 @@ float-to-bits-result c =
     (bits-small 54 4621118784733092990 (lit≤ tt) (lit< tt)) (bits-small 172 4640028094607903140 (lit≤ tt) (lit< tt))
     (bits-small 352 4671754589461097391 (lit≤ tt) (lit< tt)) (bits-small 468 4922434392715952128 (lit≤ tt) (lit< tt)))
 
-returns : tie.Need-returns
-returns c = search needs
-
 pub near-root-spec : {M : Type 1} → statement M
-near-root-spec = tie.close (tie.spec int-to-float-w mul-y sub-y float-from-bits-y float-to-bits-result returns)
+near-root-spec =
+    tie.close
+    (tie.spec int-to-float-w (λ c. search needs) (λ c. search needs) float-from-bits-y float-to-bits-result
+    (λ c. search needs))

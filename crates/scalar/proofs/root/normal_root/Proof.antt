@@ -26,32 +26,11 @@ known c =
     let e : b / 2 ^ 23 - 1 + 126 - z ≡ h c = omega arith in
     subst (λ (x : ℕ). Rooted (digits b) (b / 2 ^ 23 - 1) (m c) x) e (rooted (digits b) (b / 2 ^ 23 - 1) z (omega arith) (omega arith) (omega arith) (c .spare-zeros .ensures .0))
 
-add-digits : tie.Need-add-digits
-add-digits c = search needs
-
-spare-zeros-requires : tie.Need-spare-zeros-requires
-spare-zeros-requires c κs = search needs
-
-mul-root-pattern : tie.Need-mul-root-pattern
-mul-root-pattern c = search needs
-
 shl-root-pattern : tie.Need-shl-root-pattern
 shl-root-pattern c = omega (arith, c .spare-zeros .ensures .1)
 
-add-root-pattern : tie.Need-add-root-pattern
-add-root-pattern c = search needs
-
 sub-root-pattern : tie.Need-sub-root-pattern
 sub-root-pattern c = omega (arith, c .spare-zeros .ensures .1)
-
-mul-root-pattern-2 : tie.Need-mul-root-pattern-2
-mul-root-pattern-2 c = search needs
-
-add-root-pattern-2 : tie.Need-add-root-pattern-2
-add-root-pattern-2 c = search needs
-
-root-pattern-requires : tie.Need-root-pattern-requires
-root-pattern-requires c κs = search needs
 
 result-is : (c : tie.After-root-pattern) → c .root-pattern .result ≡ rootPattern (m (c .before)) (h (c .before))
 result-is c =
@@ -70,4 +49,5 @@ returns c =
 pub normal-root-spec : {M : Type 1} → statement M
 normal-root-spec =
     tie.close
-    (tie.spec add-digits spare-zeros-requires mul-root-pattern shl-root-pattern add-root-pattern sub-root-pattern mul-root-pattern-2 add-root-pattern-2 root-pattern-requires returns)
+    (tie.spec (λ c. search needs) (λ c κs. search needs) (λ c. search needs) shl-root-pattern (λ c. search needs)
+    sub-root-pattern (λ c. search needs) (λ c. search needs) (λ c κs. search needs) returns)

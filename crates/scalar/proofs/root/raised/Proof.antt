@@ -23,9 +23,6 @@ add-loop c = omega (arith, guess-lt (c .before .args .n) (c .loop .r) (c .before
 add-r : tie.Need-add-r Inv-loop μ-loop
 add-r c = omega (arith, guess-lt (c .before .before .args .n) (c .before .loop .r) (c .before .before .pre .0) (c .before .loop .inv))
 
-loop-less : tie.Need-loop-less Inv-loop μ-loop
-loop-less c = omega arith
-
 loop-again : tie.Need-loop-again Inv-loop μ-loop
 loop-again c = next (c .before .before .args .n) (c .before .loop .r) (c .loop-test .taken)
   where
@@ -36,4 +33,6 @@ returns : tie.Need-returns Inv-loop μ-loop
 returns c = rounded (c .before .before .args .n) (c .before .loop .r) (c .before .loop .inv) (omega arith)
 
 pub raised-spec : {M : Type 1} → statement M
-raised-spec = tie.close (tie.spec Inv-loop μ-loop loop-holds mul-loop add-loop add-r loop-less loop-again returns)
+raised-spec =
+    tie.close
+    (tie.spec Inv-loop μ-loop loop-holds mul-loop add-loop add-r (λ c. omega arith) loop-again returns)

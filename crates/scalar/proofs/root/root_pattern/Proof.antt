@@ -50,35 +50,14 @@ result-is c = c .rounded-root .ensures ∙ ap (λ (x : ℕ). (root x + 1) / 2) (
 result-le : (c : tie.After-rounded-root) → c .rounded-root .result ≤ 2 ^ 24
 result-le c = let e = c .before .before .args .e in subst (λ (x : ℕ). x ≤ 2 ^ 24) (sym (result-is c)) (digits-in (m e) (h e) (m-low e) (m-high e) .1)
 
-add-m : tie.Need-add-m
-add-m c = search needs
-
-mul-scale : tie.Need-mul-scale
-mul-scale c = search needs
-
-add-scale : tie.Need-add-scale
-add-scale c = search needs
-
-cast-n : tie.Need-cast-n
-cast-n c = search needs
-
-cast-n-2 : tie.Need-cast-n-2
-cast-n-2 c = search needs
-
 mul-n : tie.Need-mul-n
 mul-n c = record { fits = lt-trans (rooted-in (c .args .e) .1) (lit< tt) }
-
-cast-near-root : tie.Need-cast-near-root
-cast-near-root c = search needs
 
 near-root-requires : tie.Need-near-root-requires
 near-root-requires c κs = (rooted-in (c .args .e) .1, omega arith)
 
 rounded-root-requires : tie.Need-rounded-root-requires
 rounded-root-requires c κs = (rooted-in (c .before .args .e) .0, rooted-in (c .before .args .e) .1, c .near-root .ensures)
-
-mul-result : tie.Need-mul-result
-mul-result c = search needs
 
 cast-result : tie.Need-cast-result
 cast-result c = omega (arith, result-le c)
@@ -95,4 +74,6 @@ returns c = let e = c .before .before .args .e in ap₂ (λ (x y : ℕ). x * 2 ^
 pub root-pattern-spec : {M : Type 1} → statement M
 root-pattern-spec =
     tie.close
-    (tie.spec add-m mul-scale add-scale cast-n cast-n-2 mul-n cast-near-root near-root-requires rounded-root-requires mul-result cast-result add-result returns)
+    (tie.spec (λ c. search needs) (λ c. search needs) (λ c. search needs) (λ c. search needs) (λ c. search needs)
+    mul-n (λ c. search needs) near-root-requires rounded-root-requires (λ c. search needs) cast-result add-result
+    returns)

@@ -10,23 +10,11 @@ use Rattle.scalar.proofs.root.rounded_root.Tie as tie
 mul-square : tie.Need-mul-square
 mul-square c = record { fits = lt-of-le-of-lt (mul-le-mul (le-of-lt (c .pre .2)) (le-of-lt (c .pre .2))) (lit< tt) }
 
-add-if1 : tie.Need-add-if1
-add-if1 c = search needs
-
-add-if2 : tie.Need-add-if2
-add-if2 c = search needs
-
 returns : tie.Need-returns
 returns c = rounded (c .before .before .args .n) (c .before .before .args .guess) (omega arith) (omega arith)
 
-lowered-requires : tie.Need-lowered-requires
-lowered-requires c κs = search needs
-
-raised-requires : tie.Need-raised-requires
-raised-requires c κs = search needs
-
-returns-2 : tie.Need-returns-2
-returns-2 c = search needs
-
 pub rounded-root-spec : {M : Type 1} → statement M
-rounded-root-spec = tie.close (tie.spec mul-square add-if1 add-if2 returns lowered-requires raised-requires returns-2)
+rounded-root-spec =
+    tie.close
+    (tie.spec mul-square (λ c. search needs) (λ c. search needs) returns (λ c κs. search needs)
+    (λ c κs. search needs) (λ c. search needs))

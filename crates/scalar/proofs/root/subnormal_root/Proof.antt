@@ -18,23 +18,11 @@ m c = c .before .args .b * 2 ^ c .spare-zeros .result % 2 ^ 32
 known : (c : tie.After-spare-zeros) → Rooted (c .before .args .b) 0 (m c) (126 - c .spare-zeros .result)
 known c = rooted (c .before .args .b) 0 (c .spare-zeros .result) (omega arith) (omega arith) (omega arith) (c .spare-zeros .ensures .0)
 
-spare-zeros-requires : tie.Need-spare-zeros-requires
-spare-zeros-requires c κs = search needs
-
 shl-root-pattern : tie.Need-shl-root-pattern
 shl-root-pattern c = omega (arith, c .spare-zeros .ensures .1)
 
 sub-root-pattern : tie.Need-sub-root-pattern
 sub-root-pattern c = omega (arith, c .spare-zeros .ensures .1)
-
-mul-root-pattern : tie.Need-mul-root-pattern
-mul-root-pattern c = search needs
-
-add-root-pattern : tie.Need-add-root-pattern
-add-root-pattern c = search needs
-
-root-pattern-requires : tie.Need-root-pattern-requires
-root-pattern-requires c κs = search needs
 
 result-is : (c : tie.After-root-pattern) → c .root-pattern .result ≡ rootPattern (m (c .before)) (126 - c .before .spare-zeros .result)
 result-is c =
@@ -48,4 +36,7 @@ returns c =
     (ap (ofBits binary32) (result-is c) ∙ k .is ∙ ap rootOfUnits (mul-one b) ∙ sym (sqrt-subnormal b (omega arith) (omega arith) (omega arith)), subst (λ (x : ℕ). x < 0x7f80_0000) (sym (result-is c)) (k .finite))
 
 pub subnormal-root-spec : {M : Type 1} → statement M
-subnormal-root-spec = tie.close (tie.spec spare-zeros-requires shl-root-pattern sub-root-pattern mul-root-pattern add-root-pattern root-pattern-requires returns)
+subnormal-root-spec =
+    tie.close
+    (tie.spec (λ c κs. search needs) shl-root-pattern sub-root-pattern (λ c. search needs) (λ c. search needs)
+    (λ c κs. search needs) returns)

@@ -23,6 +23,4 @@ returns c =
     rw (c .truncating-f64-to-u64 .ensures, ten-is) (product (c .before .before .args .muf) f (c .before .before .pre .0) (c .before .before .pre .1) .whole)
 
 pub tenths-spec : {M : Type 1} → statement M
-tenths-spec =
-    tie.close
-    (tie.spec float-to-float-truncating-f64-to-u64 truncating-f64-to-u64-requires returns)
+tenths-spec = tie.close (tie.spec float-to-float-truncating-f64-to-u64 truncating-f64-to-u64-requires returns)

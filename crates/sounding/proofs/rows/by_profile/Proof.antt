@@ -8,7 +8,7 @@ use native.Mathlib.Omega.{arith}
 use lib.ListN.{replicate, set}
 use lib.Ieee.{Float}
 use Rattle.scalar.specs.Literals.{f0}
-use Rattle.layers.specs.State.{at}
+use Rattle.scalar.specs.F32.{at}
 use Rattle.heights.specs.Gethp.{gethpOf}
 use Rattle.heights.proofs.Owned.{field-held}
 use Rattle.heights.proofs.Walks.{gethp-read-so}
@@ -30,32 +30,8 @@ loop-holds : tie.Need-loop-holds Inv-loop μ-loop
 unfolding rowsOf
 loop-holds c = (omega arith, refl, refl)
 
-mul-gethp-rising : tie.Need-mul-gethp-rising Inv-loop μ-loop
-mul-gethp-rising c = omega arith
-
-array-read-gethp-rising : tie.Need-array-read-gethp-rising Inv-loop μ-loop
-array-read-gethp-rising c = omega arith
-
 gethp-rising-requires : tie.Need-gethp-rising-requires Inv-loop μ-loop
 gethp-rising-requires c κs = tt
-
-mul-hprim : tie.Need-mul-hprim Inv-loop μ-loop
-mul-hprim c = omega arith
-
-array-write-hprim : tie.Need-array-write-hprim Inv-loop μ-loop
-array-write-hprim c = omega arith
-
-mul-htrue : tie.Need-mul-htrue Inv-loop μ-loop
-mul-htrue c = omega arith
-
-array-write-htrue : tie.Need-array-write-htrue Inv-loop μ-loop
-array-write-htrue c = omega arith
-
-add-i : tie.Need-add-i Inv-loop μ-loop
-add-i c = omega arith
-
-loop-less : tie.Need-loop-less Inv-loop μ-loop
-loop-less c = omega arith
 
 loop-again : tie.Need-loop-again Inv-loop μ-loop
 loop-again c =
@@ -75,18 +51,6 @@ returns c =
 pub by-profile-spec : {M : Type 1} → statement M
 by-profile-spec =
     tie.close
-    (tie.spec
-    Inv-loop
-    μ-loop
-    loop-holds
-    mul-gethp-rising
-    array-read-gethp-rising
-    gethp-rising-requires
-    mul-hprim
-    array-write-hprim
-    mul-htrue
-    array-write-htrue
-    add-i
-    loop-less
-    loop-again
-    returns)
+    (tie.spec Inv-loop μ-loop loop-holds (λ c. omega arith) (λ c. omega arith) gethp-rising-requires
+    (λ c. omega arith) (λ c. omega arith) (λ c. omega arith) (λ c. omega arith) (λ c. omega arith) (λ c. omega arith)
+    loop-again returns)

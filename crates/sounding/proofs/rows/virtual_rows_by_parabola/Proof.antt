@@ -18,32 +18,8 @@ loop-holds : tie.Need-loop-holds Inv-loop μ-loop
 unfolding rowsOf HPE
 loop-holds c = (omega arith, refl)
 
-add-virtual-by-parabola : tie.Need-add-virtual-by-parabola Inv-loop μ-loop
-add-virtual-by-parabola c = omega arith
-
-mul-virtual-by-parabola : tie.Need-mul-virtual-by-parabola Inv-loop μ-loop
-mul-virtual-by-parabola c = omega arith
-
-array-read-virtual-by-parabola : tie.Need-array-read-virtual-by-parabola Inv-loop μ-loop
-array-read-virtual-by-parabola c = omega arith
-
 virtual-by-parabola-requires : tie.Need-virtual-by-parabola-requires Inv-loop μ-loop
 virtual-by-parabola-requires c κs = c .before .before .pre
-
-add-hprim : tie.Need-add-hprim Inv-loop μ-loop
-add-hprim c = omega arith
-
-mul-hprim : tie.Need-mul-hprim Inv-loop μ-loop
-mul-hprim c = omega arith
-
-array-write-hprim : tie.Need-array-write-hprim Inv-loop μ-loop
-array-write-hprim c = omega arith
-
-add-i : tie.Need-add-i Inv-loop μ-loop
-add-i c = omega arith
-
-loop-less : tie.Need-loop-less Inv-loop μ-loop
-loop-less c = omega arith
 
 loop-again : tie.Need-loop-again Inv-loop μ-loop
 unfolding rowsOf
@@ -55,18 +31,6 @@ returns c = c .before .loop .inv .1 ∙ ap (rowsOf _ _ _ _) (le-antisymm (c .bef
 pub virtual-rows-by-parabola-spec : {M : Type 1} → statement M
 virtual-rows-by-parabola-spec =
     tie.close
-    (tie.spec
-    Inv-loop
-    μ-loop
-    loop-holds
-    add-virtual-by-parabola
-    mul-virtual-by-parabola
-    array-read-virtual-by-parabola
-    virtual-by-parabola-requires
-    add-hprim
-    mul-hprim
-    array-write-hprim
-    add-i
-    loop-less
-    loop-again
-    returns)
+    (tie.spec Inv-loop μ-loop loop-holds (λ c. omega arith) (λ c. omega arith) (λ c. omega arith)
+    virtual-by-parabola-requires (λ c. omega arith) (λ c. omega arith) (λ c. omega arith) (λ c. omega arith)
+    (λ c. omega arith) loop-again returns)

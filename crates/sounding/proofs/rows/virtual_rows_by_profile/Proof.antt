@@ -21,32 +21,8 @@ loop-holds : tie.Need-loop-holds Inv-loop μ-loop
 unfolding rowsOf HPE
 loop-holds c = (omega arith, refl)
 
-add-gethp-rising : tie.Need-add-gethp-rising Inv-loop μ-loop
-add-gethp-rising c = omega arith
-
-mul-gethp-rising : tie.Need-mul-gethp-rising Inv-loop μ-loop
-mul-gethp-rising c = omega arith
-
-array-read-gethp-rising : tie.Need-array-read-gethp-rising Inv-loop μ-loop
-array-read-gethp-rising c = omega arith
-
 gethp-rising-requires : tie.Need-gethp-rising-requires Inv-loop μ-loop
 gethp-rising-requires c κs = tt
-
-add-hprim : tie.Need-add-hprim Inv-loop μ-loop
-add-hprim c = omega arith
-
-mul-hprim : tie.Need-mul-hprim Inv-loop μ-loop
-mul-hprim c = omega arith
-
-array-write-hprim : tie.Need-array-write-hprim Inv-loop μ-loop
-array-write-hprim c = omega arith
-
-add-i : tie.Need-add-i Inv-loop μ-loop
-add-i c = omega arith
-
-loop-less : tie.Need-loop-less Inv-loop μ-loop
-loop-less c = omega arith
 
 loop-again : tie.Need-loop-again Inv-loop μ-loop
 unfolding rowsOf
@@ -63,18 +39,6 @@ returns c = c .before .loop .inv .1 ∙ ap (rowsOf _ _ _ _) (le-antisymm (c .bef
 pub virtual-rows-by-profile-spec : {M : Type 1} → statement M
 virtual-rows-by-profile-spec =
     tie.close
-    (tie.spec
-    Inv-loop
-    μ-loop
-    loop-holds
-    add-gethp-rising
-    mul-gethp-rising
-    array-read-gethp-rising
-    gethp-rising-requires
-    add-hprim
-    mul-hprim
-    array-write-hprim
-    add-i
-    loop-less
-    loop-again
-    returns)
+    (tie.spec Inv-loop μ-loop loop-holds (λ c. omega arith) (λ c. omega arith) (λ c. omega arith)
+    gethp-rising-requires (λ c. omega arith) (λ c. omega arith) (λ c. omega arith) (λ c. omega arith)
+    (λ c. omega arith) loop-again returns)

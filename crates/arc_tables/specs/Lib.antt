@@ -1,0 +1,2 @@
+-- The tables of the arcs.
+pub mod Tables

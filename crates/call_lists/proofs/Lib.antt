@@ -1,0 +1,6 @@
+-- The theorem on lists of calls: states alike for a slot, states prepared, numbers that stay f32, one call framed, then the lists.
+mod Alike
+mod Prepared
+mod Numbers
+mod Frames
+pub mod Lists

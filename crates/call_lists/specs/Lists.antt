@@ -1,0 +1,155 @@
+-- The theorem on lists of calls, as one claim about a whole list of any length.
+-- The first call gets the state s that `ionset` answered, each later one the state that the one before returned. "Alone" is on s, with the same arguments and cells.
+use mathlib.Core.Bool.{Bool, true, false}
+use mathlib.Core.List.{List, [], _∷_, map}
+use mathlib.Core.Option.{Option, none, some}
+use mathlib.Core.Path.{_≡_}
+use Prim.Native.Nat.{ℕ, _<_, _≤_}
+use lib.Dec.{T, eqb}
+use lib.ListN.{length}
+use lib.Ieee.{Float}
+use Rattle.scalar.specs.F32.{at}
+use Rattle.layers.specs.Ionset.{ionsetOf}
+use Rattle.layers.specs.FromLayers.{countTaken}
+use Rattle.layers.specs.declared.IonoState.{IonoState}
+use Rattle.profile.specs.Lecden.{slotAt, lecdenOf}
+use Rattle.profile.specs.Rising.{risesOf}
+use Rattle.walk.specs.Walk.{Held}
+use Rattle.heights.specs.Gethp.{Finder, gethpOf, gethpScanOf}
+use Rattle.heights.specs.Walk.{gethpWalkOf}
+use Rattle.heights.specs.Reads.{FortyReads}
+use Rattle.call_lists.specs.Calls.{Call, Answer, answerOf, afterOf, answerWith, afterWith, answered, pick}
+
+-- ---- a list run: the state at its end, and the answers in their order
+
+unfoldable pub runWith : Finder → IonoState → List Call → IonoState
+runWith find s [] = s
+runWith find s (c ∷ cs) = runWith find (afterWith find s c) cs
+
+unfoldable pub answersWith : Finder → IonoState → List Call → List Answer
+answersWith find s [] = []
+answersWith find s (c ∷ cs) = answerWith find s c ∷ answersWith find (afterWith find s c) cs
+
+-- as the contracts say
+abbrev pub runOf : IonoState → List Call → IonoState
+runOf = runWith gethpOf
+
+abbrev pub answersOf : IonoState → List Call → List Answer
+answersOf = answersWith gethpOf
+
+-- by walks, as the code reads
+abbrev pub runWalkOf : IonoState → List Call → IonoState
+runWalkOf = runWith gethpWalkOf
+
+abbrev pub answersWalkOf : IonoState → List Call → List Answer
+answersWalkOf = answersWith gethpWalkOf
+
+-- by forty full scans in place of each walk
+abbrev pub runScanOf : IonoState → List Call → IonoState
+runScanOf = runWith gethpScanOf
+
+abbrev pub answersScanOf : IonoState → List Call → List Answer
+answersScanOf = answersWith gethpScanOf
+
+-- ---- the states whose profiles its calls read: each with the slot prepared that the call picks
+
+abbrev pub withPicked : Option ℕ → IonoState → List IonoState → List IonoState
+withPicked none s rest = rest
+withPicked (some k) s rest = lecdenOf s k ∷ rest
+
+unfoldable pub readOf : IonoState → List Call → List IonoState
+readOf s [] = []
+readOf s (c ∷ cs) = withPicked (pick s c) s (readOf (afterOf s c) cs)
+
+-- ---- which lists are allowed
+
+abbrev pub Every : {A : Type 0} → (A → Type 0) → List A → Type 0
+Every P [] = Unit {0}
+Every P (c ∷ cs) = P c × Every P cs
+
+-- No slot is picked twice: each has at most one answered sheet, or one MUF that picks it, not both. A refused sheet picks nothing, nor does a MUF refused 9, or 10 for its deciles: any number of these may stand anywhere.
+abbrev pub Together : IonoState → Call → Call → Type 0
+Together s c d = (k : ℕ) → pick s c ≡ some k → pick s d ≡ some k → ⊥
+
+abbrev pub Allowed : IonoState → List Call → Type 0
+Allowed s [] = Unit {0}
+Allowed s (c ∷ cs) = Every (Together s c) cs × Allowed s cs
+
+-- ---- a slot's own call, and the last answered one
+
+abbrev pub picks : Option ℕ → ℕ → Bool
+picks none k = false
+picks (some j) k = eqb j k
+
+abbrev pub orElse : Bool → Call → Option Call → Option Call
+orElse true c rest = some c
+orElse false c rest = rest
+
+-- the answered sheet of slot k, or the MUF where it picks k, or none
+unfoldable pub own : IonoState → List Call → ℕ → Option Call
+own s [] k = none
+own s (c ∷ cs) k = orElse (picks (pick s c) k) c (own s cs k)
+
+abbrev pub laterOr : Option Call → Option Call → Option Call
+laterOr none c = c
+laterOr (some d) c = some d
+
+abbrev pub onlyIf : Bool → Call → Option Call
+onlyIf true c = some c
+onlyIf false c = none
+
+unfoldable pub lastOf : IonoState → List Call → Option Call
+lastOf s [] = none
+lastOf s (c ∷ cs) = laterOr (lastOf s cs) (onlyIf (answered s c) c)
+
+-- what a call alone leaves of s; s where there is none
+abbrev pub alone : IonoState → Option Call → IonoState
+alone s none = s
+alone s (some c) = afterOf s c
+
+-- heights, densities and rising mark
+abbrev pub SameProfile : IonoState → IonoState → Type 0
+SameProfile u v = (u .htr ≡ v .htr) × (u .fnsq ≡ v .fnsq) × (u .«htr_rises» ≡ v .«htr_rises»)
+
+-- the forty reads of any frequency, where the heights rise
+abbrev pub ReadsWell : IonoState → Type 0
+ReadsWell u = (f : Float) → T (risesOf (u .htr)) → FortyReads u f
+
+-- The definitions' numbers are of any precision, those of a state that a program holds are f32. It is asked of the first state only where a walk depends on it: semi-thicknesses, layers' heights and the profile's heights. `ionset` and every call keep it.
+pub record Numbers (s : IonoState) : Type 0 where
+  pub yi-held : Held (s .yi)
+  pub hi-held : Held (s .hi)
+  pub htr-held : Held (s .htr)
+
+-- ---- the claim
+
+pub record ListOfCalls (s : IonoState) (calls : List Call) : Type 0 where
+  -- (i) every answer, refusals included, its Es rows and its cells are those of the call alone
+  pub answers-alone : answersOf s calls ≡ map (answerOf s) calls
+  -- (ii) each slot, its nine layer numbers and `fsecv[k]`, is what its own call alone leaves, or as it was; also at or above kfx
+  pub slots-left : (k : ℕ) → k < 3 → slotAt (runOf s calls) k ≡ slotAt (alone s (own s calls k)) k
+  -- (iii) the profile and its rising mark are those that the last answered call alone leaves, or s's
+  pub profile-left : SameProfile (runOf s calls) (alone s (lastOf s calls))
+  pub supplied-left : s .ielect ≡ true → runOf s calls ≡ s
+  -- (iv) all else is s's: rows 3 and 4 of the tables, the critical frequencies, the counts, the switches
+  pub fi-left : runOf s calls .fi ≡ s .fi
+  pub yi-left : (length (runOf s calls .yi) ≡ length (s .yi)) × ((i : ℕ) → 9 ≤ i → at (runOf s calls .yi) i ≡ at (s .yi) i)
+  pub hi-left : (length (runOf s calls .hi) ≡ length (s .hi)) × ((i : ℕ) → 9 ≤ i → at (runOf s calls .hi) i ≡ at (s .hi) i)
+  pub fsecv-left : length (runOf s calls .fsecv) ≡ length (s .fsecv)
+  pub km-left : runOf s calls .km ≡ s .km
+  pub kfx-left : runOf s calls .kfx ≡ s .kfx
+  pub iedp-left : runOf s calls .iedp ≡ s .iedp
+  pub ielect-left : runOf s calls .ielect ≡ s .ielect
+  -- (v) read by walks, as the code does, every answer (rows, cells, hours, Es rows) and the state left are these; and they are the same with forty full scans in place of each walk
+  pub answers-walked : Numbers s → answersWalkOf s calls ≡ answersOf s calls
+  pub state-walked : Numbers s → runWalkOf s calls ≡ runOf s calls
+  pub answers-scanned : answersScanOf s calls ≡ answersOf s calls
+  pub state-scanned : runScanOf s calls ≡ runOf s calls
+  -- (vi) on each profile that is read the forty reads are the scans', in rising order, with the cursor as counted and moved 49 places at most
+  pub reads-well : Numbers s → Every ReadsWell (readOf s calls)
+
+-- for what `ionset` answers of any state with 1 to 5 points, and its numbers are f32 where those of that state are
+abbrev pub ListsOfCalls : Type 0
+ListsOfCalls =
+    (first : IonoState) → T (countTaken (first .km)) → (calls : List Call) → Allowed (ionsetOf first .state) calls
+    → ListOfCalls (ionsetOf first .state) calls × (Numbers first → Numbers (ionsetOf first .state))

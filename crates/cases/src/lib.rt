@@ -1,0 +1,1 @@
+// No function: the crate is lemmas on cases of whole numbers and on tables, for the proofs of others.

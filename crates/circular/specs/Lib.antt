@@ -1,4 +1,0 @@
-pub mod SinCos
-pub mod Atan
-pub mod Asin
-pub mod Answers

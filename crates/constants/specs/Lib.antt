@@ -1,0 +1,2 @@
+-- The Rust's constants.
+pub mod Constants

@@ -1,6 +1,0 @@
-pub mod Alike
-pub mod Prepared
-pub mod Numbers
-pub mod Ways
-pub mod Frames
-pub mod Lists

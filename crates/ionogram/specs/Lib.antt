@@ -1,3 +1,0 @@
-pub mod Angles
-pub mod Selmod
-pub mod Fobby

@@ -1,0 +1,15 @@
+-- Each case is the definition's clause for it; each call is what its contract says.
+use borrow.Author.Needs.{needs}
+use Rattle.muf.proofs.regular_value.Statement.{statement}
+use Rattle.muf.proofs.regular_value.Tie as tie
+
+returns : tie.Need-returns
+returns c = rw (c .before .a .given .1)
+
+returns-2 : tie.Need-returns-2
+returns-2 c = rw (c .before .enum-told .given .1, ← c .zero-line .ensures)
+
+pub regular-value-spec : {M : Type 1} → statement M
+regular-value-spec =
+    tie.close
+    (tie.spec (λ c. search needs) (λ c. search needs) (λ c κs. search needs) returns returns-2)

@@ -1,0 +1,2 @@
+-- Cells as words.
+pub mod Cells

@@ -1,0 +1,2 @@
+-- Rows, layer lines and reflectrix cells as words.
+pub mod Layouts

@@ -1,0 +1,107 @@
+// Cells, rows and layer lines as words.
+ghost use mathlib.Core.Path.{_≡_};
+ghost use Prim.Native.Nat.{_+_, _≤_};
+ghost use lib.ListN.{length};
+ghost use denote.Ref.{now};
+ghost use Rattle.port_state.specs.Words.{floatsOf, floatsInto};
+ghost use Rattle.port_layouts.specs.Layouts.{cellsOf, cellsInto, ionogramOf, ionogramInto, lineOf, linesOf};
+use layers::LayerMuf;
+use reflectrix::Ionogram;
+
+// As many cells as are lent.
+pub fn cells_of(w: &[u32], c: &mut [i32])
+    requires { ⌜ length (now c) ≤ length (now w) ⌝ }
+    ensures { λ _. ⌜ now (c .exit) ≡ cellsOf (now (w .entry)) (length (now (c .entry))) ⌝ }
+{
+    for i in 0..c.len() {
+        let v = port_state::signed(w[i]);
+        c[i] = v;
+    }
+}
+
+pub fn cells_into(c: &[i32], w: &mut [u32])
+    requires { ⌜ length (now c) ≤ length (now w) ⌝ }
+    ensures { λ _. ⌜ now (w .exit) ≡ cellsInto (now (w .entry)) (now (c .entry)) ⌝ }
+{
+    for i in 0..c.len() {
+        let v = port_state::word(c[i]);
+        w[i] = v;
+    }
+}
+
+fn floats_30(w: &[u32], from: usize) -> [f32; 30]
+    requires { ⌜ from + 30 ≤ length (now w) ⌝ }
+    ensures { λ r. ⌜ r ≡ floatsOf (now (w .entry)) from 30 ⌝ }
+{
+    let mut x = [0.0; 30];
+    port_state::floats_of(w, from, &mut x);
+    x
+}
+
+fn floats_30_into(x: [f32; 30], w: &mut [u32], from: usize)
+    requires { ⌜ from + 30 ≤ length (now w) ⌝ }
+    ensures { λ _. ⌜ now (w .exit) ≡ floatsInto (now (w .entry)) from x ⌝ }
+{
+    port_state::floats_into(&x, w, from);
+}
+
+pub fn ionogram_of(w: &[u32]) -> Ionogram
+    requires { ⌜ 120 ≤ length (now w) ⌝ }
+    ensures { λ r. ⌜ r ≡ ionogramOf (now (w .entry)) ⌝ }
+{
+    let fvert = floats_30(w, 0);
+    let hprim = floats_30(w, 30);
+    let htrue = floats_30(w, 60);
+    let afac = floats_30(w, 90);
+    Ionogram {
+        fvert,
+        hprim,
+        htrue,
+        afac,
+    }
+}
+
+pub fn ionogram_into(ion: Ionogram, w: &mut [u32])
+    requires { ⌜ 120 ≤ length (now w) ⌝ }
+    ensures { λ _. ⌜ now (w .exit) ≡ ionogramInto ion (now (w .entry)) ⌝ }
+{
+    let fvert = ion.fvert;
+    let hprim = ion.hprim;
+    let htrue = ion.htrue;
+    let afac = ion.afac;
+    floats_30_into(fvert, w, 0);
+    floats_30_into(hprim, w, 30);
+    floats_30_into(htrue, w, 60);
+    floats_30_into(afac, w, 90);
+}
+
+fn line_of(w: &[u32], i: usize) -> LayerMuf
+    requires { ⌜ i + 11 ≤ length (now w) ⌝ }
+    ensures { λ r. ⌜ r ≡ lineOf (now (w .entry)) i ⌝ }
+{
+    LayerMuf {
+        sigl: scalar::number(w[i]),
+        sigu: scalar::number(w[i + 1]),
+        delmuf: scalar::number(w[i + 2]),
+        hpmuf: scalar::number(w[i + 3]),
+        htmuf: scalar::number(w[i + 4]),
+        fvmuf: scalar::number(w[i + 5]),
+        afmuf: scalar::number(w[i + 6]),
+        nhopmf: port_state::signed(w[i + 7]),
+        yfot: scalar::number(w[i + 8]),
+        ymuf: scalar::number(w[i + 9]),
+        yhpf: scalar::number(w[i + 10]),
+    }
+}
+
+pub fn lines_of(w: &[u32]) -> [LayerMuf; 4]
+    requires { ⌜ 44 ≤ length (now w) ⌝ }
+    ensures { λ r. ⌜ r ≡ linesOf (now (w .entry)) ⌝ }
+{
+    [
+        line_of(w, 0),
+        line_of(w, 11),
+        line_of(w, 22),
+        line_of(w, 33),
+    ]
+}

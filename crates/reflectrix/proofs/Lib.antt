@@ -1,0 +1,3 @@
+-- Cells of the reflectrix, and counts of angles.
+mod Cells
+pub mod Counts

@@ -1,0 +1,50 @@
+// The ionogram of a slot: its thirty rows, the scan of elevation angles, the slot that ray
+// paths go by, and the reflectrix.
+mod angles;
+mod control;
+mod reflectrix;
+
+ghost use mathlib.Core.Path.{_≡_};
+ghost use Rattle.reflectrix.specs.Rows.{noRows};
+pub use angles::sang;
+pub use angles::scan_number;
+pub use angles::scan_value;
+pub use control::selmod;
+pub use reflectrix::fobby;
+use refusal::Outcome;
+use refusal::Refusal;
+
+// The thirty rows, by columns.
+pub struct Ionogram {
+    // the frequency that is sounded, in MHz
+    pub fvert: [f32; 30],
+    // its virtual height, in km
+    pub hprim: [f32; 30],
+    // its true height, in km
+    pub htrue: [f32; 30],
+    // the factor of its deviative loss
+    pub afac: [f32; 30],
+}
+
+// Every number +0: what stands beside a refusal.
+pub fn no_rows() -> Ionogram
+    ensures { λ r. ⌜ r ≡ noRows ⌝ }
+{
+    Ionogram {
+        fvert: [0.0; 30],
+        hprim: [0.0; 30],
+        htrue: [0.0; 30],
+        afac: [0.0; 30],
+    }
+}
+
+pub struct IonogramAnswer {
+    pub outcome: Outcome,
+    pub ion: Ionogram,
+}
+
+// How many of the scan's angles apply to a path.
+pub enum Scan {
+    Angles(usize),
+    Refused(Refusal),
+}

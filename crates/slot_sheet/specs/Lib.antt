@@ -1,0 +1,2 @@
+-- The slot sheet.
+pub mod Sheet

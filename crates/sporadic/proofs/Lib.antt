@@ -1,0 +1,2 @@
+-- Searches over rows, one row at a time.
+pub mod Searches

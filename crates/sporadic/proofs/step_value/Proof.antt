@@ -1,0 +1,10 @@
+-- Each case is the definition's clause for it.
+use borrow.Author.Needs.{needs}
+use Rattle.sporadic.proofs.step_value.Statement.{statement}
+use Rattle.sporadic.proofs.step_value.Tie as tie
+
+returns-2 : tie.Need-returns-2
+returns-2 c = rw (c .enum-told .given .1)
+
+pub step-value-spec : {M : Type 1} → statement M
+step-value-spec = tie.close (tie.spec (λ c. search needs) (λ c. search needs) (λ c. search needs) returns-2)
