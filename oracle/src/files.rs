@@ -160,9 +160,11 @@ pub fn hour_circuit(r: &mut Random) -> Circuit {
         points: (0..km).map(|_| point(r)).collect(),
         deciles: states::deciles(r),
     };
-    if r.once_in(3) {
-        let k = r.below(km);
-        states::spoil(r, &mut circuit.points[k]);
+    let k = r.below(km);
+    match r.below(6) {
+        0 | 1 => states::spoil(r, &mut circuit.points[k]),
+        2 => states::put_zeros(r, &mut circuit.points[k], 3),
+        _ => {}
     }
     circuit
 }

@@ -19,6 +19,8 @@ pub struct Tally {
     /// How often each number was the answer that was wanted.
     answers: [u64; 14],
     differences: u64,
+    /// How many numbers compared were +0, and -0.
+    zeros: [u64; 2],
 }
 
 /// How many differences are shown of one comparison.
@@ -32,7 +34,14 @@ impl Tally {
             cases: 0,
             answers: [0; 14],
             differences: 0,
+            zeros: [0; 2],
         }
+    }
+
+    /// Counts the zeros among the numbers of a case.
+    pub fn zeros(&mut self, [plus, minus]: [u64; 2]) {
+        self.zeros[0] += plus;
+        self.zeros[1] += minus;
     }
 
     /// Counts a case: the answer that was wanted (0, or a refusal's number),
@@ -60,14 +69,22 @@ impl Tally {
         }
     }
 
+    fn zeros_met(&self) -> String {
+        match self.zeros {
+            [0, 0] => String::new(),
+            [plus, minus] => format!("; +0 wanted {plus} times, -0 {minus}"),
+        }
+    }
+
     /// Prints the counts.
     pub fn done(self) -> Verdict {
         println!(
-            "{}: {} cases, {} differences{} ({:.1} s)",
+            "{}: {} cases, {} differences{}{} ({:.1} s)",
             self.name,
             self.cases,
             self.differences,
             self.refusals(),
+            self.zeros_met(),
             self.started.elapsed().as_secs_f64()
         );
         if self.differences == 0 {

@@ -1,6 +1,7 @@
 //! States and arguments: realistic, at the edges, and adversarial. None of
 //! them is made by a function of ours.
 
+use crate::float;
 use crate::random::Random;
 use crate::routed::side;
 use crate::words::*;
@@ -34,8 +35,10 @@ fn f1_layer(r: &mut Random, e: f32) -> [f32; 3] {
 pub fn points(r: &mut Random) -> Vec<u32> {
     let count = 1 + r.below(5);
     let mut w: Vec<u32> = (0..count).flat_map(|_| bits(&point(r))).collect();
-    if r.once_in(3) {
-        spoil(r, &mut w);
+    match r.below(6) {
+        0 | 1 => spoil(r, &mut w),
+        2 => put_zeros(r, &mut w, 3),
+        _ => {}
     }
     w
 }
@@ -64,11 +67,61 @@ pub fn realistic(r: &mut Random) -> State {
     side::lecden(&state, k)
 }
 
+/// Either zero.
+fn zero(r: &mut Random) -> f32 {
+    r.pick(&[0.0, -0.0])
+}
+
+/// Zeros of both signs in place of one word in n.
+pub fn put_zeros(r: &mut Random, w: &mut [u32], n: usize) {
+    for word in w {
+        if r.once_in(n) {
+            *word = zero(r).to_bits();
+        }
+    }
+}
+
+/// A state full of zeros of both signs: layer numbers, densities, a height
+/// where the heights still rise, or all heights.
+pub fn zeros(r: &mut Random) -> State {
+    let mut state = if r.once_in(4) { slots(r) } else { realistic(r) };
+    let n = 1 + r.below(4);
+    put_zeros(r, &mut state[FI..FI + 45], 2 * n);
+    put_zeros(r, &mut state[FSECV..FSECV + 3], 2);
+    match r.below(4) {
+        0 => {}
+        1 => put_zeros(r, &mut state[HTR..HTR + 50], n),
+        _ => zero_height(r, &mut state),
+    }
+    put_zeros(r, &mut state[FNSQ..FNSQ + 50], n);
+    state[IELECT] = r.below(2) as u32;
+    state[RISES] = r.below(2) as u32;
+    state
+}
+
+/// All heights moved so that one of them is a zero; some rise, some fall.
+fn zero_height(r: &mut Random, state: &mut State) {
+    let at = r.below(50);
+    let mut h = if r.once_in(2) {
+        heights(state)
+    } else {
+        even(r)
+    };
+    let moved = h[at];
+    h = h.map(|x| x - moved);
+    h[at] = zero(r);
+    if r.once_in(4) {
+        h.reverse();
+    }
+    state[HTR..HTR + 50].copy_from_slice(&bits(&h));
+}
+
 /// A state of any class.
 pub fn any(r: &mut Random) -> State {
-    let mut state = match r.below(8) {
+    let mut state = match r.below(10) {
         0 => wild(r),
         1 | 2 => slots(r),
+        3 | 4 => return zeros(r),
         _ => realistic(r),
     };
     if r.once_in(2) {
@@ -178,14 +231,17 @@ fn by_rank(r: &mut Random) -> [f32; 50] {
         -25,
         0,
         0x428c_0000,
-        -0x7f80_0000,
-        0x7f80_0000 - 55,
+        float::LOWEST,
+        float::HIGHEST - 55,
         -0x3f80_0000,
     ]);
-    let mut rank = first as i64;
+    let mut rank: i64 = first;
+    // Heights that rise have one zero at most.
+    let left_out = float::rank(zero(r));
     [(); 50].map(|_| {
         rank += 1 + r.below(most) as i64;
-        crate::float::at_rank(rank.clamp(-0x7f80_0000, 0x7f80_0000))
+        rank += i64::from(rank == left_out);
+        float::at_rank(rank)
     })
 }
 
@@ -241,12 +297,13 @@ fn gap(r: &mut Random, d: &mut [f32; 50]) {
 pub fn frequency(r: &mut Random, state: &State) -> f32 {
     let root = |i: usize| f32::from_bits(state[FNSQ + i]).abs().sqrt();
     let some = root(r.below(50));
-    match r.below(7) {
+    match r.below(8) {
         0 => some,
         1 => r.beside(some, 2),
         2 => some * r.between(0.5, 1.5),
         3 => r.wild(),
         4 => root(0) * r.between(1.0, 1.3),
+        5 => zero(r),
         _ => r.between(0.0, 18.0),
     }
 }
@@ -256,12 +313,13 @@ pub fn frequency(r: &mut Random, state: &State) -> f32 {
 pub fn height(r: &mut Random, state: &State) -> f32 {
     let h = heights(state);
     let at = r.below(49);
-    match r.below(8) {
+    match r.below(9) {
         0 | 1 => h[at],
         2 => r.beside(h[at], 2),
         3 | 4 => h[at] + (h[at + 1] - h[at]) * r.between(0.0, 1.0),
         5 => r.pick(&[h[0], h[49], h[48]]),
         6 => r.wild(),
+        7 => zero(r),
         _ => r.between(60.0, 500.0),
     }
 }
@@ -309,8 +367,10 @@ fn edge_path(r: &mut Random) -> [f32; 4] {
         ssn = r.beside(edge, 1);
     }
     let mut path = [gcd, gcdkm, amind, ssn];
-    if r.once_in(8) {
-        path[r.below(4)] = r.wild();
+    match r.below(8) {
+        0 => path[r.below(4)] = r.wild(),
+        1 => path[r.below(4)] = zero(r),
+        _ => {}
     }
     path
 }
@@ -329,7 +389,7 @@ pub fn es_row(r: &mut Random) -> [f32; 4] {
     let median = r.tabled(0.5, 8.0);
     let row = [median * 0.6, median, median * 1.5, 110.0];
     match r.below(8) {
-        0 => [0.0, 0.0, 0.0, 110.0],
+        0 => [zero(r), zero(r), zero(r), r.pick(&[110.0, 0.0, -0.0])],
         1 => [row[0], row[1], row[2], r.between(0.0005, 0.1)],
         2 => [row[0], row[1], row[2], r.between(60.0, 200.0)],
         3 => [r.wild(), r.wild(), r.wild(), r.wild()],
@@ -344,8 +404,11 @@ pub fn deciles(r: &mut Random) -> Vec<u32> {
         return vec![0; DECILES];
     }
     let mut d: Vec<u32> = (0..DECILES).map(|_| r.tabled(0.5, 1.6).to_bits()).collect();
-    if r.once_in(8) {
-        d[0] = r.wild().to_bits();
+    match r.below(8) {
+        0 => d[0] = r.wild().to_bits(),
+        1 => put_zeros(r, &mut d[1..], 2),
+        2 => d[0] = zero(r).to_bits(),
+        _ => {}
     }
     d
 }
@@ -420,10 +483,10 @@ pub fn clock(r: &mut Random) -> f32 {
 
 /// Numbers of `f2dis`: fmuf, ssn, clat, freq, abb.
 pub fn spread(r: &mut Random) -> Vec<u32> {
-    let fmuf = if r.once_in(6) {
-        r.wild()
-    } else {
-        r.between(1.0, 40.0)
+    let fmuf = match r.below(6) {
+        0 => r.wild(),
+        1 => zero(r),
+        _ => r.between(1.0, 40.0),
     };
     let ssn = if r.once_in(2) {
         let edge = r.pick(&[50.0, 100.0, f32::NAN]);
@@ -446,8 +509,10 @@ pub fn layers(r: &mut Random) -> Vec<u32> {
     } else {
         plausible_layers(r)
     };
-    if r.once_in(3) {
-        spoil(r, &mut w);
+    match r.below(6) {
+        0 | 1 => spoil(r, &mut w),
+        2 => put_zeros(r, &mut w, 3),
+        _ => {}
     }
     w
 }
@@ -478,10 +543,11 @@ fn plausible_layers(r: &mut Random) -> Vec<u32> {
 pub fn rows(r: &mut Random) -> Vec<u32> {
     let state = realistic(r);
     let mut w = side::genion(&state, r.below(3));
-    match r.below(4) {
+    match r.below(5) {
         0 => spoil(r, &mut w),
         1 => w.fill_with(|| r.wild().to_bits()),
         2 => bend_rows(r, &mut w),
+        3 => put_zeros(r, &mut w, 3),
         _ => {}
     }
     w

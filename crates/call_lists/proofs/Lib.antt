@@ -1,6 +1,7 @@
--- The theorem on lists of calls: states alike for a slot, states prepared, numbers that stay f32, one call framed, then the lists.
+-- The theorem on lists of calls: states alike for a slot, states prepared, numbers that stay f32, one call framed, then the lists, also by bits.
 mod Alike
 mod Prepared
 mod Numbers
 mod Frames
 pub mod Lists
+pub mod SameLists

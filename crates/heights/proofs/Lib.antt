@@ -5,3 +5,4 @@ pub mod Rise
 pub mod Walks
 pub mod Whole
 pub mod Finders
+pub mod SameReads

@@ -5,3 +5,4 @@ pub mod Walk
 pub mod Bendy
 pub mod Xlin
 pub mod Reads
+pub mod SameReads

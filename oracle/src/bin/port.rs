@@ -17,6 +17,7 @@ fn compare(name: &'static str, cases: u64, seed: u64, case: Case) -> Verdict {
     for _ in 0..cases {
         let call = case(&mut random);
         tally.case(call.wanted, call.differs());
+        tally.zeros(call.zeros());
     }
     tally.done()
 }

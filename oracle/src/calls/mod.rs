@@ -70,6 +70,23 @@ impl Call {
         words
     }
 
+    /// How many of the numbers that an answer should hold are +0, and -0.
+    pub fn zeros(&self) -> [u64; 2] {
+        if self.wanted != 0 {
+            return [0, 0];
+        }
+        let lent = self.lent.iter();
+        let numbers = lent.flat_map(|l| {
+            let words = l.wanted.iter().enumerate();
+            words.filter(|(i, _)| (l.floats)(*i)).map(|(_, w)| *w)
+        });
+        numbers.fold([0, 0], |[plus, minus], w| match w {
+            0 => [plus + 1, minus],
+            0x8000_0000 => [plus, minus + 1],
+            _ => [plus, minus],
+        })
+    }
+
     /// What differs, with the arguments.
     pub fn differs(&self) -> Option<String> {
         let what = if self.answer != self.wanted {

@@ -1,0 +1,2 @@
+-- The same numbers are the equal ones.
+pub mod Same

@@ -1,0 +1,2 @@
+-- When two numbers are the same.
+pub mod Same

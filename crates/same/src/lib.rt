@@ -1,0 +1,1 @@
+// No function: when two numbers are the same, and that on the numbers of the format this is equality.
