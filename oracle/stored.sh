@@ -2,7 +2,7 @@
 # Writes the stored answers of the programs anew, from the paper and the routed
 # Rust: the hours that `vectors` replays, the sheets of `sheet` and
 # `sheet_trials`, and the circuit MUFs of `muf_records_trials`. To be run after
-# oracle/build.sh, whenever an elementary function changes its answers.
+# oracle/build.sh, whenever an elementary function or a line of the sheet changes.
 set -e
 cd "$(dirname "$0")/.."
 made=oracle/target/release

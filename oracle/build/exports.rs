@@ -28,7 +28,14 @@ use Kind::*;
 
 const NONE: &str = "unreachable!(\"not built\")";
 
-const EXPORTS: [Export; 29] = [
+const EXPORTS: [Export; 30] = [
+    Export(
+        "port_figures",
+        "port_figure",
+        &[Word, LentBytes],
+        "u32",
+        NONE,
+    ),
     Export("scalar_c", "scalar_sqrt", &[Number], "f32", "a0.sqrt()"),
     Export(
         "scalar_c",

@@ -11,6 +11,7 @@ pub struct Source {
     constants: String,
     layers: String,
     xlin: String,
+    figure: String,
     muf: String,
     ionogram: String,
 }
@@ -36,6 +37,13 @@ pub mod reach {
 }
 ";
 
+/// The `call` figure by output.rs's own `f`.
+const FIGURE: &str = "
+pub fn figure(muf: R) -> String {
+    f(muf, 5, 1)
+}
+";
+
 impl Source {
     /// Reads the files below `folder`; cuts the items that are needed out of
     /// those that can't be compiled whole.
@@ -49,6 +57,7 @@ impl Source {
             layers: item(&ionosphere, "pub struct LayerParams")
                 + &item(&ionosphere, "pub struct EsParams"),
             xlin: item(&read("voacap/sigdis.rs"), "pub fn xlin"),
+            figure: item(&read("voacap/output.rs"), "pub(crate) fn f("),
             muf: read("voacap/muf.rs"),
             ionogram: read("voacap/ionogram.rs"),
         }
@@ -66,6 +75,7 @@ impl Source {
             module("fastmath", &self.fastmath),
             module("ionosphere", &with_r(&self.layers)),
             module("sigdis", &with_r(&self.xlin)),
+            module("output", &(with_r(&self.figure) + FIGURE)),
             module("muf", &(self.muf.clone() + REACH)),
             module("ionogram", &self.ionogram),
         ]

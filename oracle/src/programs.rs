@@ -5,6 +5,7 @@ use crate::circuit::{self, Circuit};
 use crate::float;
 use crate::predict;
 use crate::routed::side;
+use crate::voacap::output::figure;
 use crate::words::*;
 
 /// A refused file gives only its number.
@@ -76,18 +77,8 @@ pub fn digits(word: u32) -> String {
 fn muf_lines(hour: &[u32]) -> String {
     let mufs: Vec<String> = hour[..5].iter().map(|w| digits(*w)).collect();
     let (mode, slot) = (hour[MODMUF], hour[KS]);
-    let call = call_field(f32::from_bits(hour[4]));
+    let call = figure(f32::from_bits(hour[4]));
     format!("muf {} {mode} {slot}\ncall {call}\n", mufs.join(" "))
-}
-
-/// Cut, not rounded, to one decimal; ten times an f32 is exact in an f64.
-fn call_field(muf: f32) -> String {
-    if (0.0..1000.0).contains(&muf) {
-        let tenths = (f64::from(muf) * 10.0) as u32;
-        format!("{}.{}", tenths / 10, tenths % 10)
-    } else {
-        "-".to_string()
-    }
 }
 
 /// fvert, htrue, hprim, afac of each row.
@@ -113,8 +104,11 @@ mod tests {
     }
 
     #[test]
-    fn the_call_field_is_cut() {
-        let fields = [0.7, -0.0, 12.96, 1000.0, -1e-30, 999.99994].map(call_field);
-        assert_eq!(fields, ["0.6", "0.0", "12.9", "-", "-", "999.9"]);
+    fn the_call_figure_is_rounded() {
+        let fields = [0.7, -0.0, 12.25, 12.35, 1000.0, -0.03, -1.25, f32::NAN].map(figure);
+        let wanted = [
+            "  0.7", "  0.0", " 12.2", " 12.4", "*****", "  0.0", " -1.2", "  NaN",
+        ];
+        assert_eq!(fields, wanted);
     }
 }

@@ -1,18 +1,18 @@
--- A sheet, of at most three slots, has at most 3,650 bytes: a row has at most 39, two digits, four numbers of nine bytes and the line feed.
-use mathlib.Core.Bool.{Bool, true, false, _&&_}
+-- A sheet, of at most three slots, has at most 3,633 bytes: a row has at most 39, two digits, four numbers of nine bytes and the line feed.
 use mathlib.Core.List.{List, [], _∷_}
-use Prim.Native.Nat.{ℕ, _+_, _/_, _%_, _≤_, _<_}
+use Prim.Native.Nat.{ℕ, _+_, _≤_, _<_}
 use native.Mathlib.Omega.{arith}
 use lib.ListN.{getD}
 use lib.Ieee.{Float, binary32, toBits}
-use Rattle.scalar.specs.F32.{_≤f_, _<f_, at}
-use Rattle.scalar.specs.Literals.{f0, f1000}
 use Rattle.lines.specs.Text.{space}
-use Rattle.lines.proofs.Sizes.{AtMost, _then_, word, line-feed, decimal, digits-below, field, hex, times}
+use Rattle.lines.proofs.Sizes.{AtMost, _then_, word, line-feed, digits-below, field, hex, times}
+use Rattle.figures.specs.Figure.{figureOf}
+use Rattle.figure_text.specs.FigureText.{figureText}
+use Rattle.figure_text.proofs.Widths.{figure-five}
+use Rattle.scalar.specs.F32.{at}
 use Rattle.muf.specs.declared.MufHour.{MufHour}
 use Rattle.reflectrix.specs.declared.Ionogram.{Ionogram}
 use Rattle.circuit_sheet.specs.declared.Sheet.{Sheet}
-use Rattle.sheet_text.specs.Call.{tenthsOf, point, cutText, callBy, callField}
 use Rattle.sheet_text.specs.SheetText.{bitsField, mufWord, callWord, slotWord, mufFields, natural, mufLine, callLine, rowFields, rowLine, slotLine, slotText, noIonogram, slotAt, answeredText}
 
 bits : (x : Float) → AtMost (bitsField x) 9
@@ -27,17 +27,12 @@ muf-line : (h : MufHour) → AtMost (mufLine h) 91
 unfolding mufLine
 muf-line h = word mufWord then mufs h then field (natural (h .modmuf)) then field (h .ks) then line-feed
 
-cut : (n : ℕ) → AtMost (cutText n) 22
-unfolding cutText
-cut n = decimal (n / 10) then word (point ∷ []) then digits-below 0 (n % 10) (omega arith)
+figure : (x : Float) → AtMost (figureText (figureOf x)) 5
+figure x = record { most = omega (arith, figure-five x) }
 
-call-by : (b : Bool) (x : Float) → AtMost (callBy b x) 22
-call-by true x = cut (tenthsOf x)
-call-by false x = record { most = omega arith }
-
-call-line : (h : MufHour) → AtMost (callLine h) 28
-unfolding callLine callField
-call-line h = word callWord then call-by ((f0 ≤f h .allmuf) && (h .allmuf <f f1000)) (h .allmuf) then line-feed
+call-line : (h : MufHour) → AtMost (callLine h) 11
+unfolding callLine
+call-line h = word callWord then figure (h .allmuf) then line-feed
 
 row-fields : (ion : Ionogram) (i : ℕ) → AtMost (rowFields ion i) 36
 unfolding rowFields
@@ -51,7 +46,7 @@ slot : (ion : Ionogram) (k : ℕ) → k < 3 → AtMost (slotText ion k) 1177
 unfolding slotText slotLine
 slot ion k h = (word slotWord then digits-below 0 k (omega arith) then line-feed) then times (rowLine ion) 39 30 (row ion)
 
-pub answered-most : (s : Sheet) → s .slots ≤ 3 → AtMost (answeredText s) 3650
+pub answered-most : (s : Sheet) → s .slots ≤ 3 → AtMost (answeredText s) 3633
 unfolding answeredText
 answered-most s h =
     let slots = times (slotAt (s .rows)) 1177 (s .slots) (λ k l. slot (getD (s .rows) k noIonogram) k (omega arith)) in

@@ -1,5 +1,3 @@
--- Examples of `call`, lengths of text, how many slots, and tenths.
-pub mod CallExamples
+-- Lengths of text, and how many slots.
 pub mod Lengths
 pub mod SlotCount
-pub mod Tenths

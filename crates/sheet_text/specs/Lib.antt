@@ -1,3 +1,2 @@
--- What `sheet` prints: the `call` line, then the whole text.
-pub mod Call
+-- What `sheet` prints.
 pub mod SheetText

@@ -11,7 +11,8 @@ use Rattle.muf.specs.declared.MufHour.{MufHour}
 use Rattle.reflectrix.specs.declared.Ionogram.{Ionogram}
 use Rattle.circuit_sheet.specs.declared.Sheet.{Sheet}
 use Rattle.circuit_sheet.specs.CircuitSheet.{sheetOf}
-use Rattle.sheet_text.specs.Call.{callField}
+use Rattle.figures.specs.Figure.{figureOf}
+use Rattle.figure_text.specs.FigureText.{figureText}
 
 -- one space, then the eight digits of a number's bits; those of NaN are 7fc00000
 unfoldable pub bitsField : Float → List ℕ
@@ -40,8 +41,9 @@ natural (negsuc n) = 0
 unfoldable pub mufLine : MufHour → List ℕ
 mufLine h = mufWord ++ (mufFields h ++ (fieldOf (natural (h .modmuf)) ++ (fieldOf (h .ks) ++ (lineFeed ∷ []))))
 
+-- the circuit MUF to the nearest tenth, in five characters
 unfoldable pub callLine : MufHour → List ℕ
-callLine h = callWord ++ (callField (h .allmuf) ++ (lineFeed ∷ []))
+callLine h = callWord ++ (figureText (figureOf (h .allmuf)) ++ (lineFeed ∷ []))
 
 -- row i, numbered from 1: fvert, htrue, hprim, afac
 unfoldable pub rowFields : Ionogram → ℕ → List ℕ

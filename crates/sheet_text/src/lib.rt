@@ -1,5 +1,4 @@
 // What `sheet` prints of a circuit file, as bytes.
-mod call;
 
 ghost use Prim.Native.Nat.{_≤_, _<_};
 ghost use mathlib.Core.Path.{_≡_};
@@ -54,7 +53,7 @@ fn put_call(out: &mut [u8], at: usize, h: MufHour) -> usize
     ensures { λ e. ⌜ Clipped (callLine h) (now (out .entry)) at (now (out .exit)) e ⌝ }
 {
     let a = lines::put_word(out, at, b"call ");
-    let b = call::put_cut(out, a, h.allmuf);
+    let b = figure_text::put_figure(out, a, h.allmuf);
     lines::put_byte(out, b, b'\n')
 }
 

@@ -1,0 +1,2 @@
+-- The five characters of a printed figure.
+pub mod FigureText
