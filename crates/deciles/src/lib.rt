@@ -9,38 +9,32 @@ pub enum Deviation {
     Refused(Refusal),
 }
 
-// 1 up to a sunspot number of 50, 3 above 100, 2 between and for NaN.
+// The next three are sums of yes-or-no numbers: no jump hangs on a test that can't be foreseen.
+
+// 1 up to a sunspot number of 50, 3 above 100, 2 between and for NaN. A NaN is not at most 50, but
+// not above it either: `ssn > 50.0` would give it the first row.
 fn sunspot_row(ssn: f32) -> usize
     ensures { λ r. ⌜ r ≡ sunspotRowOf ssn ⌝ }
 {
-    if ssn <= 50.0 {
-        return 1;
-    }
-    if ssn > 100.0 {
-        return 3;
-    }
-    2
+    let past = !(ssn <= 50.0);
+    let high = past & (ssn > 100.0);
+    1 + past as usize + high as usize
 }
 
 // `j`: the sunspot row, three further on at the equator and south of it.
 fn row(ssn: f32, cl: f32) -> usize
     ensures { λ r. ⌜ r ≡ jOf ssn cl ⌝ }
 {
-    let j = sunspot_row(ssn);
-    if cl <= 0.0 {
-        return j + 3;
-    }
-    j
+    let south = cl <= 0.0;
+    sunspot_row(ssn) + 3 * south as usize
 }
 
 // `i`: 8 for the lower decile, 0 for the upper one.
 fn half(fmuf: f32, freq: f32) -> usize
     ensures { λ r. ⌜ r ≡ iOf fmuf freq ⌝ }
 {
-    if freq <= fmuf {
-        return 8;
-    }
-    0
+    let lower = freq <= fmuf;
+    8 * lower as usize
 }
 
 // `icl`: the latitude band, 1 at the pole to 8 at the equator.
