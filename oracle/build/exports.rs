@@ -28,7 +28,7 @@ use Kind::*;
 
 const NONE: &str = "unreachable!(\"not built\")";
 
-const EXPORTS: [Export; 30] = [
+const EXPORTS: [Export; 31] = [
     Export(
         "port_figures",
         "port_figure",
@@ -170,6 +170,13 @@ const EXPORTS: [Export; 30] = [
         "port_ionogram",
         "port_sheet",
         &[Lent, Word, Word, Words, Lent, Lent],
+        "u32",
+        NONE,
+    ),
+    Export(
+        "port_tariff",
+        "port_price",
+        &[Word, Words, Words, Word, Lent],
         "u32",
         NONE,
     ),

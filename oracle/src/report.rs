@@ -17,7 +17,7 @@ pub struct Tally {
     started: Instant,
     cases: u64,
     /// How often each number was the answer that was wanted.
-    answers: [u64; 14],
+    answers: [u64; 21],
     differences: u64,
     /// How many numbers compared were +0, and -0.
     zeros: [u64; 2],
@@ -32,7 +32,7 @@ impl Tally {
             name,
             started: Instant::now(),
             cases: 0,
-            answers: [0; 14],
+            answers: [0; 21],
             differences: 0,
             zeros: [0; 2],
         }
@@ -58,7 +58,7 @@ impl Tally {
     }
 
     fn refusals(&self) -> String {
-        let refused = (1..14).filter(|n| self.answers[*n] > 0);
+        let refused = (1..21).filter(|n| self.answers[*n] > 0);
         let counts: Vec<String> = refused
             .map(|n| format!("{n}: {}", self.answers[n]))
             .collect();

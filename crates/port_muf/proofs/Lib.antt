@@ -1,3 +1,2 @@
--- Words as floats, and refused calls.
+-- Words as floats.
 mod Floats
-mod Refused

@@ -1,5 +1,8 @@
--- The number that the paper's table "Where a call is turned away" gives each refusal.
+-- The number that the paper's table "Where a call is turned away" gives each refusal, with the numbers that requests added.
+use mathlib.Core.Bool.{false}
+use mathlib.Core.Path.{_≡_}
 use Prim.Native.Nat.{ℕ}
+use lib.Dec.{eqb}
 use Rattle.refusal.specs.declared.Refusal.{Refusal}
 use Rattle.refusal.specs.declared.Outcome.{Outcome}
 
@@ -17,6 +20,12 @@ numberOf Refusal.MufLists = 10
 numberOf Refusal.MufHops = 11
 numberOf Refusal.TimeBlock = 12
 numberOf Refusal.Angle = 13
+numberOf Refusal.Tariff = 15
+numberOf Refusal.Seconds = 16
+
+-- what `no-answer` says: no refusal has the number of an answer
+abbrev pub NoAnswer : Type 0
+NoAnswer = (r : Refusal) → eqb (numberOf r) 0 ≡ false
 
 -- 0 for an answer
 abbrev pub outcomeNumber : Outcome → ℕ

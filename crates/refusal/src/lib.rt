@@ -1,4 +1,4 @@
-// Where a call is turned away: a case for each row of the paper's table, in its order.
+// Where a call is turned away: a case for each row of the paper's table, in its order, and for each number that a request added.
 ghost use mathlib.Core.Path.{_≡_};
 ghost use Rattle.refusal.specs.Number.{numberOf, outcomeNumber};
 
@@ -29,6 +29,10 @@ pub enum Refusal {
     TimeBlock,
     // sin or cos outside -4 to 4
     Angle,
+    // a tariff that is not as described, a figure that is not 0.0 to 999.9, or one that no band reaches
+    Tariff,
+    // seconds not 1 to 86,400
+    Seconds,
 }
 
 // An answer whose value stands beside it.
@@ -55,6 +59,8 @@ pub fn number(r: Refusal) -> u32
         Refusal::MufHops => 11,
         Refusal::TimeBlock => 12,
         Refusal::Angle => 13,
+        Refusal::Tariff => 15,
+        Refusal::Seconds => 16,
     }
 }
 

@@ -1,6 +1,6 @@
 -- A value takes one word; beside a refusal nothing is written.
 use mathlib.Core.Path.{refl}
-use Rattle.port_muf.proofs.Refused.{no-answer}
+use Rattle.refusal.proofs.Numbers.{no-answer}
 use borrow.Author.Needs.{needs}
 use Rattle.port_muf.proofs.deviation_into.Statement.{statement}
 use Rattle.port_muf.proofs.deviation_into.Tie as tie

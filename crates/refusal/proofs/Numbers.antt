@@ -1,11 +1,9 @@
 -- No refusal has the number of an answer: case by case.
-use mathlib.Core.Bool.{false}
-use mathlib.Core.Path.{_≡_, refl}
-use lib.Dec.{eqb}
-use Rattle.refusal.specs.Number.{numberOf}
+use mathlib.Core.Path.{refl}
+use Rattle.refusal.specs.Number.{NoAnswer}
 use Rattle.refusal.specs.declared.Refusal.{Refusal}
 
-pub no-answer : (r : Refusal) → eqb (numberOf r) 0 ≡ false
+pub no-answer : NoAnswer
 no-answer Refusal.Length = refl
 no-answer Refusal.RecordZero = refl
 no-answer Refusal.ChainStep = refl
@@ -19,3 +17,5 @@ no-answer Refusal.MufLists = refl
 no-answer Refusal.MufHops = refl
 no-answer Refusal.TimeBlock = refl
 no-answer Refusal.Angle = refl
+no-answer Refusal.Tariff = refl
+no-answer Refusal.Seconds = refl

@@ -1,0 +1,2 @@
+-- No refusal has an answer's number.
+pub mod Numbers
