@@ -28,7 +28,7 @@ use Kind::*;
 
 const NONE: &str = "unreachable!(\"not built\")";
 
-const EXPORTS: [Export; 31] = [
+const EXPORTS: [Export; 33] = [
     Export(
         "port_figures",
         "port_figure",
@@ -177,6 +177,14 @@ const EXPORTS: [Export; 31] = [
         "port_tariff",
         "port_price",
         &[Word, Words, Words, Word, Lent],
+        "u32",
+        NONE,
+    ),
+    Export("port_totals", "port_total", &[Words, Lent], "u32", NONE),
+    Export(
+        "port_totals",
+        "port_total_last",
+        &[Words, Lent],
         "u32",
         NONE,
     ),

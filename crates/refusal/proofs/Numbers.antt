@@ -19,3 +19,4 @@ no-answer Refusal.TimeBlock = refl
 no-answer Refusal.Angle = refl
 no-answer Refusal.Tariff = refl
 no-answer Refusal.Seconds = refl
+no-answer Refusal.Prices = refl

@@ -22,6 +22,7 @@ numberOf Refusal.TimeBlock = 12
 numberOf Refusal.Angle = 13
 numberOf Refusal.Tariff = 15
 numberOf Refusal.Seconds = 16
+numberOf Refusal.Prices = 17
 
 -- what `no-answer` says: no refusal has the number of an answer
 abbrev pub NoAnswer : Type 0

@@ -33,6 +33,8 @@ pub enum Refusal {
     Tariff,
     // seconds not 1 to 86,400
     Seconds,
+    // over 256 prices, or one above 14,400,000 cents
+    Prices,
 }
 
 // An answer whose value stands beside it.
@@ -61,6 +63,7 @@ pub fn number(r: Refusal) -> u32
         Refusal::Angle => 13,
         Refusal::Tariff => 15,
         Refusal::Seconds => 16,
+        Refusal::Prices => 17,
     }
 }
 
