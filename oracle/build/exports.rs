@@ -28,7 +28,7 @@ use Kind::*;
 
 const NONE: &str = "unreachable!(\"not built\")";
 
-const EXPORTS: [Export; 33] = [
+const EXPORTS: [Export; 35] = [
     Export(
         "port_figures",
         "port_figure",
@@ -74,6 +74,14 @@ const EXPORTS: [Export; 33] = [
     Export(
         "port_circuit",
         "port_write",
+        &[Words, LentBytes],
+        "u32",
+        NONE,
+    ),
+    Export("port_wide", "port_read128", &[Bytes, Lent], "u32", NONE),
+    Export(
+        "port_wide",
+        "port_write128",
         &[Words, LentBytes],
         "u32",
         NONE,

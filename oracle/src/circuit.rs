@@ -31,19 +31,19 @@ pub struct Step {
     pub next: u16,
 }
 
-fn half(record: &[u8], at: usize) -> u16 {
+pub(crate) fn half(record: &[u8], at: usize) -> u16 {
     u16::from_le_bytes([record[at], record[at + 1]])
 }
 
-fn word(record: &[u8], at: usize) -> u32 {
+pub(crate) fn word(record: &[u8], at: usize) -> u32 {
     u32::from_le_bytes(record[at..at + 4].try_into().unwrap())
 }
 
-fn words<const N: usize>(record: &[u8], at: usize) -> [u32; N] {
+pub(crate) fn words<const N: usize>(record: &[u8], at: usize) -> [u32; N] {
     std::array::from_fn(|i| word(record, at + 4 * i))
 }
 
-fn zero(bytes: &[u8]) -> bool {
+pub(crate) fn zero(bytes: &[u8]) -> bool {
     bytes.iter().all(|b| *b == 0)
 }
 

@@ -15,6 +15,7 @@ pub mod routed;
 pub mod routing;
 pub mod states;
 pub mod voacap;
+pub mod wide;
 pub mod words;
 
 include!(concat!(env!("OUT_DIR"), "/perf.rs"));

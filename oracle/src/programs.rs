@@ -1,16 +1,33 @@
-//! What the programs `chain` and `sheet` print for a file, from the paper and
-//! the routed Rust.
+//! What the programs print or write of a file, from the paper and the routed
+//! Rust.
 
 use crate::circuit::{self, Circuit};
 use crate::float;
 use crate::predict;
 use crate::routed::side;
 use crate::voacap::output::figure;
+use crate::wide::{self, Wide};
 use crate::words::*;
 
 /// A refused file gives only its number.
 fn or_refused(text: Result<String, u32>) -> String {
     text.unwrap_or_else(|number| format!("refused {number}\n"))
+}
+
+/// The circuit in the form that carries F2M3, F2M3 being +0.
+pub fn widen(file: &[u8]) -> Vec<u8> {
+    let turned = circuit::read(file).map(|(circuit, _)| Wide::of(circuit).written());
+    turned.unwrap_or_else(|number| or_refused(Err(number)).into())
+}
+
+/// The circuit in the old form, unless an F2M3 is not +0.
+pub fn narrow(file: &[u8]) -> Vec<u8> {
+    let back = |wide: Wide| match circuit::zeros(&wide.f2m3) {
+        true => Ok(wide.circuit.written()),
+        false => Err(14),
+    };
+    let turned = wide::read(file).and_then(back);
+    turned.unwrap_or_else(|number| or_refused(Err(number)).into())
 }
 
 /// Record, kind and next index for each step, then the count.

@@ -1,5 +1,6 @@
 // The circuit file: a chain of records that holds the numbers of one circuit; in the paper's form a record has 64 bytes. Every
-// number is held by its bits, so that a NaN keeps its payload.
+// number is held by its bits, so that a NaN keeps its payload. What takes a record, or a form, is open to the readers of other
+// forms.
 mod numbers;
 mod record;
 mod walk;
@@ -13,9 +14,17 @@ ghost use Rattle.circuit.specs.Record.{form64, allZero};
 ghost use Rattle.circuit.specs.Chain.{chainOf};
 ghost use Rattle.circuit.specs.Read.{readOf};
 ghost use Rattle.circuit.specs.Point.{pointNumber};
+pub use numbers::all_zero;
+pub use numbers::joined;
+pub use numbers::nothing;
+pub use numbers::read_deciles;
+pub use numbers::read_point;
+pub use record::byte;
 pub use record::half;
+pub use record::word;
 use refusal::Outcome;
 use refusal::Refusal;
+pub use walk::follow_form;
 
 // How a file is laid out: bytes in a record, the kind of record 0, and the words that a point has after its fifteen.
 pub struct Form {
@@ -72,7 +81,7 @@ pub fn form64() -> Form
 pub fn follow(file: &[u8]) -> Chain
     ensures { λ c. ⌜ c ≡ chainOf form64 (now (file .entry)) ⌝ }
 {
-    walk::follow(form64(), file)
+    follow_form(form64(), file)
 }
 
 // The circuit of a file, or where it is turned away. Records off the chain are not looked at.

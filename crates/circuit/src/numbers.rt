@@ -12,7 +12,7 @@ use crate::Circuit;
 use crate::record;
 
 // The fifteen words of a point.
-fn read_point(r: &[u8], out: &mut [u32])
+pub fn read_point(r: &[u8], out: &mut [u32])
     requires { ⌜ (64 ≤ length (now r)) × (length (now out) ≡ 15) ⌝ }
     ensures { λ _. ⌜ now (out .exit) ≡ wordsOf (now (r .entry)) 15 ⌝ }
 {
@@ -20,7 +20,7 @@ fn read_point(r: &[u8], out: &mut [u32])
 }
 
 // The twelve words of a record of kind 3.
-fn read_deciles(r: &[u8], out: &mut [u32])
+pub fn read_deciles(r: &[u8], out: &mut [u32])
     requires { ⌜ (64 ≤ length (now r)) × (length (now out) ≡ 12) ⌝ }
     ensures { λ _. ⌜ now (out .exit) ≡ wordsOf (now (r .entry)) 12 ⌝ }
 {
@@ -70,7 +70,7 @@ fn deciles(file: &[u8], order: &[usize], from: usize, count: usize) -> [u32; 576
 }
 
 // The numbers of record 0, with the words of the points and the deciles.
-fn joined(head: &[u8], points: [u32; 75], deciles: [u32; 576]) -> Circuit
+pub fn joined(head: &[u8], points: [u32; 75], deciles: [u32; 576]) -> Circuit
     requires { ⌜ 64 ≤ length (now head) ⌝ }
     ensures { λ r. ⌜ r ≡ circuitBy (now (head .entry)) points deciles ⌝ }
 {

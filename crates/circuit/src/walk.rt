@@ -145,7 +145,7 @@ fn walk(o: Form, file: &[u8], km: usize) -> Chain
 }
 
 // The chain of a file, or where it is turned away.
-pub fn follow(o: Form, file: &[u8]) -> Chain
+pub fn follow_form(o: Form, file: &[u8]) -> Chain
     requires { ⌜ Fit o ⌝ }
     ensures { λ c. ⌜ c ≡ chainOf o (now (file .entry)) ⌝ }
 {

@@ -11,7 +11,7 @@ use Rattle.circuit.specs.declared.Chain.{Chain}
 use Rattle.circuit.specs.declared.Circuit.{Circuit}
 use Rattle.circuit.specs.declared.Form.{Form}
 use Rattle.circuit.specs.declared.ReadAnswer.{ReadAnswer}
-use Rattle.circuit.specs.Record.{recordAt, wordAt, wordsOf}
+use Rattle.circuit.specs.Record.{Fit, recordAt, wordAt, wordsOf}
 use Rattle.circuit.specs.Chain.{kmOf, padded, chainOf}
 use Rattle.circuit.specs.Read.{numbersOf, circuitOf, readOf}
 use Rattle.circuit.proofs.Lists.{length-numbers, length-read}
@@ -81,6 +81,14 @@ module _ (o : Form) (f : List ℕ) (p : Each 256 f) where
     held =
         let X = numbersOf o f (k .order) 1 0 15 km in
         rw (take-at X (replicate (75 - length X) 0) (15 * km) (length-numbers o f (k .order) 1 0 15 km)) refl
+
+-- so is what the reader answers
+pub whole-read : (o : Form) → Fit o → (f : List ℕ) → Each 256 f → readOf o f .outcome ≡ Outcome.Answered
+    → Whole (readOf o f .circuit)
+whole-read o fit f b a =
+    let k = chainOf o f in
+    let g = chain-answered o f a in
+    rw (read-answered o f k refl g) (whole o f b k (followed o fit f g) g)
 
 pub carried : EveryForm (λ o. EveryForm (Carried o))
 carried o fit p fits f beside out n b a x e =

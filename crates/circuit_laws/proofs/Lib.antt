@@ -1,6 +1,6 @@
 -- The laws of the circuit file: off the chain, read back, written again, carried between layouts, and all at the paper's layout.
 pub mod Off
-mod Back
+pub mod Back
 pub mod ReadWritten
 mod Linked
 mod Again

@@ -85,7 +85,7 @@ fn entries(o: Form, c: Circuit, beside: &[u32], n: usize, out: &mut [u8])
 }
 
 // The writer, in any form.
-fn write_form(o: Form, c: Circuit, beside: &[u32], out: &mut [u8]) -> WriteAnswer
+pub fn write_form(o: Form, c: Circuit, beside: &[u32], out: &mut [u8]) -> WriteAnswer
     requires { ⌜ Fit o × (length (now beside) ≡ 5 * o .extra) ⌝ }
     ensures { λ a. ⌜ a ≡ answerOf o c (now (out .entry)) ⌝ }
     ensures { λ _. ⌜ now (out .exit) ≡ leftOf o c (now (beside .entry)) (now (out .entry)) ⌝ }

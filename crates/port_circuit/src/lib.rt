@@ -11,7 +11,7 @@ use circuit::ReadAnswer;
 use refusal::Outcome;
 
 // The words from `from` on.
-fn words_of(w: &[u32], from: usize, x: &mut [u32])
+pub fn words_of(w: &[u32], from: usize, x: &mut [u32])
     requires { ⌜ from + length (now x) ≤ length (now w) ⌝ }
     ensures { λ r. ⌜ now (x .exit) ≡ wordsOf (now (w .entry)) from (length (now (x .entry))) ⌝ }
 {
@@ -47,7 +47,7 @@ fn wide(w: u32) -> usize
     w as usize
 }
 
-fn circuit_of(w: &[u32]) -> Circuit
+pub fn circuit_of(w: &[u32]) -> Circuit
     requires { ⌜ 657 ≤ length (now w) ⌝ }
     ensures { λ r. ⌜ r ≡ circuitOf (now (w .entry)) ⌝ }
 {
@@ -66,7 +66,7 @@ fn circuit_of(w: &[u32]) -> Circuit
 }
 
 // The words written from `from` on.
-fn words_into(x: &[u32], w: &mut [u32], from: usize)
+pub fn words_into(x: &[u32], w: &mut [u32], from: usize)
     requires { ⌜ from + length (now x) ≤ length (now w) ⌝ }
     ensures { λ r. ⌜ now (w .exit) ≡ wordsInto (now (w .entry)) from (now (x .entry)) ⌝ }
 {
@@ -101,7 +101,7 @@ fn numbers_into(c: Circuit, w: &mut [u32])
     words_into(&x, w, 0);
 }
 
-fn circuit_into(c: Circuit, w: &mut [u32])
+pub fn circuit_into(c: Circuit, w: &mut [u32])
     requires { ⌜ (657 ≤ length (now w)) × (c .km ≤ 5) × (c .shape ≤ 1) ⌝ }
     ensures { λ r. ⌜ now (w .exit) ≡ circuitInto c (now (w .entry)) ⌝ }
 {

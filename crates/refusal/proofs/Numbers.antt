@@ -17,6 +17,7 @@ no-answer Refusal.MufLists = refl
 no-answer Refusal.MufHops = refl
 no-answer Refusal.TimeBlock = refl
 no-answer Refusal.Angle = refl
+no-answer Refusal.F2m3 = refl
 no-answer Refusal.Tariff = refl
 no-answer Refusal.Seconds = refl
 no-answer Refusal.Prices = refl

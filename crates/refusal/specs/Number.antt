@@ -20,6 +20,7 @@ numberOf Refusal.MufLists = 10
 numberOf Refusal.MufHops = 11
 numberOf Refusal.TimeBlock = 12
 numberOf Refusal.Angle = 13
+numberOf Refusal.F2m3 = 14
 numberOf Refusal.Tariff = 15
 numberOf Refusal.Seconds = 16
 numberOf Refusal.Prices = 17

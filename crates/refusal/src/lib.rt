@@ -29,6 +29,8 @@ pub enum Refusal {
     TimeBlock,
     // sin or cos outside -4 to 4
     Angle,
+    // a point's F2M3 that is not +0, where the file is turned into one that has no place for it
+    F2m3,
     // a tariff that is not as described, a figure that is not 0.0 to 999.9, or one that no band reaches
     Tariff,
     // seconds not 1 to 86,400
@@ -61,6 +63,7 @@ pub fn number(r: Refusal) -> u32
         Refusal::MufHops => 11,
         Refusal::TimeBlock => 12,
         Refusal::Angle => 13,
+        Refusal::F2m3 => 14,
         Refusal::Tariff => 15,
         Refusal::Seconds => 16,
         Refusal::Prices => 17,

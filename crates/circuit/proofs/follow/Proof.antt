@@ -4,11 +4,11 @@ use Rattle.circuit.proofs.Followed.{fit64}
 use Rattle.circuit.proofs.follow.Statement.{statement}
 use Rattle.circuit.proofs.follow.Tie as tie
 
-follow-requires : tie.Need-follow-requires
-follow-requires c κs = rw (c .form64 .ensures) fit64
+follow-form-requires : tie.Need-follow-form-requires
+follow-form-requires c κs = rw (c .form64 .ensures) fit64
 
 returns : tie.Need-returns
-returns c = rw (← c .before .form64 .ensures) (c .follow .ensures)
+returns c = rw (← c .before .form64 .ensures) (c .follow-form .ensures)
 
 pub follow-spec : {M : Type 1} → statement M
-follow-spec = tie.close (tie.spec (λ c κs. search needs) follow-requires returns)
+follow-spec = tie.close (tie.spec (λ c κs. search needs) follow-form-requires returns)

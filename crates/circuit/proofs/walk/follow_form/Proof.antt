@@ -6,8 +6,8 @@ use Rattle.circuit.proofs.Steps.{head-facts}
 use borrow.Author.Tests.{eq-eqb, le-leb, lt-leb, ne-eqb, not-false, not-true}
 use Rattle.circuit.specs.Chain.{chainOf}
 use borrow.Author.Needs.{needs}
-use Rattle.circuit.proofs.walk.follow.Statement.{statement}
-use Rattle.circuit.proofs.walk.follow.Tie as tie
+use Rattle.circuit.proofs.walk.follow_form.Statement.{statement}
+use Rattle.circuit.proofs.walk.follow_form.Tie as tie
 
 returns : tie.Need-returns
 unfolding chainOf
@@ -39,8 +39,8 @@ returns-5 : tie.Need-returns-5
 unfolding chainOf
 returns-5 c = rw (eq-eqb _ _ (c .before .before .before .before .before .before .before .if1 .left), le-leb _ _ (c .before .before .before .before .before .before .if2 .left), le-leb _ _ (c .before .before .before .before .before .if3 .left), ← head-part _ _, ← c .before .before .before .head-good .ensures, not-false (c .before .before .before .head-good .result) (c .before .before .if4 .left), ← c .before .byte .ensures, ← c .walk .ensures)
 
-pub follow-spec : {M : Type 1} → statement M
-follow-spec =
+pub follow-form-spec : {M : Type 1} → statement M
+follow-form-spec =
     tie.close
     (tie.spec (λ c. omega arith) (λ c κs. search needs) returns (λ c. omega arith) (λ c κs. search needs) returns-2
     (λ c. omega arith) (λ c κs. search needs) returns-3 (λ c. search needs) (λ c. search needs) (λ c. search needs)
