@@ -23,12 +23,13 @@ enum Kind {
     Lent,
     Bytes,
     LentBytes,
+    LentSigned,
 }
 use Kind::*;
 
 const NONE: &str = "unreachable!(\"not built\")";
 
-const EXPORTS: [Export; 35] = [
+const EXPORTS: [Export; 37] = [
     Export(
         "port_figures",
         "port_figure",
@@ -196,6 +197,20 @@ const EXPORTS: [Export; 35] = [
         "u32",
         NONE,
     ),
+    Export(
+        "port_traces",
+        "port_compare",
+        &[Words, Words, Words, Words, Lent, Lent, LentSigned, Lent],
+        "u32",
+        NONE,
+    ),
+    Export(
+        "port_traces",
+        "port_trace",
+        &[Words, Lent, Lent],
+        "u32",
+        NONE,
+    ),
 ];
 
 /// The text of all wrappers, and the linker's instructions.
@@ -269,6 +284,7 @@ impl Kind {
             Lent => "&mut [u32]",
             Bytes => "&[u8]",
             LentBytes => "&mut [u8]",
+            LentSigned => "&mut [i64]",
         }
     }
 
@@ -281,6 +297,7 @@ impl Kind {
             Lent => format!("a{i}: *mut u32, n{i}: usize"),
             Bytes => format!("a{i}: *const u8, n{i}: usize"),
             LentBytes => format!("a{i}: *mut u8, n{i}: usize"),
+            LentSigned => format!("a{i}: *mut i64, n{i}: usize"),
         }
     }
 
@@ -288,7 +305,7 @@ impl Kind {
         match self {
             Number | Word => format!("a{i}"),
             Words | Bytes => format!("a{i}.as_ptr(), a{i}.len()"),
-            Lent | LentBytes => format!("a{i}.as_mut_ptr(), a{i}.len()"),
+            Lent | LentBytes | LentSigned => format!("a{i}.as_mut_ptr(), a{i}.len()"),
         }
     }
 }

@@ -14,6 +14,7 @@ pub mod report;
 pub mod routed;
 pub mod routing;
 pub mod states;
+pub mod traces;
 pub mod voacap;
 pub mod wide;
 pub mod words;

@@ -21,3 +21,4 @@ no-answer Refusal.F2m3 = refl
 no-answer Refusal.Tariff = refl
 no-answer Refusal.Seconds = refl
 no-answer Refusal.Prices = refl
+no-answer Refusal.Traces = refl

@@ -37,6 +37,8 @@ pub enum Refusal {
     Seconds,
     // over 256 prices, or one above 14,400,000 cents
     Prices,
+    // a trace that is not one, or room for fewer lines than its rows and the other's
+    Traces,
 }
 
 // An answer whose value stands beside it.
@@ -67,6 +69,7 @@ pub fn number(r: Refusal) -> u32
         Refusal::Tariff => 15,
         Refusal::Seconds => 16,
         Refusal::Prices => 17,
+        Refusal::Traces => 18,
     }
 }
 

@@ -1,0 +1,288 @@
+// Two traces held against one another: every kHz of either, rising, with the difference of the heights where both have it.
+ghost use mathlib.Core.Path.{_≡_};
+ghost use mathlib.Core.Bool.{true, false};
+ghost use mathlib.Core.List.{[], map};
+ghost use Prim.Native.Nat.{_+_, _≤_, _<_};
+ghost use lib.IntN.{pos, _-ℤ_};
+ghost use lib.ListN.{length, drop};
+ghost use denote.Ref.{now};
+ghost use Rattle.traces.specs.Trace.{rises as risesOf, fit as fitOf};
+ghost use Rattle.traces.specs.Lines.{ofFirst, ofSecond, traceLines, lineAt, column, ready as readyOf, comparedOf, numberIn, countIn};
+ghost use Rattle.figures.specs.Nearest.{timesOf};
+ghost use Rattle.traces.specs.Held.{Rows};
+ghost use Rattle.traces.specs.Computed.{allFit, traceBy, traceOf};
+use refusal::Outcome;
+use refusal::Refusal;
+
+pub struct Line {
+    pub khz: u32,
+    // 0 in both, 1 in the first only, 2 in the second only
+    pub which: u32,
+    // the first's height less the second's, in tenths of a kilometre; 0 where there is one only
+    pub difference: i64,
+}
+
+pub enum Comparison {
+    // how many
+    Lines(usize),
+    Refused(Refusal),
+}
+
+// A trace of thirty rows; zeros where it is refused.
+pub struct TraceAnswer {
+    pub outcome: Outcome,
+    pub khz: [u32; 30],
+    // in tenths of a kilometre
+    pub height: [u32; 30],
+}
+
+// 0 for lines, else the refusal's number.
+pub fn number(c: Comparison) -> u32
+    ensures { λ n. ⌜ n ≡ numberIn c ⌝ }
+{
+    match c {
+        Comparison::Lines(_) => 0,
+        Comparison::Refused(r) => refusal::number(r),
+    }
+}
+
+// How many lines; 0 where it is refused.
+pub fn count(c: Comparison) -> usize
+    ensures { λ n. ⌜ n ≡ countIn c ⌝ }
+{
+    match c {
+        Comparison::Lines(n) => n,
+        Comparison::Refused(_) => 0,
+    }
+}
+
+fn rises(khz: &[u32]) -> bool
+    ensures { λ r. ⌜ r ≡ risesOf (now (khz .entry)) ⌝ }
+{
+    let mut i = 0;
+    while i + 1 < khz.len() {
+        if khz[i] < khz[i + 1] {
+            i += 1;
+        } else {
+            return false;
+        }
+    }
+    true
+}
+
+// Whether the two lists are a trace.
+fn fit(khz: &[u32], height: &[u32]) -> bool
+    ensures { λ r. ⌜ r ≡ fitOf (now (khz .entry)) (now (height .entry)) ⌝ }
+{
+    if khz.len() != height.len() {
+        return false;
+    }
+    if khz.len() > 512 {
+        return false;
+    }
+    rises(khz)
+}
+
+fn less(h: u32, k: u32) -> i64
+    ensures { λ r. ⌜ r ≡ pos h -ℤ pos k ⌝ }
+{
+    h as i64 - k as i64
+}
+
+fn of_first(which: u32) -> usize
+    ensures { λ r. ⌜ r ≡ ofFirst which ⌝ }
+{
+    if which == 2 {
+        return 0;
+    }
+    1
+}
+
+fn of_second(which: u32) -> usize
+    ensures { λ r. ⌜ r ≡ ofSecond which ⌝ }
+{
+    if which == 1 {
+        return 0;
+    }
+    1
+}
+
+// The first line of what is left: the first's rows from i on, the second's from j on.
+fn next(a: &[u32], ah: &[u32], b: &[u32], bh: &[u32], i: usize, j: usize) -> Line
+    requires { ⌜ Rows (now a) (now ah) × Rows (now b) (now bh) × (i ≤ length (now a)) × (j ≤ length (now b)) × (i + j < length (now a) + length (now b)) ⌝ }
+    ensures { λ r. ⌜ r ≡ lineAt (traceLines (drop i (now (a .entry))) (drop i (now (ah .entry))) (drop j (now (b .entry))) (drop j (now (bh .entry)))) 0 ⌝ }
+{
+    if i == a.len() {
+        return Line {
+            khz: b[j],
+            which: 2,
+            difference: 0,
+        };
+    }
+    if j == b.len() {
+        return Line {
+            khz: a[i],
+            which: 1,
+            difference: 0,
+        };
+    }
+    let f = a[i];
+    let g = b[j];
+    if f < g {
+        return Line {
+            khz: f,
+            which: 1,
+            difference: 0,
+        };
+    }
+    if g < f {
+        return Line {
+            khz: g,
+            which: 2,
+            difference: 0,
+        };
+    }
+    let d = less(ah[i], bh[j]);
+    Line {
+        khz: f,
+        which: 0,
+        difference: d,
+    }
+}
+
+fn lines(
+    a: &[u32],
+    ah: &[u32],
+    b: &[u32],
+    bh: &[u32],
+    khz: &mut [u32],
+    which: &mut [u32],
+    difference: &mut [i64],
+) -> usize
+    requires { ⌜ Rows (now a) (now ah) × Rows (now b) (now bh) × (length (now a) ≤ 512) × (length (now b) ≤ 512) × (length (now a) + length (now b) ≤ length (now khz)) × (length (now a) + length (now b) ≤ length (now which)) × (length (now a) + length (now b) ≤ length (now difference)) ⌝ }
+    ensures { λ r. ⌜ r ≡ length (traceLines (now (a .entry)) (now (ah .entry)) (now (b .entry)) (now (bh .entry))) ⌝ }
+    ensures { λ _. ⌜ now (khz .exit) ≡ column (λ l. l .khz) (traceLines (now (a .entry)) (now (ah .entry)) (now (b .entry)) (now (bh .entry))) (now (khz .entry)) ⌝ }
+    ensures { λ _. ⌜ now (which .exit) ≡ column (λ l. l .which) (traceLines (now (a .entry)) (now (ah .entry)) (now (b .entry)) (now (bh .entry))) (now (which .entry)) ⌝ }
+    ensures { λ _. ⌜ now (difference .exit) ≡ column (λ l. l .difference) (traceLines (now (a .entry)) (now (ah .entry)) (now (b .entry)) (now (bh .entry))) (now (difference .entry)) ⌝ }
+{
+    let mut i: usize = 0;
+    let mut j: usize = 0;
+    let mut n: usize = 0;
+    while i + j < a.len() + b.len() {
+        let l = next(a, ah, b, bh, i, j);
+        let w = l.which;
+        let d = l.difference;
+        khz[n] = l.khz;
+        which[n] = w;
+        difference[n] = d;
+        i += of_first(w);
+        j += of_second(w);
+        n += 1;
+    }
+    n
+}
+
+// Whether both are traces, and each list lent has a cell for every row of both.
+fn ready(
+    a: &[u32],
+    ah: &[u32],
+    b: &[u32],
+    bh: &[u32],
+    khz: &[u32],
+    which: &[u32],
+    difference: &[i64],
+) -> bool
+    ensures { λ r. ⌜ r ≡ readyOf (now (a .entry)) (now (ah .entry)) (now (b .entry)) (now (bh .entry)) (now (khz .entry)) (now (which .entry)) (now (difference .entry)) ⌝ }
+{
+    if !fit(a, ah) {
+        return false;
+    }
+    if !fit(b, bh) {
+        return false;
+    }
+    let rows = a.len() + b.len();
+    if khz.len() < rows {
+        return false;
+    }
+    if which.len() < rows {
+        return false;
+    }
+    rows <= difference.len()
+}
+
+// The lines of two traces, a and b their kHz, ah and bh their heights in tenths of a kilometre, into three lists that are lent.
+// Cells past the last line, and all cells at a refusal, stay.
+pub fn compare(
+    a: &[u32],
+    ah: &[u32],
+    b: &[u32],
+    bh: &[u32],
+    khz: &mut [u32],
+    which: &mut [u32],
+    difference: &mut [i64],
+) -> Comparison
+    ensures { λ r. ⌜ r ≡ comparedOf (now (a .entry)) (now (ah .entry)) (now (b .entry)) (now (bh .entry)) (now (khz .entry)) (now (which .entry)) (now (difference .entry)) .answer ⌝ }
+    ensures { λ _. ⌜ now (khz .exit) ≡ comparedOf (now (a .entry)) (now (ah .entry)) (now (b .entry)) (now (bh .entry)) (now (khz .entry)) (now (which .entry)) (now (difference .entry)) .khz ⌝ }
+    ensures { λ _. ⌜ now (which .exit) ≡ comparedOf (now (a .entry)) (now (ah .entry)) (now (b .entry)) (now (bh .entry)) (now (khz .entry)) (now (which .entry)) (now (difference .entry)) .which ⌝ }
+    ensures { λ _. ⌜ now (difference .exit) ≡ comparedOf (now (a .entry)) (now (ah .entry)) (now (b .entry)) (now (bh .entry)) (now (khz .entry)) (now (which .entry)) (now (difference .entry)) .difference ⌝ }
+{
+    if !ready(a, ah, b, bh, khz, which, difference) {
+        return Comparison::Refused(Refusal::Traces);
+    }
+    let n = lines(a, ah, b, bh, khz, which, difference);
+    Comparison::Lines(n)
+}
+
+// k times each number, rounded; or no, where one is below zero or its multiple not a u32.
+fn scaled(x: &[f32], k: u32, out: &mut [u32]) -> bool
+    requires { ⌜ length (now out) ≡ length (now x) ⌝ }
+    ensures { λ r. ⌜ r ≡ allFit k (now (x .entry)) ⌝ }
+    ensures { λ r. ⌜ (r ≡ true → now (out .exit) ≡ map (timesOf k) (now (x .entry))) ⌝ }
+{
+    let mut i: usize = 0;
+    while i < x.len() {
+        let v = x[i];
+        if v < 0.0 {
+            return false;
+        }
+        let n = figures::times(v, k);
+        if n >= 0x1_0000_0000 {
+            return false;
+        }
+        out[i] = n as u32;
+        i += 1;
+    }
+    true
+}
+
+fn unfit() -> TraceAnswer
+    ensures { λ r. ⌜ r ≡ traceBy false [] [] ⌝ }
+{
+    TraceAnswer {
+        outcome: Outcome::Refused(Refusal::Traces),
+        khz: [0u32; 30],
+        height: [0u32; 30],
+    }
+}
+
+// A computed ionogram's thirty frequencies in MHz and virtual heights in km, as a trace.
+pub fn trace_of(fvert: [f32; 30], hprim: [f32; 30]) -> TraceAnswer
+    ensures { λ r. ⌜ r ≡ traceOf fvert hprim ⌝ }
+{
+    let mut khz = [0u32; 30];
+    let mut height = [0u32; 30];
+    if !scaled(&fvert, 1000, &mut khz) {
+        return unfit();
+    }
+    if !scaled(&hprim, 10, &mut height) {
+        return unfit();
+    }
+    if !rises(&khz) {
+        return unfit();
+    }
+    TraceAnswer {
+        outcome: Outcome::Answered,
+        khz,
+        height,
+    }
+}
