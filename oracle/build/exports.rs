@@ -29,7 +29,7 @@ use Kind::*;
 
 const NONE: &str = "unreachable!(\"not built\")";
 
-const EXPORTS: [Export; 37] = [
+const EXPORTS: [Export; 38] = [
     Export(
         "port_figures",
         "port_figure",
@@ -143,6 +143,13 @@ const EXPORTS: [Export; 37] = [
         "port_muf",
         "port_curmuf",
         &[Lent, Lent, Words, Words, Words, Words, Lent],
+        "u32",
+        NONE,
+    ),
+    Export(
+        "port_nominal",
+        "port_nommuf",
+        &[Words, Words, Words, Words, Lent],
         "u32",
         NONE,
     ),

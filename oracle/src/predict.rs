@@ -47,6 +47,18 @@ fn domain(numbers: &[u32]) -> Result<(), u32> {
     }
 }
 
+/// The nominal MUF's: 5, also where the F2M3s are not as many as the points,
+/// then 9.
+pub fn nommuf(call: &Nominal) -> Result<(), u32> {
+    let whole = call.points.len() % POINT == 0;
+    let points = call.points.len() / POINT;
+    if !whole || !(1..=5).contains(&points) || call.f2m3.len() != points {
+        return Err(5);
+    }
+    // amind is no argument of it: one that passes.
+    domain(&[&call.numbers[..2], &[0]].concat())
+}
+
 fn decile_count(deciles: &[u32]) -> Result<(), u32> {
     if deciles.len() == DECILES {
         Ok(())

@@ -257,6 +257,22 @@ pub fn curmuf(state: &State, call: &Hour) -> (State, Vec<u32>, Vec<u32>) {
     (unmarked_words(&s, state), rows, hour_words(&hour))
 }
 
+/// The hour of as many points as there are.
+pub fn nommuf(call: &Nominal) -> Vec<u32> {
+    let km = call.points.len() / POINT;
+    let (points, es) = (numbers(&call.points), numbers(&call.es));
+    let (mut fi, mut fs) = ([[0.0; 3]; 5], [[0.0; 3]; 5]);
+    let (mut f2m3, mut hs) = ([0.0; 5], [0.0; 5]);
+    for k in 0..km {
+        fi[k].copy_from_slice(&points[POINT * k..POINT * k + 3]);
+        fs[k].copy_from_slice(&es[ES_ROW * k..ES_ROW * k + 3]);
+        hs[k] = es[ES_ROW * k + 3];
+        f2m3[k] = f32::from_bits(call.f2m3[k]);
+    }
+    let n = numbers(&call.numbers);
+    hour_words(&muf::nommuf(&fi, &f2m3, &fs, &hs, km, n[0], n[1]))
+}
+
 pub fn sang(gcdkm: f32, amind: f32) -> u32 {
     ionogram::sang(gcdkm, amind) as u32
 }

@@ -449,6 +449,60 @@ pub fn hour(r: &mut Random) -> Hour {
     }
 }
 
+/// A nominal MUF's arguments of every class.
+pub fn nominal(r: &mut Random) -> Nominal {
+    let count = match r.below(12) {
+        0 => r.pick(&[0, 6, 7]),
+        _ => 1 + r.below(5),
+    };
+    let mut points: Vec<u32> = (0..count).flat_map(|_| bits(&point(r))).collect();
+    if r.once_in(25) {
+        points.truncate(points.len().saturating_sub(1 + r.below(8)));
+    }
+    let mut f2m3: Vec<u32> = (0..count).map(|_| factor(r).to_bits()).collect();
+    if r.once_in(12) {
+        f2m3.resize(r.below(8), 0);
+    }
+    let mut es: Vec<u32> = (0..count).flat_map(|_| bits(&es_row(r))).collect();
+    if r.once_in(12) {
+        es.extend((0..1 + r.below(3)).map(|_| 0x3f80_0000));
+    }
+    if r.once_in(3) {
+        for list in [&mut points, &mut f2m3, &mut es] {
+            if !list.is_empty() {
+                spoil(r, list);
+            }
+        }
+    }
+    Nominal {
+        points,
+        f2m3,
+        es,
+        numbers: bits(&near_factors(r)),
+    }
+}
+
+/// M(3000)F2, as the maps give it or not.
+fn factor(r: &mut Random) -> f32 {
+    match r.below(8) {
+        0 => r.wild(),
+        1 => r.pick(&[0.0, -0.0, 1.0]),
+        _ => r.between(2.2, 4.2),
+    }
+}
+
+/// A path, now and then where a distance factor changes: at 16 and 24
+/// hundreds of miles.
+fn near_factors(r: &mut Random) -> [f32; 2] {
+    let [gcd, gcdkm, ..] = any_path(r);
+    if r.once_in(8) {
+        let edge = r.pick(&[2574.9553, 3862.4329]);
+        let near = r.beside(edge, 8);
+        return [near / 6370.0, near];
+    }
+    [gcd, gcdkm]
+}
+
 /// Mostly enough for every slot.
 fn list_length(r: &mut Random) -> usize {
     if r.once_in(12) {

@@ -54,6 +54,16 @@ pub struct Hour {
     pub numbers: Vec<u32>,
 }
 
+/// A nominal MUF's arguments.
+#[derive(Clone, Debug)]
+pub struct Nominal {
+    pub points: Vec<u32>,
+    pub f2m3: Vec<u32>,
+    pub es: Vec<u32>,
+    /// gcd, gcdkm.
+    pub numbers: Vec<u32>,
+}
+
 /// Which words of a layout are floats.
 pub type Floats = fn(usize) -> bool;
 

@@ -55,7 +55,7 @@ small-nan (fin s m e) q = let z : _≡_ {A = ℕ} 0 1 = cc in absurd (omega arit
 is-T : {b : Bool} → b ≡ true → T b
 is-T e = subst T (sym e) tt
 
-zero-key : key binary32 f0 ≡ overflow binary32
+pub zero-key : key binary32 f0 ≡ overflow binary32
 zero-key = ap (key binary32) nought-is ∙ nought-key binary32
 
 four-fits : F f4 × F (negf f4) × T (finite f4) × T (finite (negf f4))
@@ -78,11 +78,11 @@ over X x h = record { held = h .held; fin = h .fin; low = rw zero-key (h .low); 
 
 -- ---- constants
 
-f0-fits : F f0
+pub f0-fits : F f0
 unfolding ofBits fits
 f0-fits = tt
 
-f0-finite : T (finite f0)
+pub f0-finite : T (finite f0)
 unfolding ofBits
 f0-finite = tt
 
@@ -101,7 +101,7 @@ from : (x : Float) → F x → T (finite x) → From binary32 x x
 from x p c = record { held = p; fin = c; low = le-refl _ }
 
 -- x is one of the domain's numbers 0 to top
-and-both : (a b : Bool) → (a && b) ≡ true → (a ≡ true) × (b ≡ true)
+pub and-both : (a b : Bool) → (a && b) ≡ true → (a ≡ true) × (b ≡ true)
 and-both true true e = (refl, refl)
 and-both true false e = let z : _≡_ {A = ℕ} 0 1 = cc in absurd (omega arith)
 and-both false b e = let z : _≡_ {A = ℕ} 0 1 = cc in absurd (omega arith)
@@ -119,7 +119,7 @@ thousand-is : f1000 ≡ round binary32 false 1000 1
 unfolding ofBits round
 thousand-is = refl
 
-hop-constants : F f1 × T (finite f1) × F f1000 × T (finite f1000)
+pub hop-constants : F f1 × T (finite f1) × F f1000 × T (finite f1000)
 unfolding ofBits fits
 hop-constants = (tt, tt, tt, tt)
 
@@ -323,13 +323,20 @@ es-constants : F f0·5 × T (finite f0·5) × T (le f0 f0·5) × T (le f0·5 f0�
 unfolding ofBits fits le mul div round
 es-constants = (tt, tt, tt, tt, tt, tt, tt, tt, tt, tt, tt)
 
+-- half the path
+pub half-path : (gcd : Float) → UpTo binary32 f6·3 gcd → UpTo binary32 (f0·5 *f f6·3) (f0·5 *f gcd)
+half-path gcd g = let k = es-constants in product binary32 f0·5 f6·3 f0·5 gcd (k .0) (k .4) (k .1) (k .5) (k .6) (up-to f0·5 f0·5 (k .0) (k .0) (k .1) (k .2) (k .3)) g
+
+-- over a number of hops from 1 up, whole or not
+pub over-hops : (p x : Float) → UpTo binary32 (f0·5 *f f6·3) p → From binary32 f1 x → Small (p /f x)
+over-hops p x h a =
+    let k = es-constants in
+    let q = quotient binary32 (f0·5 *f f6·3) f1 p x (k .7) (hop-constants .0) (k .6) (hop-constants .1) (above f1 (hop-constants .0) (psi-constants .7)) (k .8) h a in
+    small-between f0 (f0·5 *f f6·3 /f f1) _ f0-fits (k .9) (least-constants .10) (k .10) (over (f0·5 *f f6·3 /f f1) _ q)
+
 -- sin and cos of psi in the Es section
 pub es-angle : (gcd x : Float) → UpTo binary32 f6·3 gcd → HopCount x → Small (f0·5 *f gcd /f x)
-es-angle gcd x g h =
-    let k = es-constants in
-    let p = product binary32 f0·5 f6·3 f0·5 gcd (k .0) (k .4) (k .1) (k .5) (k .6) (up-to f0·5 f0·5 (k .0) (k .0) (k .1) (k .2) (k .3)) g in
-    let q = quotient binary32 (f0·5 *f f6·3) f1 (f0·5 *f gcd) x (k .7) (hop-constants .0) (k .6) (hop-constants .1) (above f1 (hop-constants .0) (psi-constants .7)) (k .8) p (h .from) in
-    small-between f0 (f0·5 *f f6·3 /f f1) _ f0-fits (k .9) (least-constants .10) (k .10) (over (f0·5 *f f6·3 /f f1) _ q)
+es-angle gcd x g h = over-hops (f0·5 *f gcd) x (half-path gcd g) (h .from)
 
 -- the domain gives what these ask
 pub gcdkm-up-to : (gcdkm : Float) → F gcdkm → (f0 ≤f gcdkm && gcdkm ≤f f40100) ≡ true → UpTo binary32 f40100 gcdkm

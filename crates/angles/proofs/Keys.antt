@@ -65,7 +65,7 @@ module _ (f : Format) where
   size-pos : (n : ℕ) (d : ℤ) → Above (fin false n d) → 0 < mag f (fin false n d)
   size-pos n d h = omega arith
 
-  none-size : (s : Bool) (d : ℤ) → mag f (fin s 0 d) ≡ 0
+  pub none-size : (s : Bool) (d : ℤ) → mag f (fin s 0 d) ≡ 0
   none-size s d = mag-of f s 0 d 0 (ap (λ (z : ℕ). z * L) (zero-mul (up d)) ∙ zero-mul L ∙ sym (zero-mul (down d)))
 
   pub div-key : (x y : Float) → T (fits f x) → T (fits f y) → T (finite x) → T (finite y) → NotBelow x → Above y → key f (div f x y) ≡ overflow f + rounded f (mag f x) (mag f y)

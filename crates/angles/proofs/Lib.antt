@@ -1,4 +1,4 @@
 -- The arguments of sine and cosine in the MUF and in the reflectrix are in their domain.
-mod Keys
+pub mod Keys
 pub mod Angles
 pub mod Reflectrix

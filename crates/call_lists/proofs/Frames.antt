@@ -40,7 +40,7 @@ use Rattle.muf.specs.declared.MufHour.{MufHour}
 use Rattle.muf.specs.declared.AnswerAndRow.{AnswerAndRow}
 use Rattle.slot_sheet.specs.Sheet.{sheetBy, cellsBy, slotSheetWith, sheetCellsWith}
 use Rattle.muf_records.specs.Records.{recordAt, recordsAnswerWith}
-use Rattle.call_lists.specs.Calls.{EsRows, flat, records, mufWith, esAfter, Call, aMuf, aSheet, ofMuf, answerWith, answerOf, afterWith, afterOf, isAnswered, answered, pickIf, pick}
+use Rattle.call_lists.specs.Calls.{EsRows, flat, records, mufWith, esAfter, Call, aMuf, aSheet, aNominal, ofMuf, answerWith, answerOf, afterWith, afterOf, isAnswered, answered, prepares, pickIf, pick}
 use Rattle.call_lists.specs.Lists.{SameProfile}
 use Rattle.call_lists.proofs.Alike.{Alike, gethp-same, genion-same, alosfv-same, three-same}
 use Rattle.call_lists.proofs.Prepared.{Common, common-self, lecden-alike, lecden-others, lecden-common}
@@ -221,10 +221,11 @@ both-true a b ha hb = rw (ha, hb)
 
 -- ---- any call
 
--- the slot that an answered call prepares
+-- the slot that a call prepares, where it does
 abbrev pub slotOf : IonoState → Call → ℕ
 slotOf s (aMuf es f2d clat clck c) = controllingOf s
 slotOf s (aSheet k nang layers cells) = k
+slotOf s (aNominal points f2m3 es km gcd gcdkm) = 0
 
 same-answer : (c : Call) (find : Finder) (s t : IonoState) → AgreesOn find t → Common s t → FreshFor s t c → answerWith find t c ≡ answerOf s c
 unfolding answerWith slotSheetWith sheetCellsWith pick answered
@@ -235,14 +236,16 @@ same-answer (aSheet k nang layers cells) find s t agree g fresh =
     let b = roomFor nang cells in
     let h = sheet-seen a b find s t k nang layers cells agree (λ ha hb. lecden-alike s t k g (fresh k (ap (λ (x : Bool). pickIf x k) (sheet-answered a b s k layers ∙ both-true a b ha hb)))) in
     rw (h .0, h .1, h .2)
+same-answer (aNominal points f2m3 es km gcd gcdkm) find s t agree g fresh = refl
 
-same-left : (c : Call) (find : Finder) (s t : IonoState) → AgreesOn find t → Common s t → FreshFor s t c → afterWith find t c ≡ preparedIf (answered s c) t (slotOf s c)
-unfolding afterWith answered answerWith slotSheetWith pick
+same-left : (c : Call) (find : Finder) (s t : IonoState) → AgreesOn find t → Common s t → FreshFor s t c → afterWith find t c ≡ preparedIf (prepares s c) t (slotOf s c)
+unfolding afterWith prepares answered answerWith slotSheetWith pick
 same-left (aMuf es f2d clat clck c) find s t agree g fresh = muf-follows es find s t f2d clat clck c agree g fresh .1
 same-left (aSheet k nang layers cells) find s t agree g fresh = sheet-left (leb k 2) (roomFor nang cells) find s t k layers
+same-left (aNominal points f2m3 es km gcd gcdkm) find s t agree g fresh = refl
 
 -- every call leaves the state that it got, or that with a slot prepared
-pub call-leaves : (c : Call) (t : IonoState) → afterOf t c ≡ preparedIf (answered t c) t (slotOf t c)
+pub call-leaves : (c : Call) (t : IonoState) → afterOf t c ≡ preparedIf (prepares t c) t (slotOf t c)
 call-leaves c t = same-left c gethpOf t t (itself t) (common-self t) (λ k e. refl)
 
 -- by another way of finding heights: the same answer, and the same state left
@@ -252,19 +255,21 @@ answer-with c find t agree = same-answer c find t t agree (common-self t) (λ k 
 pub after-with : (c : Call) (find : Finder) (t : IonoState) → AgreesOn find t → afterWith find t c ≡ afterOf t c
 after-with c find t agree = same-left c find t t agree (common-self t) (λ k e. refl) ∙ sym (call-leaves c t)
 
-picks-own : (c : Call) (s : IonoState) → answered s c ≡ true → pick s c ≡ some (slotOf s c)
-unfolding pick
+picks-own : (c : Call) (s : IonoState) → prepares s c ≡ true → pick s c ≡ some (slotOf s c)
+unfolding pick prepares
 picks-own (aMuf es f2d clat clck c) s e = muf-picked es s f2d clat clck c e
 picks-own (aSheet k nang layers cells) s e = ap (λ (x : Bool). pickIf x k) e
+picks-own (aNominal points f2m3 es km gcd gcdkm) s e = absurd (not-both e)
 
 below-three : (k : ℕ) → k ≤ 2 → k < 3
 below-three k h = omega arith
 
-slot-small : (c : Call) (s : IonoState) → answered s c ≡ true → slotOf s c < 3
-unfolding answered answerWith slotSheetWith
+slot-small : (c : Call) (s : IonoState) → prepares s c ≡ true → slotOf s c < 3
+unfolding prepares answered answerWith slotSheetWith
 slot-small (aMuf es f2d clat clck c) s e = controlling-small s
 slot-small (aSheet k nang layers cells) s e =
     below-three k (leb-true k 2 (first-of (leb k 2) (roomFor nang cells) (sym (sheet-answered (leb k 2) (roomFor nang cells) s k layers) ∙ e)))
+slot-small (aNominal points f2m3 es km gcd gcdkm) s e = absurd (not-both e)
 
 -- what a list's proof needs of a call on t
 pub record Stepped (s t : IonoState) (c : Call) : Type 0 where
@@ -272,8 +277,8 @@ pub record Stepped (s t : IonoState) (c : Call) : Type 0 where
   pub still-common : Common s (afterOf t c)
   pub own-slot : (k : ℕ) → pick s c ≡ some k → slotAt (afterOf t c) k ≡ slotAt (afterOf s c) k
   pub other-slot : (k : ℕ) → (pick s c ≡ some k → ⊥) → slotAt (afterOf t c) k ≡ slotAt t k
-  pub profile-answered : answered s c ≡ true → SameProfile (afterOf t c) (afterOf s c)
-  pub state-refused : answered s c ≡ false → afterOf t c ≡ t
+  pub profile-answered : prepares s c ≡ true → SameProfile (afterOf t c) (afterOf s c)
+  pub state-refused : prepares s c ≡ false → afterOf t c ≡ t
 
 abbrev numberIn : Option ℕ → ℕ
 numberIn none = 0
@@ -282,7 +287,7 @@ numberIn (some n) = n
 pub some-same : (j k : ℕ) → some j ≡ some k → j ≡ k
 some-same j k e = ap numberIn e
 
-stepped-by : (b : Bool) (s t : IonoState) (c : Call) (j : ℕ) → answered s c ≡ b → afterOf t c ≡ preparedIf b t j → afterOf s c ≡ preparedIf b s j → (b ≡ true → pick s c ≡ some j) → (b ≡ true → j < 3) → answerOf t c ≡ answerOf s c → Common s t → FreshFor s t c → Stepped s t c
+stepped-by : (b : Bool) (s t : IonoState) (c : Call) (j : ℕ) → prepares s c ≡ b → afterOf t c ≡ preparedIf b t j → afterOf s c ≡ preparedIf b s j → (b ≡ true → pick s c ≡ some j) → (b ≡ true → j < 3) → answerOf t c ≡ answerOf s c → Common s t → FreshFor s t c → Stepped s t c
 stepped-by true s t c j eb et es picks small same g fresh =
     let p = picks refl in
     let a = lecden-alike s t j g (fresh j p) in
@@ -307,4 +312,4 @@ stepped-by false s t c j eb et es picks small same g fresh =
 
 pub one-step : (s t : IonoState) (c : Call) → Common s t → FreshFor s t c → Stepped s t c
 one-step s t c g fresh =
-    stepped-by (answered s c) s t c (slotOf s c) refl (same-left c gethpOf s t (itself t) g fresh) (call-leaves c s) (picks-own c s) (slot-small c s) (same-answer c gethpOf s t (itself t) g fresh) g fresh
+    stepped-by (prepares s c) s t c (slotOf s c) refl (same-left c gethpOf s t (itself t) g fresh) (call-leaves c s) (picks-own c s) (slot-small c s) (same-answer c gethpOf s t (itself t) g fresh) g fresh

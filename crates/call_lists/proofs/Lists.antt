@@ -12,7 +12,7 @@ use Rattle.heights.specs.Gethp.{Finder, gethpScanOf}
 use Rattle.heights.specs.Walk.{gethpWalkOf}
 use Rattle.heights.proofs.Whole.{forty-reads}
 use Rattle.heights.proofs.Finders.{walks-agree, scans-agree}
-use Rattle.call_lists.specs.Calls.{Call, Answer, answerOf, afterOf, afterWith, answered, pick}
+use Rattle.call_lists.specs.Calls.{Call, Answer, answerOf, afterOf, afterWith, prepares, pick}
 use Rattle.call_lists.specs.Lists.{runOf, answersOf, runWith, answersWith, withPicked, readOf, Every, Together, Allowed, picks, orElse, own, laterOr, onlyIf, lastOf, alone, SameProfile, ReadsWell, Numbers, ListOfCalls, ListsOfCalls}
 use Rattle.call_lists.proofs.Prepared.{Common, common-self}
 use Rattle.call_lists.proofs.Numbers.{lecden-numbers, ionset-numbers}
@@ -81,7 +81,7 @@ ran s (c ∷ cs) t g fresh allowed =
       all-answers = rw (x .answer-same, ih .all-answers);
       all-common = ih .all-common;
       all-slots = λ k. slot-step s t t₁ (runOf t₁ cs) c k (own s cs k) (picks (pick s c) k) refl (λ e. no-other s c k cs (allowed .0) e) (x .own-slot k) (x .other-slot k) (ih .all-slots k);
-      the-profile = profile-step s t t₁ (runOf t₁ cs) c (lastOf s cs) (answered s c) (x .profile-answered) (x .state-refused) (ih .the-profile);
+      the-profile = profile-step s t t₁ (runOf t₁ cs) c (lastOf s cs) (prepares s c) (x .profile-answered) (x .state-refused) (ih .the-profile);
     }
 
 -- ---- f32 numbers stay f32 numbers
@@ -91,7 +91,7 @@ prepared-numbers true t k n = lecden-numbers t k n
 prepared-numbers false t k n = n
 
 after-numbers : (t : IonoState) (c : Call) → Numbers t → Numbers (afterOf t c)
-after-numbers t c n = subst Numbers (sym (call-leaves c t)) (prepared-numbers (answered t c) t (slotOf t c) n)
+after-numbers t c n = subst Numbers (sym (call-leaves c t)) (prepared-numbers (prepares t c) t (slotOf t c) n)
 
 -- ---- other ways of finding heights
 

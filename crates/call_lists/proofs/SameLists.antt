@@ -14,7 +14,7 @@ use Rattle.heights.specs.SameReads.{SameReads}
 use Rattle.heights.proofs.SameReads.{same-reads}
 use Rattle.reflectrix.specs.declared.Ionogram.{Ionogram}
 use Rattle.muf.specs.declared.MufHour.{MufHour}
-use Rattle.call_lists.specs.Calls.{EsRows, flat, records, Call, Answer, ofMuf, ofSheet}
+use Rattle.call_lists.specs.Calls.{EsRows, flat, records, Call, Answer, ofMuf, ofSheet, ofNominal}
 use Rattle.call_lists.specs.Lists.{runOf, readOf, Every, Allowed, lastOf, alone, ReadsWell, SameProfile, ListOfCalls}
 use Rattle.call_lists.specs.SameLists.{Pairwise, lineNumbers, SameLine, hourNumbers, SameHour, SameRecord, SameEs, SameRows, SameAnswer, slotNumbers, SameSlot, SameProfileBits, SameState, SameListOfCalls, SameListsOfCalls}
 use Rattle.call_lists.proofs.Lists.{any-list, lists-of-calls}
@@ -47,6 +47,7 @@ rows-self i = (all-self (i .fvert), all-self (i .hprim), all-self (i .htrue), al
 answer-self : (a : Answer) → SameAnswer a a
 answer-self (ofMuf o h es) = (refl, hour-self h, es-self es)
 answer-self (ofSheet o i cs) = (refl, rows-self i, refl)
+answer-self (ofNominal o h) = (refl, hour-self h)
 
 slot-self : (p : Slot) → SameSlot p p
 slot-self p = all-self (slotNumbers p)

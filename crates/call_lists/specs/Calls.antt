@@ -1,4 +1,4 @@
--- Calls on one state: circuit MUFs and slot sheets, each with its own arguments and lent cells. With `gethpOf` for the way of finding heights, `find`, what a call answers and what it leaves are the very definitions that the contracts of the two functions are equated with.
+-- Calls on one state: circuit MUFs, slot sheets and nominal MUFs, each with its own arguments and lent cells. With `gethpOf` for the way of finding heights, `find`, what a call answers and what it leaves are the very definitions that the contracts of the three functions are equated with.
 use mathlib.Core.Bool.{Bool, true, false, _&&_}
 use mathlib.Core.List.{List}
 use mathlib.Core.Option.{Option, none, some}
@@ -10,6 +10,7 @@ use lib.Ieee.{Float}
 use Rattle.refusal.specs.declared.Outcome.{Outcome}
 use Rattle.layers.specs.declared.IonoState.{IonoState}
 use Rattle.layers.specs.declared.LayerMuf.{LayerMuf}
+use Rattle.layers.specs.declared.LayerParams.{LayerParams}
 use Rattle.layers.specs.declared.EsParams.{EsParams}
 use Rattle.heights.specs.Gethp.{Finder, gethpOf}
 use Rattle.reflectrix.specs.declared.Ionogram.{Ionogram}
@@ -20,6 +21,8 @@ use Rattle.muf.specs.declared.MufHour.{MufHour}
 use Rattle.muf.specs.declared.AnswerAndRow.{AnswerAndRow}
 use Rattle.muf_records.specs.Records.{recordsAnswerWith, recordsBy}
 use Rattle.slot_sheet.specs.Sheet.{slotSheetWith, sheetCellsWith}
+use Rattle.nominal.specs.Nommuf.{nommufOf}
+use Rattle.nominal.specs.declared.NominalAnswer.{NominalAnswer}
 
 -- ---- the Es rows lent to a circuit MUF: flat, four numbers a row, or records
 
@@ -42,15 +45,19 @@ pub data Call : Type 0 where
   aMuf : EsRows → List Float → List Float → List Float → PathNumbers → Call
   -- any slot number, any angle count, any layer table, any cells
   aSheet : ℕ → ℕ → List LayerMuf → List ℤ → Call
+  -- any points, F2M3s and Es rows, any count, any path: none of it is the state's
+  aNominal : List LayerParams → List Float → List EsParams → ℕ → Float → Float → Call
 
--- all that a call gives back but the state: its outcome, its hour and its Es rows, or its rows and its cells
+-- all that a call gives back but the state: its outcome, its hour and its Es rows, or its rows and its cells, or its hour
 pub data Answer : Type 0 where
   ofMuf : Outcome → MufHour → EsRows → Answer
   ofSheet : Outcome → Ionogram → List ℤ → Answer
+  ofNominal : Outcome → MufHour → Answer
 
 unfoldable pub answerWith : Finder → IonoState → Call → Answer
 answerWith find s (aMuf es f2d clat clck c) = let d = mufWith find s es f2d clat clck c in ofMuf (d .answer .outcome) (d .answer .hour) (esAfter es (d .rewrites) (d .ksx) (d .lower))
 answerWith find s (aSheet k nang layers cells) = let r = slotSheetWith find s k nang layers cells in ofSheet (r .outcome) (r .ion) (sheetCellsWith find s k nang cells)
+answerWith find s (aNominal points f2m3 es km gcd gcdkm) = let r = nommufOf points f2m3 es km gcd gcdkm in ofNominal (r .outcome) (r .hour)
 
 abbrev pub answerOf : IonoState → Call → Answer
 answerOf = answerWith gethpOf
@@ -59,6 +66,7 @@ answerOf = answerWith gethpOf
 unfoldable pub afterWith : Finder → IonoState → Call → IonoState
 afterWith find s (aMuf es f2d clat clck c) = mufWith find s es f2d clat clck c .answer .state
 afterWith find s (aSheet k nang layers cells) = slotSheetWith find s k nang layers cells .state
+afterWith find s (aNominal points f2m3 es km gcd gcdkm) = s
 
 abbrev pub afterOf : IonoState → Call → IonoState
 afterOf = afterWith gethpOf
@@ -72,15 +80,23 @@ isAnswered (Outcome.Refused r) = false
 abbrev pub outcomeOf : Answer → Outcome
 outcomeOf (ofMuf o hour es) = o
 outcomeOf (ofSheet o ion cells) = o
+outcomeOf (ofNominal o hour) = o
 
 unfoldable pub answered : IonoState → Call → Bool
 answered s c = isAnswered (outcomeOf (answerOf s c))
+
+-- an answered MUF or sheet prepares its slot and makes the profile; a nominal MUF never does
+unfoldable pub prepares : IonoState → Call → Bool
+prepares s (aMuf es f2d clat clck c) = answered s (aMuf es f2d clat clck c)
+prepares s (aSheet k nang layers cells) = answered s (aSheet k nang layers cells)
+prepares s (aNominal points f2m3 es km gcd gcdkm) = false
 
 abbrev pub pickIf : Bool → ℕ → Option ℕ
 pickIf true k = some k
 pickIf false k = none
 
--- An answered sheet has its slot, a refused one none. A MUF has the controlling slot, whether it is answered or not; none where it is refused 9, or 10 for its deciles.
+-- An answered sheet has its slot, a refused one none. A MUF has the controlling slot, whether it is answered or not; none where it is refused 9, or 10 for its deciles. A nominal MUF has none.
 unfoldable pub pick : IonoState → Call → Option ℕ
 pick s (aMuf es f2d clat clck c) = pickIf (inDomain c && eqb (length f2d) 576) (controllingOf s)
 pick s (aSheet k nang layers cells) = pickIf (answered s (aSheet k nang layers cells)) k
+pick s (aNominal points f2m3 es km gcd gcdkm) = none

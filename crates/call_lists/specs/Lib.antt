@@ -1,4 +1,5 @@
--- The theorem on lists of circuit MUFs and slot sheets: the calls, then what is said of a list, and the same by bits.
+-- The theorem on lists of circuit MUFs, slot sheets and nominal MUFs: the calls, then what is said of a list, the same by bits, and a nominal MUF put anywhere.
 pub mod Calls
 pub mod Lists
 pub mod SameLists
+pub mod Nominal

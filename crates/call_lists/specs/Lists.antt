@@ -18,7 +18,7 @@ use Rattle.walk.specs.Walk.{Held}
 use Rattle.heights.specs.Gethp.{Finder, gethpOf, gethpScanOf}
 use Rattle.heights.specs.Walk.{gethpWalkOf}
 use Rattle.heights.specs.Reads.{FortyReads}
-use Rattle.call_lists.specs.Calls.{Call, Answer, answerOf, afterOf, answerWith, afterWith, answered, pick}
+use Rattle.call_lists.specs.Calls.{Call, Answer, answerOf, afterOf, answerWith, afterWith, prepares, pick}
 
 -- ---- a list run: the state at its end, and the answers in their order
 
@@ -67,7 +67,7 @@ abbrev pub Every : {A : Type 0} → (A → Type 0) → List A → Type 0
 Every P [] = Unit {0}
 Every P (c ∷ cs) = P c × Every P cs
 
--- No slot is picked twice: each has at most one answered sheet, or one MUF that picks it, not both. A refused sheet picks nothing, nor does a MUF refused 9, or 10 for its deciles: any number of these may stand anywhere.
+-- No slot is picked twice: each has at most one answered sheet, or one MUF that picks it, not both. A refused sheet picks nothing, nor does a MUF refused 9, or 10 for its deciles, nor any nominal MUF: any number of these may stand anywhere.
 abbrev pub Together : IonoState → Call → Call → Type 0
 Together s c d = (k : ℕ) → pick s c ≡ some k → pick s d ≡ some k → ⊥
 
@@ -75,7 +75,7 @@ abbrev pub Allowed : IonoState → List Call → Type 0
 Allowed s [] = Unit {0}
 Allowed s (c ∷ cs) = Every (Together s c) cs × Allowed s cs
 
--- ---- a slot's own call, and the last answered one
+-- ---- a slot's own call, and the last one that prepares a slot
 
 abbrev pub picks : Option ℕ → ℕ → Bool
 picks none k = false
@@ -100,7 +100,7 @@ onlyIf false c = none
 
 unfoldable pub lastOf : IonoState → List Call → Option Call
 lastOf s [] = none
-lastOf s (c ∷ cs) = laterOr (lastOf s cs) (onlyIf (answered s c) c)
+lastOf s (c ∷ cs) = laterOr (lastOf s cs) (onlyIf (prepares s c) c)
 
 -- what a call alone leaves of s; s where there is none
 abbrev pub alone : IonoState → Option Call → IonoState
@@ -128,7 +128,7 @@ pub record ListOfCalls (s : IonoState) (calls : List Call) : Type 0 where
   pub answers-alone : answersOf s calls ≡ map (answerOf s) calls
   -- (ii) each slot, its nine layer numbers and `fsecv[k]`, is what its own call alone leaves, or as it was; also at or above kfx
   pub slots-left : (k : ℕ) → k < 3 → slotAt (runOf s calls) k ≡ slotAt (alone s (own s calls k)) k
-  -- (iii) the profile and its rising mark are those that the last answered call alone leaves, or s's
+  -- (iii) the profile and its rising mark are those that the last answered MUF or sheet alone leaves, or s's
   pub profile-left : SameProfile (runOf s calls) (alone s (lastOf s calls))
   pub supplied-left : s .ielect ≡ true → runOf s calls ≡ s
   -- (iv) all else is s's: rows 3 and 4 of the tables, the critical frequencies, the counts, the switches

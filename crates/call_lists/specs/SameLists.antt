@@ -18,7 +18,7 @@ use Rattle.profile.specs.declared.Slot.{Slot}
 use Rattle.heights.specs.SameReads.{SameReads}
 use Rattle.reflectrix.specs.declared.Ionogram.{Ionogram}
 use Rattle.muf.specs.declared.MufHour.{MufHour}
-use Rattle.call_lists.specs.Calls.{EsRows, flat, records, Call, Answer, ofMuf, ofSheet, answerOf}
+use Rattle.call_lists.specs.Calls.{EsRows, flat, records, Call, Answer, ofMuf, ofSheet, ofNominal, answerOf}
 use Rattle.call_lists.specs.Lists.{runOf, answersOf, runWalkOf, answersWalkOf, runScanOf, answersScanOf, readOf, Every, Allowed, own, lastOf, alone, Numbers}
 
 -- ---- the same, part by part: numbers by their bits, all else equal
@@ -54,12 +54,17 @@ SameEs (records es) (records ds) = Pairwise SameRecord es ds
 abbrev pub SameRows : Ionogram → Ionogram → Type 0
 SameRows i j = SameAll (i .fvert) (j .fvert) × SameAll (i .hprim) (j .hprim) × SameAll (i .htrue) (j .htrue) × SameAll (i .afac) (j .afac)
 
--- outcome, hour and Es rows, or outcome, rows and cells
+-- outcome, hour and Es rows, or outcome, rows and cells, or outcome and hour
 abbrev pub SameAnswer : Answer → Answer → Type 0
 SameAnswer (ofMuf o h es) (ofMuf p g ds) = (o ≡ p) × SameHour h g × SameEs es ds
 SameAnswer (ofMuf o h es) (ofSheet p j ds) = ⊥
+SameAnswer (ofMuf o h es) (ofNominal p g) = ⊥
 SameAnswer (ofSheet o i cs) (ofMuf p g ds) = ⊥
 SameAnswer (ofSheet o i cs) (ofSheet p j ds) = (o ≡ p) × SameRows i j × (cs ≡ ds)
+SameAnswer (ofSheet o i cs) (ofNominal p g) = ⊥
+SameAnswer (ofNominal o h) (ofMuf p g ds) = ⊥
+SameAnswer (ofNominal o h) (ofSheet p j ds) = ⊥
+SameAnswer (ofNominal o h) (ofNominal p g) = (o ≡ p) × SameHour h g
 
 abbrev pub slotNumbers : Slot → List Float
 slotNumbers p = p .fi0 ∷ p .fi1 ∷ p .fi2 ∷ p .yi0 ∷ p .yi1 ∷ p .yi2 ∷ p .hi0 ∷ p .hi1 ∷ p .hi2 ∷ p .fsec ∷ []
@@ -88,7 +93,7 @@ pub record SameListOfCalls (s : IonoState) (calls : List Call) : Type 0 where
   pub answers-alone : Pairwise SameAnswer (answersOf s calls) (map (answerOf s) calls)
   -- (ii) each slot is what its own call alone leaves, or as it was
   pub slots-left : (k : ℕ) → k < 3 → SameSlot (slotAt (runOf s calls) k) (slotAt (alone s (own s calls k)) k)
-  -- (iii) the profile is that of the last answered call alone, or s's
+  -- (iii) the profile is that of the last answered MUF or sheet alone, or s's
   pub profile-left : SameProfileBits (runOf s calls) (alone s (lastOf s calls))
   pub supplied-left : s .ielect ≡ true → SameState (runOf s calls) s
   -- (iv) the numbers of the tables that are no slot's are s's; the counts and the switches are said in `ListOfCalls`

@@ -109,7 +109,7 @@ fn hour(m: RegularLines, es: LayerMuf, ks: usize) -> MufHour
     }
 }
 
-fn zero_hour() -> MufHour
+pub fn zero_hour() -> MufHour
     ensures { λ r. ⌜ r ≡ zeroHour ⌝ }
 {
     let z = layer_mufs::zero_line();

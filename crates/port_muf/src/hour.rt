@@ -153,7 +153,7 @@ fn head_into(h: MufHour, out: &mut [u32])
     out[9] = (ks % 0x1_0000_0000) as u32;
 }
 
-fn hour_into(h: MufHour, out: &mut [u32])
+pub fn hour_into(h: MufHour, out: &mut [u32])
     requires { ⌜ 54 ≤ length (now out) ⌝ }
     ensures { λ r. ⌜ now (out .exit) ≡ hourInto h (now (out .entry)) ⌝ }
 {

@@ -68,7 +68,7 @@ fn zero_point() -> LayerParams
     }
 }
 
-fn points_of(points: &[u32], n: usize) -> [LayerParams; 5]
+pub fn points_of(points: &[u32], n: usize) -> [LayerParams; 5]
     requires { ⌜ (n ≤ 5) × (9 * n ≤ length (now points)) ⌝ }
     ensures { λ r. ⌜ r ≡ pointsOf (now (points .entry)) n ⌝ }
 {

@@ -49,7 +49,7 @@ pub struct EsLine {
     pub lower: f32,
 }
 
-fn es_ray(hs: f32, hop: f32, gcd: f32) -> EsRay
+pub fn es_ray(hs: f32, hop: f32, gcd: f32) -> EsRay
     ensures { λ r. ⌜ r ≡ rayOf hs hop gcd ⌝ }
 {
     let psi = 0.5 * gcd / hop;

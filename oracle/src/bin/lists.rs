@@ -11,7 +11,7 @@ use oracle::routed::side;
 use oracle::words::*;
 use oracle::{ours, predict, states};
 
-/// A circuit MUF or a slot sheet, with arguments of its own.
+/// A circuit MUF, a slot sheet or a nominal MUF, with arguments of its own.
 enum Call {
     Muf(Hour),
     Sheet {
@@ -20,6 +20,7 @@ enum Call {
         layers: Vec<u32>,
         lent: usize,
     },
+    Nominal(Nominal),
 }
 
 /// A call's answer, what it wrote, and the state that it returned.
@@ -59,6 +60,11 @@ impl Call {
                 let answer = ours::port_sheet(&mut state, *k, *nang, layers, &mut cells, &mut out);
                 (answer, [cells, out].concat())
             }
+            Call::Nominal(n) => {
+                let mut out = vec![MARK; HOUR];
+                let answer = ours::port_nommuf(&n.points, &n.f2m3, &n.es, &n.numbers, &mut out);
+                (answer, out)
+            }
         };
         Done {
             answer,
@@ -68,7 +74,8 @@ impl Call {
     }
 
     /// The slot that this is the own call of: an answered sheet's, or the
-    /// controlling one of a MUF that got past 9 and its count of deciles.
+    /// controlling one of a MUF that got past 9 and its count of deciles. A
+    /// nominal MUF has none.
     fn own(&self, first: &State) -> Option<usize> {
         match self {
             Call::Muf(hour) => predict::picks(first, hour),
@@ -76,6 +83,7 @@ impl Call {
                 let good = predict::slot(&[*k]).and_then(|()| predict::cells(*nang, *lent));
                 good.ok().map(|()| *k as usize)
             }
+            Call::Nominal(_) => None,
         }
     }
 }
@@ -106,6 +114,9 @@ fn any_call(r: &mut Random) -> Call {
     if r.once_in(3) {
         return Call::Muf(states::hour(r));
     }
+    if r.once_in(4) {
+        return Call::Nominal(states::nominal(r));
+    }
     let nang = r.pick(&[0, 1, 9, 40, 41]);
     Call::Sheet {
         k: r.pick(&[0, 0, 1, 1, 2, 2, 3]),
@@ -122,7 +133,8 @@ fn state_after(first: &State, list: &[Call], alone: &[Done]) -> State {
         if let Some(k) = call.own(first) {
             take_slot(&mut state, &done.state, k);
         }
-        if done.answer == 0 && first[IELECT] == 0 {
+        let prepares = !matches!(call, Call::Nominal(_));
+        if prepares && done.answer == 0 && first[IELECT] == 0 {
             state[HTR..=RISES].copy_from_slice(&done.state[HTR..=RISES]);
         }
     }
@@ -153,6 +165,7 @@ fn first_state(r: &mut Random) -> State {
 struct Counts {
     mufs: [u64; 2],
     sheets: [u64; 2],
+    nominals: [u64; 2],
 }
 
 impl Counts {
@@ -160,6 +173,7 @@ impl Counts {
         let kind = match call {
             Call::Muf(_) => &mut self.mufs,
             Call::Sheet { .. } => &mut self.sheets,
+            Call::Nominal(_) => &mut self.nominals,
         };
         kind[usize::from(done.answer != 0)] += 1;
     }
@@ -191,7 +205,7 @@ fn case(r: &mut Random, counts: &mut Counts) -> Option<String> {
 }
 
 fn main() {
-    if !ours::all_built(&["port_curmuf", "port_sheet"]) {
+    if !ours::all_built(&["port_curmuf", "port_sheet", "port_nommuf"]) {
         finish(&[Verdict::NotMade]);
     }
     let mut tally = Tally::new("lists");
@@ -201,8 +215,13 @@ fn main() {
         tally.case(0, case(&mut random, &mut counts));
     }
     let verdict = tally.done();
-    let Counts { mufs, sheets } = counts;
+    let Counts {
+        mufs,
+        sheets,
+        nominals,
+    } = counts;
     println!("  MUFs answered {}, refused {}", mufs[0], mufs[1]);
     println!("  sheets answered {}, refused {}", sheets[0], sheets[1]);
+    println!("  nominal MUFs answered {}, refused {}", nominals[0], nominals[1]);
     finish(&[verdict])
 }

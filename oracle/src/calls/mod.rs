@@ -15,7 +15,7 @@ use crate::words::*;
 pub type Case = fn(&mut Random) -> Call;
 
 /// Each comparison by its name, which is that of our function.
-pub const COMPARISONS: [(&str, Case); 18] = [
+pub const COMPARISONS: [(&str, Case); 19] = [
     ("rust_walk", heights::rust_walk),
     ("port_from_layers", slots::from_layers),
     ("port_ionset", slots::ionset),
@@ -27,6 +27,7 @@ pub const COMPARISONS: [(&str, Case); 18] = [
     ("port_xlin", heights::xlin),
     ("port_f2dis", muf::f2dis),
     ("port_curmuf", muf::curmuf),
+    ("port_nommuf", muf::nommuf),
     ("port_sang", ionogram::sang),
     ("port_selmod", ionogram::selmod),
     ("port_genion", ionogram::genion),

@@ -1,4 +1,4 @@
-//! `f2dis` and `curmuf`.
+//! `f2dis`, `curmuf` and `nommuf`.
 
 use super::*;
 use crate::routed::side;
@@ -86,6 +86,42 @@ fn curmuf_call(given: Vec<u32>, hour: Hour, mut out: Vec<u32>) -> Call {
             ("numbers", hour.numbers),
         ],
     }
+}
+
+pub fn nommuf(r: &mut Random) -> Call {
+    let mut given = states::nominal(r);
+    given.numbers = resized(r, &given.numbers);
+    if r.once_in(30) {
+        given.es.truncate(r.below(given.es.len() + 1));
+    }
+    let out = room(r, HOUR);
+    let rows = ES_ROW * (given.points.len() / POINT);
+    let wanted = long_enough(&[(&given.numbers, 2), (&out, HOUR), (&given.es, rows)])
+        .and_then(|()| predict::nommuf(&given))
+        .map(|()| rust_nominal(&given));
+    let Nominal {
+        points,
+        f2m3,
+        es,
+        numbers,
+    } = given;
+    let lists = vec![
+        ("points", points.clone()),
+        ("f2m3", f2m3.clone()),
+        ("es", es.clone()),
+        ("numbers", numbers.clone()),
+    ];
+    answering(lists, hour_floats, out, wanted, |out| {
+        ours::port_nommuf(&points, &f2m3, &es, &numbers, out)
+    })
+}
+
+/// The routed Rust's nominal hour, with no angle outside -4 to 4 either.
+fn rust_nominal(given: &Nominal) -> Vec<u32> {
+    routing::take_outside();
+    let hour = side::nommuf(given);
+    assert_eq!(routing::take_outside(), 0, "an angle outside -4 to 4");
+    hour
 }
 
 /// The routed Rust's hour: no angle of sin or cos may leave -4 to 4, since
