@@ -7,11 +7,11 @@ use native.Mathlib.Nat.{le-antisymm}
 use borrow.Author.Needs.{needs}
 use lib.ListN.{length, drop}
 use Rattle.figures.specs.Nearest.{timesOf}
-use Rattle.traces.specs.Computed.{allFit}
+use Rattle.computed_trace.specs.Computed.{allFit}
 use Rattle.traces.proofs.Cells.{sofar}
-use Rattle.traces.proofs.Computed.{fit-below, fit-past, fit-on, stored, fit-end, all-stored, same-room}
-use Rattle.traces.proofs.scaled.Statement.{statement}
-use Rattle.traces.proofs.scaled.Tie as tie
+use Rattle.computed_trace.proofs.Computed.{fit-below, fit-past, fit-on, stored, fit-end, all-stored, same-room}
+use Rattle.computed_trace.proofs.scaled.Statement.{statement}
+use Rattle.computed_trace.proofs.scaled.Tie as tie
 
 abbrev Inv-loop : tie.InvT-loop
 Inv-loop x k out₀ i₀ out i = (i ≤ length x) × (allFit k (drop i x) ≡ allFit k x) × (out ≡ sofar (timesOf k) x i out₀)

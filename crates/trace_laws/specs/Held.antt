@@ -7,9 +7,9 @@ use mathlib.Core.List.{List, [], _∷_, map}
 use lib.Dec.{eqb}
 use lib.IntN.{pos, _-ℤ_}
 use lib.ListN.{length, getD}
-use Rattle.traces.specs.Trace.{rises}
+use Rattle.traces.specs.Trace.{rises, Rows}
 use Rattle.traces.specs.Lines.{inBoth, inFirst, inSecond, traceLines, lineAt}
 use Rattle.traces.specs.declared.Line.{Line}
 
 -- one of the numbers is f
 pub record Has (xs : List ℕ) (f : ℕ) : Type 0 where
@@ -59,11 +59,6 @@ pub record Held (a ah b bh : List ℕ) (ls : List Line) : Type 0 where
   -- each row of each trace is accounted for in exactly one
   pub first-rows : (i : ℕ) → i < length a → OneLine ls (getD a i 0)
   pub second-rows : (j : ℕ) → j < length b → OneLine ls (getD b j 0)
-
--- a list of kHz that rises and has a height for each
-pub record Rows (xs hs : List ℕ) : Type 0 where
-  pub rising : rises xs ≡ true
-  pub heights : length xs ≡ length hs
 
 -- the lines of two traces hold them against one another
 abbrev pub LinesHold : Type 0

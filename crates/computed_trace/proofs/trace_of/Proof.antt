@@ -2,9 +2,9 @@
 use mathlib.Core.Path.{sym, _∙_}
 use borrow.Author.Needs.{needs}
 use borrow.Author.Tests.{not-false, not-true}
-use Rattle.traces.proofs.Computed.{fvert-unfit, hprim-unfit, khz-unfit, answered}
-use Rattle.traces.proofs.trace_of.Statement.{statement}
-use Rattle.traces.proofs.trace_of.Tie as tie
+use Rattle.computed_trace.proofs.Computed.{fvert-unfit, hprim-unfit, khz-unfit, answered}
+use Rattle.computed_trace.proofs.trace_of.Statement.{statement}
+use Rattle.computed_trace.proofs.trace_of.Tie as tie
 
 returns : tie.Need-returns
 returns c =

@@ -6,10 +6,10 @@ use mathlib.Core.List.{List}
 use native.Mathlib.Omega.{arith}
 use lib.IntN.{ℤ}
 use lib.ListN.{length}
 use Rattle.traces.specs.Lines.{traceLines, ready, comparedBy, comparedOf, countIn}
 use Rattle.traces.specs.declared.Line.{Line}
 use Rattle.traces.proofs.Answers.{ready-facts}
-use Rattle.traces.proofs.OnlyLines.{lines-count}
+use Rattle.trace_laws.proofs.OnlyLines.{lines-count}
 
 few-by : (t : Bool) (ls : List Line) (khz which : List ℕ) (difference : List ℤ) → (t ≡ true → length ls ≤ 1024)
     → countIn (comparedBy t ls khz which difference .answer) ≤ 1024
