@@ -16,9 +16,9 @@ pub use numbers::joined;
 pub use numbers::nothing;
 pub use numbers::read_deciles;
 pub use numbers::read_point;
+use record_chain::follow;
 use refusal::Outcome;
 use refusal::Refusal;
-use record_chain::follow;
 
 // A point is fifteen words: fi, yi, hi and Es fs, three each, hs, clat, clck. The words past the km points are no part of the
 // circuit: the reader leaves them zero, the writer does not look at them.

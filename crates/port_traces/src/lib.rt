@@ -8,9 +8,9 @@ ghost use denote.Ref.{now};
 ghost use Rattle.port_state.specs.Words.{floatsOf};
 ghost use Rattle.traces.specs.Lines.{numberIn, countIn};
 ghost use Rattle.port_traces.specs.Exports.{countInto, portCompare, wordsInto, traceInto, portTrace};
+use computed_trace::TraceAnswer;
 use refusal::Outcome;
 use traces::Comparison;
-use computed_trace::TraceAnswer;
 
 fn count_into(c: Comparison, out: &mut [u32]) -> u32
     requires { ⌜ (1 ≤ length (now out)) × (countIn c ≤ 1024) ⌝ }

@@ -6,9 +6,9 @@ ghost use lib.ListN.{length};
 ghost use lib.Dec.{leb};
 ghost use Rattle.records.specs.Record.{Fit, form64, recordAt, nextOf};
 ghost use Rattle.record_chain.specs.Chain.{chainOf, headGood, member, stepOf, stepNumber, stepIndex, soundBy};
+use records::Form;
 use refusal::Outcome;
 use refusal::Refusal;
-use records::Form;
 
 // The records of a chain, in its order: `count` of them, then zeros. Beside a refusal all are zero.
 pub struct Chain {

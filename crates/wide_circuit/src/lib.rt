@@ -6,10 +6,10 @@ ghost use mathlib.Core.Path.{_≡_};
 ghost use Rattle.record_chain.specs.Chain.{chainOf};
 ghost use Rattle.circuit_write.specs.Written.{answerOf, leftOf};
 ghost use Rattle.wide_circuit.specs.Wide.{wideOf};
-use record_chain::Chain;
 use circuit::Circuit;
-use records::Form;
 use circuit_write::WriteAnswer;
+use record_chain::Chain;
+use records::Form;
 use refusal::Outcome;
 
 // Beside a refusal every number is zero. F2M3 past the km points is zero too.

@@ -7,8 +7,8 @@ ghost use Rattle.records.specs.Record.{wordsOf};
 ghost use Rattle.record_chain.specs.Chain.{chainOf, padded};
 ghost use Rattle.circuit.specs.Read.{numbersOf, circuitOf, besideOf};
 ghost use Rattle.wide_circuit.specs.Wide.{form128};
-use record_chain::Chain;
 use circuit::Circuit;
+use record_chain::Chain;
 
 fn points(file: &[u8], order: &[usize], km: usize) -> [u32; 75]
     requires { ⌜ (km ≤ 5) × (length (now order) ≡ 64) × ((i : ℕ) → 128 * getD (now order) i 0 + 128 ≤ length (now file)) ⌝ }
