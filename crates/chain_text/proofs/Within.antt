@@ -6,10 +6,11 @@ use native.Mathlib.Omega.{arith}
 use lib.ListN.{length, getD}
 use Rattle.refusal.specs.declared.Outcome.{Outcome}
 use Rattle.lines.proofs.Sizes.{AtMost, _then_, word, line-feed, decimal, field, times}
-use Rattle.circuit.specs.declared.Chain.{Chain}
-use Rattle.circuit.specs.Record.{form64, recordAt, kindOf, nextOf}
-use Rattle.circuit.specs.Chain.{chainOf}
-use Rattle.circuit.proofs.Followed.{fit64, Followed, followed, there, count-range}
+use Rattle.record_chain.specs.declared.Chain.{Chain}
+use Rattle.records.specs.Record.{form64, recordAt, kindOf, nextOf}
+use Rattle.record_chain.specs.Chain.{chainOf}
+use Rattle.records.proofs.Lists.{fit64}
+use Rattle.record_chain.proofs.Followed.{Followed, followed, there, count-range}
 use Rattle.chain_text.specs.ChainText.{stepLine, stepAt, endWord, endLine, followedText}
 
 pub within : (f : List ℕ) (k : Chain) → k ≡ chainOf form64 f → k .outcome ≡ Outcome.Answered

@@ -4,9 +4,9 @@ use Prim.Native.Nat.{ℕ}
 use lib.ListN.{getD}
 use Rattle.refusal.specs.declared.Outcome.{Outcome}
 use Rattle.lines.specs.Text.{space, lineFeed, decimalOf, fieldOf, refusedText, joined}
-use Rattle.circuit.specs.declared.Chain.{Chain}
-use Rattle.circuit.specs.Record.{form64, recordAt, kindOf, nextOf}
-use Rattle.circuit.specs.Chain.{chainOf}
+use Rattle.record_chain.specs.declared.Chain.{Chain}
+use Rattle.records.specs.Record.{form64, recordAt, kindOf, nextOf}
+use Rattle.record_chain.specs.Chain.{chainOf}
 
 -- record n, whose bytes are r
 unfoldable pub stepLine : List ℕ → ℕ → List ℕ

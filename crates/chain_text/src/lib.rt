@@ -5,10 +5,10 @@ ghost use lib.ListN.{length, getD};
 ghost use Rattle.refusal.specs.declared.Outcome.{Outcome};
 ghost use Rattle.io.specs.Counts.{Counts};
 ghost use Rattle.lines.specs.Text.{joined, Clipped, Put};
-ghost use Rattle.circuit.specs.Record.{form64};
-ghost use Rattle.circuit.specs.Chain.{chainOf};
+ghost use Rattle.records.specs.Record.{form64};
+ghost use Rattle.record_chain.specs.Chain.{chainOf};
 ghost use Rattle.chain_text.specs.ChainText.{stepLine, stepAt, endLine, followedText, chainText};
-use circuit::Chain;
+use record_chain::Chain;
 use refusal::Outcome;
 
 // A step of the chain: the record's number, its kind and its next index.
@@ -16,8 +16,8 @@ fn put_step(out: &mut [u8], at: usize, r: &[u8], n: usize) -> usize
     requires { ⌜ length (now r) ≡ 64 ⌝ }
     ensures { λ e. ⌜ Clipped (stepLine (now (r .entry)) n) (now (out .entry)) at (now (out .exit)) e ⌝ }
 {
-    let kind = circuit::half(r, 0);
-    let next = circuit::half(r, 2);
+    let kind = records::half(r, 0);
+    let next = records::half(r, 2);
     let a = lines::put_decimal(out, at, n as u64);
     let b = lines::put_field(out, a, kind as u64);
     let c = lines::put_field(out, b, next as u64);
@@ -66,7 +66,7 @@ pub fn chain_text(file: &[u8], out: &mut [u8; ROOM]) -> usize
     ensures { λ e. ⌜ Put (chainText (now (file .entry))) (now (out .entry)) 0 (now (out .exit)) e ⌝ }
     ensures room { λ e. ⌜ Counts e (now (out .exit)) ⌝ }
 {
-    let c = circuit::follow(file);
+    let c = record_chain::follow(file);
     let outcome = c.outcome;
     match outcome {
         Outcome::Answered => put_chain(out, file, c),

@@ -1,4 +1,3 @@
--- Lists of bytes, steps of a chain, and the chain followed.
+-- The words read along a chain, and the reader's answer.
 pub mod Lists
-pub mod Steps
-pub mod Followed
+pub mod Answers

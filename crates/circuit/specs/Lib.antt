@@ -1,5 +1,3 @@
--- The circuit file: a record, the chain of records, the circuit that is read, the words of a point.
-pub mod Record
-pub mod Chain
+-- The circuit file: the circuit that is read, the words of a point.
 pub mod Read
 pub mod Point

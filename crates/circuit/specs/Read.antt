@@ -3,12 +3,12 @@ use Prim.Native.Nat.{ℕ, zero, suc, _+_, _*_, _-_}
 use mathlib.Core.List.{List, [], _++_}
 use lib.ListN.{getD, drop, replicate}
 use Rattle.refusal.specs.declared.Outcome.{Outcome}
-use Rattle.circuit.specs.declared.Chain.{Chain}
+use Rattle.record_chain.specs.declared.Chain.{Chain}
 use Rattle.circuit.specs.declared.Circuit.{Circuit}
-use Rattle.circuit.specs.declared.Form.{Form}
+use Rattle.records.specs.declared.Form.{Form}
 use Rattle.circuit.specs.declared.ReadAnswer.{ReadAnswer}
-use Rattle.circuit.specs.Record.{recordAt, wordAt, wordsOf}
-use Rattle.circuit.specs.Chain.{chainOf, kmOf, shapeOf, padded}
+use Rattle.records.specs.Record.{recordAt, wordAt, wordsOf}
+use Rattle.record_chain.specs.Chain.{chainOf, kmOf, shapeOf, padded}
 
 -- of n records of the chain, from place `from` on, so many words each, those after the first `skip`
 unfoldable pub numbersOf : Form → List ℕ → List ℕ → ℕ → ℕ → ℕ → ℕ → List ℕ

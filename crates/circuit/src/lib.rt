@@ -2,16 +2,13 @@
 // number is held by its bits, so that a NaN keeps its payload. What takes a record, or a form, is open to the readers of other
 // forms.
 mod numbers;
-mod record;
-mod walk;
 
 ghost use mathlib.Core.Path.{_≡_};
 ghost use Prim.Native.Nat.{_<_};
 ghost use mathlib.Core.List.{map};
 ghost use mathlib.Core.Bool.{not};
 ghost use lib.Ieee.{ofBits, binary32};
-ghost use Rattle.circuit.specs.Record.{form64, allZero};
-ghost use Rattle.circuit.specs.Chain.{chainOf};
+ghost use Rattle.records.specs.Record.{form64, allZero};
 ghost use Rattle.circuit.specs.Read.{readOf};
 ghost use Rattle.circuit.specs.Point.{pointNumber};
 pub use numbers::all_zero;
@@ -19,26 +16,9 @@ pub use numbers::joined;
 pub use numbers::nothing;
 pub use numbers::read_deciles;
 pub use numbers::read_point;
-pub use record::byte;
-pub use record::half;
-pub use record::word;
+use record_chain::follow;
 use refusal::Outcome;
 use refusal::Refusal;
-pub use walk::follow_form;
-
-// How a file is laid out: bytes in a record, the kind of record 0, and the words that a point has after its fifteen.
-pub struct Form {
-    pub size: usize,
-    pub first: usize,
-    pub extra: usize,
-}
-
-// The records of a chain, in its order: `count` of them, then zeros. Beside a refusal all are zero.
-pub struct Chain {
-    pub outcome: Outcome,
-    pub order: [usize; 64],
-    pub count: usize,
-}
 
 // A point is fifteen words: fi, yi, hi and Es fs, three each, hs, clat, clck. The words past the km points are no part of the
 // circuit: the reader leaves them zero, the writer does not look at them.
@@ -57,31 +37,6 @@ pub struct Circuit {
 pub struct ReadAnswer {
     pub outcome: Outcome,
     pub circuit: Circuit,
-}
-
-// Where the next index of a record leads: nowhere, to a record that is there and was not met before, or astray.
-pub enum Step {
-    End,
-    To(usize),
-    Astray,
-}
-
-// The paper's form.
-pub fn form64() -> Form
-    ensures { λ o. ⌜ o ≡ Rattle.circuit.specs.Record.form64 ⌝ }
-{
-    Form {
-        size: 64,
-        first: 1,
-        extra: 0,
-    }
-}
-
-// The chain of a file, or where it is turned away.
-pub fn follow(file: &[u8]) -> Chain
-    ensures { λ c. ⌜ c ≡ chainOf form64 (now (file .entry)) ⌝ }
-{
-    follow_form(form64(), file)
 }
 
 // The circuit of a file, or where it is turned away. Records off the chain are not looked at.

@@ -4,19 +4,18 @@ ghost use mathlib.Core.Path.{_≡_};
 ghost use Prim.Native.Nat.{ℕ, _+_, _*_, _≤_};
 ghost use lib.ListN.{length, getD};
 ghost use Rattle.refusal.specs.declared.Outcome.{Outcome};
-ghost use Rattle.circuit.specs.Record.{form64, wordsOf, allZero};
-ghost use Rattle.circuit.specs.Chain.{chainOf, padded};
+ghost use Rattle.records.specs.Record.{form64, wordsOf, allZero};
+ghost use Rattle.record_chain.specs.Chain.{chainOf, padded};
 ghost use Rattle.circuit.specs.Read.{numbersOf, circuitBy, circuitOf, noCircuit};
-use crate::Chain;
 use crate::Circuit;
-use crate::record;
+use record_chain::Chain;
 
 // The fifteen words of a point.
 pub fn read_point(r: &[u8], out: &mut [u32])
     requires { ⌜ (64 ≤ length (now r)) × (length (now out) ≡ 15) ⌝ }
     ensures { λ _. ⌜ now (out .exit) ≡ wordsOf (now (r .entry)) 15 ⌝ }
 {
-    record::words(r, out);
+    records::words(r, out);
 }
 
 // The twelve words of a record of kind 3.
@@ -24,7 +23,7 @@ pub fn read_deciles(r: &[u8], out: &mut [u32])
     requires { ⌜ (64 ≤ length (now r)) × (length (now out) ≡ 12) ⌝ }
     ensures { λ _. ⌜ now (out .exit) ≡ wordsOf (now (r .entry)) 12 ⌝ }
 {
-    record::words(r, out);
+    records::words(r, out);
 }
 
 // Whether every word is +0.
@@ -75,12 +74,12 @@ pub fn joined(head: &[u8], points: [u32; 75], deciles: [u32; 576]) -> Circuit
     ensures { λ r. ⌜ r ≡ circuitBy (now (head .entry)) points deciles ⌝ }
 {
     Circuit {
-        km: record::byte(head, 4),
-        shape: record::byte(head, 5),
-        gcd: record::word(head, 8),
-        gcdkm: record::word(head, 12),
-        amind: record::word(head, 16),
-        ssn: record::word(head, 20),
+        km: records::byte(head, 4),
+        shape: records::byte(head, 5),
+        gcd: records::word(head, 8),
+        gcdkm: records::word(head, 12),
+        amind: records::word(head, 16),
+        ssn: records::word(head, 20),
         points,
         deciles,
     }
@@ -91,7 +90,7 @@ pub fn circuit(file: &[u8], c: Chain) -> Circuit
     ensures { λ r. ⌜ r ≡ circuitOf form64 (now (file .entry)) c ⌝ }
 {
     let head = &file[0..64];
-    let km = record::byte(head, 4);
+    let km = records::byte(head, 4);
     let order = c.order;
     let count = c.count;
     let points = points(file, &order, km);

@@ -10,11 +10,11 @@ use lib.Seq.{take-add, drop-drop, getD-take, getD-drop}
 use lib.Dec.{eqb}
 use borrow.Author.Tests.{eqb-true}
 use Rattle.circuit.specs.declared.Circuit.{Circuit}
-use Rattle.circuit.specs.declared.Form.{Form}
-use Rattle.circuit.specs.Record.{Fit, halfAt, wordAt, kindOf, nextOf, wordsOf, allZero}
-use Rattle.circuit.specs.Chain.{kmOf, shapeOf}
-use Rattle.circuit.proofs.Lists.{both, zeros, length-words}
-use Rattle.circuit.proofs.Steps.{Head}
+use Rattle.records.specs.declared.Form.{Form}
+use Rattle.records.specs.Record.{Fit, halfAt, wordAt, kindOf, nextOf, wordsOf, allZero}
+use Rattle.record_chain.specs.Chain.{kmOf, shapeOf}
+use Rattle.records.proofs.Lists.{both, zeros, length-words}
+use Rattle.record_chain.proofs.Steps.{Head}
 use Rattle.circuit_write.specs.Written.{halfOf, wordOf, bytesOf, recordOf, headOf}
 use Rattle.circuit_write.proofs.Cells.{bytes-append, head-put}
 use Rattle.circuit_laws.specs.Forms.{Each}

@@ -8,7 +8,7 @@ use lib.ListN.{length, getD, take, drop, replicate}
 use lib.Seq.{drop-cons, take-suc, take-length, getD-drop, drop-append-add, drop-length}
 use native.Mathlib.Nat.{add-zero, div-div-eq-div-mul}
 use borrow.Author.Tests.{eq-eqb}
-use Rattle.circuit.specs.Record.{halfAt, wordAt, kindOf, nextOf, wordsOf, allZero, fits}
+use Rattle.records.specs.Record.{halfAt, wordAt, kindOf, nextOf, wordsOf, allZero, fits}
 use Rattle.circuit_write.specs.Written.{bytesOf, recordOf}
 use Rattle.circuit_laws.specs.Forms.{Each}
 

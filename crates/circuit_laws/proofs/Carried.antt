@@ -7,15 +7,16 @@ use native.Mathlib.Omega.{arith}
 use lib.ListN.{length, getD, take, drop, replicate}
 use lib.Seq.{take-at}
 use Rattle.refusal.specs.declared.Outcome.{Outcome}
-use Rattle.circuit.specs.declared.Chain.{Chain}
+use Rattle.record_chain.specs.declared.Chain.{Chain}
 use Rattle.circuit.specs.declared.Circuit.{Circuit}
-use Rattle.circuit.specs.declared.Form.{Form}
+use Rattle.records.specs.declared.Form.{Form}
 use Rattle.circuit.specs.declared.ReadAnswer.{ReadAnswer}
-use Rattle.circuit.specs.Record.{Fit, recordAt, wordAt, wordsOf}
-use Rattle.circuit.specs.Chain.{kmOf, padded, chainOf}
+use Rattle.records.specs.Record.{Fit, recordAt, wordAt, wordsOf}
+use Rattle.record_chain.specs.Chain.{kmOf, padded, chainOf}
 use Rattle.circuit.specs.Read.{numbersOf, circuitOf, readOf}
 use Rattle.circuit.proofs.Lists.{length-numbers, length-read}
-use Rattle.circuit.proofs.Followed.{Followed, followed, count-range, read-answered}
+use Rattle.record_chain.proofs.Followed.{Followed, followed, count-range}
+use Rattle.circuit.proofs.Answers.{read-answered}
 use Rattle.circuit_write.specs.Written.{leftOf}
 use Rattle.circuit_laws.specs.Forms.{Each, Whole, heldOf, heldBeside}
 use Rattle.circuit_laws.specs.Laws.{EveryForm, ReadBack, Carried}

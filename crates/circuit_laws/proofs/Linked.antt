@@ -13,13 +13,13 @@ use lib.Dec.{eqb, leb, ltb}
 use borrow.Author.Tests.{eqb-true}
 use Rattle.refusal.specs.declared.Refusal.{Refusal}
 use Rattle.refusal.specs.declared.Outcome.{Outcome}
-use Rattle.circuit.specs.declared.Chain.{Chain}
-use Rattle.circuit.specs.declared.Step.{Step}
-use Rattle.circuit.specs.declared.Form.{Form}
-use Rattle.circuit.specs.Record.{recordAt, nextOf}
-use Rattle.circuit.specs.Chain.{countOf, member, stepBy, stepOf, soundBy, answered, walk}
-use Rattle.circuit.proofs.Steps.{step-next}
-use Rattle.circuit.proofs.Followed.{walk-ind}
+use Rattle.record_chain.specs.declared.Chain.{Chain}
+use Rattle.record_chain.specs.declared.Step.{Step}
+use Rattle.records.specs.declared.Form.{Form}
+use Rattle.records.specs.Record.{recordAt, nextOf}
+use Rattle.record_chain.specs.Chain.{countOf, member, stepBy, stepOf, soundBy, answered, walk}
+use Rattle.record_chain.proofs.Steps.{step-next}
+use Rattle.record_chain.proofs.Followed.{walk-ind}
 
 end-by : (b g : Bool) (m : ℕ) → stepBy b g m ≡ Step.End → b ≡ true
 end-by true g m e = refl

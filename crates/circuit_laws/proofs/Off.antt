@@ -4,14 +4,14 @@ use Prim.Native.Nat.{ℕ, zero, suc, _+_, _-_}
 use mathlib.Core.Path.{_≡_, refl, ap, _∙_}
 use mathlib.Core.List.{List, [], _∷_, _++_}
 use lib.ListN.{length, getD, replicate}
-use Rattle.circuit.specs.declared.Chain.{Chain}
-use Rattle.circuit.specs.declared.Step.{Step}
-use Rattle.circuit.specs.declared.Form.{Form}
-use Rattle.circuit.specs.Record.{recordAt}
-use Rattle.circuit.specs.Chain.{lengthGood, headGood, kmOf, stepOf, byStep, walk, chainOf}
+use Rattle.record_chain.specs.declared.Chain.{Chain}
+use Rattle.record_chain.specs.declared.Step.{Step}
+use Rattle.records.specs.declared.Form.{Form}
+use Rattle.records.specs.Record.{recordAt}
+use Rattle.record_chain.specs.Chain.{lengthGood, headGood, kmOf, stepOf, byStep, walk, chainOf}
 use Rattle.circuit.specs.Read.{numbersOf, circuitOf, readOf, besideOf}
-use Rattle.circuit.proofs.Steps.{step-to, step-next}
-use Rattle.circuit.proofs.Followed.{walk-ind, by-pick}
+use Rattle.record_chain.proofs.Steps.{step-to, step-next}
+use Rattle.record_chain.proofs.Followed.{walk-ind, by-pick}
 use Rattle.circuit_laws.specs.Laws.{OffChain}
 use Rattle.circuit_laws.specs.OnChain.{OnChain}
 use Rattle.circuit_laws.specs.OnChain.OnChain.{first, after}

@@ -6,11 +6,12 @@ use native.Mathlib.Omega.{arith}
 use native.Mathlib.Nat.{zero-mul}
 use lib.ListN.{length, take}
 use Rattle.refusal.specs.declared.Outcome.{Outcome}
-use Rattle.circuit.specs.Record.{form64, recordAt}
-use Rattle.circuit.specs.Chain.{kmOf, chainOf}
+use Rattle.records.specs.Record.{form64, recordAt}
+use Rattle.record_chain.specs.Chain.{kmOf, chainOf}
 use Rattle.circuit.specs.Read.{numbersOf, readOf, besideBy, besideOf}
-use Rattle.circuit.proofs.Lists.{length-padded, length-numbers}
-use Rattle.circuit.proofs.Followed.{fit64}
+use Rattle.record_chain.proofs.Members.{length-padded}
+use Rattle.circuit.proofs.Lists.{length-numbers}
+use Rattle.records.proofs.Lists.{fit64}
 use Rattle.circuit_write.specs.Written.{fileOf, leftOf}
 use Rattle.circuit_laws.specs.Forms.{Beside}
 use Rattle.circuit_laws.specs.Paper.{PaperLaws}

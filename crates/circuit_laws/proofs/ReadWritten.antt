@@ -15,14 +15,14 @@ use borrow.Author.Tests.{eq-eqb, ne-eqb, le-leb, lt-leb, lt-ltb, leb-true, leb-f
 use Rattle.refusal.specs.declared.Outcome.{Outcome}
 use Rattle.circuit.specs.declared.Circuit.{Circuit}
 use Rattle.circuit.specs.declared.ReadAnswer.{ReadAnswer}
-use Rattle.circuit.specs.declared.Step.{Step}
-use Rattle.circuit.specs.declared.Form.{Form}
-use Rattle.circuit.specs.Record.{Fit, recordAt, halfAt, wordAt, nextOf, wordsOf, allZero}
-use Rattle.circuit.specs.Chain.{headGood, countOf, kmOf, shapeOf, member, stepOf, soundBy, answered, padded, walk, chainOf}
+use Rattle.record_chain.specs.declared.Step.{Step}
+use Rattle.records.specs.declared.Form.{Form}
+use Rattle.records.specs.Record.{Fit, recordAt, halfAt, wordAt, nextOf, wordsOf, allZero}
+use Rattle.record_chain.specs.Chain.{headGood, countOf, kmOf, shapeOf, member, stepOf, soundBy, answered, padded, walk, chainOf}
 use Rattle.circuit.specs.Read.{numbersOf, circuitOf, readOf, besideOf}
-use Rattle.circuit.proofs.Lists.{both, zeros, length-words}
-use Rattle.circuit.proofs.Steps.{walk-end, walk-on}
-use Rattle.circuit.proofs.Followed.{read-answered}
+use Rattle.records.proofs.Lists.{both, zeros, length-words}
+use Rattle.record_chain.proofs.Steps.{walk-end, walk-on}
+use Rattle.circuit.proofs.Answers.{read-answered}
 use Rattle.circuit_write.specs.declared.WriteAnswer.{WriteAnswer}
 use Rattle.circuit_write.specs.Written.{goodOf, answerBy, answerOf, leftOf, bytesOf, headOf, recordOf, pointAt, extraAt, twelveAt, decileRecords, recordsOf, nextBy, nextIn, entryBy, entryOf, entriesOf, fileOf}
 use Rattle.circuit_write.proofs.Cells.{part-within, length-entry, length-entries, length-file, records-most, size-most, write-good}

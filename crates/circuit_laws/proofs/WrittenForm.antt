@@ -11,9 +11,9 @@ use lib.Dec.{eqb, leb}
 use Rattle.refusal.specs.declared.Outcome.{Outcome}
 use Rattle.circuit.specs.declared.Circuit.{Circuit}
 use Rattle.circuit.specs.declared.ReadAnswer.{ReadAnswer}
-use Rattle.circuit.specs.declared.Form.{Form}
-use Rattle.circuit.specs.Record.{Fit, allZero}
-use Rattle.circuit.specs.Chain.{countOf, chainOf}
+use Rattle.records.specs.declared.Form.{Form}
+use Rattle.records.specs.Record.{Fit, allZero}
+use Rattle.record_chain.specs.Chain.{countOf, chainOf}
 use Rattle.circuit.specs.Read.{readOf}
 use Rattle.circuit_write.specs.Written.{halfOf, wordOf, bytesOf, headOf, recordOf, pointAt, extraAt, twelveAt, decileRecords, recordsOf, nextIn, entryBy, entryOf, entriesOf, fileOf}
 use Rattle.circuit_laws.specs.Forms.{Each, Whole, Beside, heldOf, InForm, upTo}

@@ -12,15 +12,17 @@ use lib.Seq.{take-at, drop-at, take-all, take-add, length-take-le, getD-take}
 use lib.Dec.{eqb, leb}
 use borrow.Author.Tests.{eq-eqb, ne-eqb, eqb-true, eqb-false, le-leb, lt-leb, leb-true, leb-false}
 use Rattle.refusal.specs.declared.Outcome.{Outcome}
-use Rattle.circuit.specs.declared.Chain.{Chain}
+use Rattle.record_chain.specs.declared.Chain.{Chain}
 use Rattle.circuit.specs.declared.Circuit.{Circuit}
 use Rattle.circuit.specs.declared.ReadAnswer.{ReadAnswer}
-use Rattle.circuit.specs.declared.Form.{Form}
-use Rattle.circuit.specs.Record.{Fit, recordAt, kindOf, nextOf, wordsOf, allZero, fits}
-use Rattle.circuit.specs.Chain.{countOf, kmOf, soundBy, padded, chainOf}
+use Rattle.records.specs.declared.Form.{Form}
+use Rattle.records.specs.Record.{Fit, recordAt, kindOf, nextOf, wordsOf, allZero, fits}
+use Rattle.record_chain.specs.Chain.{countOf, kmOf, soundBy, padded, chainOf}
 use Rattle.circuit.specs.Read.{numbersOf, circuitOf, readBy, readOf, besideOf}
-use Rattle.circuit.proofs.Lists.{both, length-after, length-numbers}
-use Rattle.circuit.proofs.Followed.{Followed, followed, count-range, read-answered}
+use Rattle.records.proofs.Lists.{both, length-after}
+use Rattle.circuit.proofs.Lists.{length-numbers}
+use Rattle.record_chain.proofs.Followed.{Followed, followed, count-range}
+use Rattle.circuit.proofs.Answers.{read-answered}
 use Rattle.circuit_write.specs.declared.WriteAnswer.{WriteAnswer}
 use Rattle.circuit_write.specs.Written.{recordOf, headOf, pointAt, extraAt, twelveAt, recordsOf, nextIn, entryOf, entriesOf, fileOf, goodOf, answerOf, leftOf}
 use Rattle.circuit_write.proofs.Cells.{part-within, write-good, good-is}

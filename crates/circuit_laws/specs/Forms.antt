@@ -6,10 +6,10 @@ use mathlib.Core.List.{List, [], _∷_, _++_}
 use mathlib.Core.Bool.{false}
 use lib.ListN.{length, take}
 use Rattle.circuit.specs.declared.Circuit.{Circuit}
-use Rattle.circuit.specs.declared.Form.{Form}
+use Rattle.records.specs.declared.Form.{Form}
 use Rattle.refusal.specs.declared.Outcome.{Outcome}
-use Rattle.circuit.specs.Record.{allZero}
-use Rattle.circuit.specs.Chain.{padded, countOf, chainOf}
+use Rattle.records.specs.Record.{allZero}
+use Rattle.record_chain.specs.Chain.{padded, countOf, chainOf}
 use Rattle.circuit.specs.Read.{readOf}
 
 -- each number of a list is below n

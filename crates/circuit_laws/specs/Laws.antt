@@ -7,8 +7,8 @@ use mathlib.Core.List.{List}
 use lib.ListN.{length, take, drop, replicate}
 use Rattle.refusal.specs.declared.Outcome.{Outcome}
 use Rattle.circuit.specs.declared.Circuit.{Circuit}
-use Rattle.circuit.specs.declared.Form.{Form}
-use Rattle.circuit.specs.Record.{Fit, recordAt}
+use Rattle.records.specs.declared.Form.{Form}
+use Rattle.records.specs.Record.{Fit, recordAt}
 use Rattle.circuit.specs.Read.{readOf, besideOf}
 use Rattle.circuit_write.specs.declared.WriteAnswer.{WriteAnswer}
 use Rattle.circuit_write.specs.Written.{recordsOf, fileOf, answerOf, leftOf}

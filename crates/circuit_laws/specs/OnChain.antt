@@ -3,9 +3,9 @@
 use Prim.Native.Nat.{ℕ, _<_}
 use mathlib.Core.Path.{_≡_}
 use mathlib.Core.List.{List}
-use Rattle.circuit.specs.declared.Form.{Form}
-use Rattle.circuit.specs.Record.{recordAt, nextOf}
-use Rattle.circuit.specs.Chain.{countOf}
+use Rattle.records.specs.declared.Form.{Form}
+use Rattle.records.specs.Record.{recordAt, nextOf}
+use Rattle.record_chain.specs.Chain.{countOf}
 
 pub data OnChain (o : Form) (f : List ℕ) : ℕ → Type 0 where
   first : OnChain o f 0

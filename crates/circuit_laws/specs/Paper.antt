@@ -5,7 +5,7 @@ use mathlib.Core.List.{List, []}
 use lib.ListN.{length, take, drop, replicate}
 use Rattle.refusal.specs.declared.Outcome.{Outcome}
 use Rattle.circuit.specs.declared.Circuit.{Circuit}
-use Rattle.circuit.specs.Record.{form64}
+use Rattle.records.specs.Record.{form64}
 use Rattle.circuit.specs.Read.{readOf}
 use Rattle.circuit_write.specs.declared.WriteAnswer.{WriteAnswer}
 use Rattle.circuit_write.specs.Written.{recordsOf, fileOf, answerOf, leftOf}

@@ -12,11 +12,13 @@ use lib.Ieee.{Float, binary32, ofBits}
 use Rattle.scalar.specs.F32.{_-f_, _<f_, _≤f_, _>f_, _≥f_, at}
 use Rattle.scalar.specs.Literals.{f0, f8·5, f10}
 use Rattle.refusal.specs.declared.Outcome.{Outcome}
-use Rattle.circuit.specs.declared.Chain.{Chain}
-use Rattle.circuit.specs.Record.{form64}
-use Rattle.circuit.specs.Chain.{chainOf}
+use Rattle.record_chain.specs.declared.Chain.{Chain}
+use Rattle.records.specs.Record.{form64}
+use Rattle.record_chain.specs.Chain.{chainOf}
 use Rattle.circuit.specs.Read.{readOf, circuitOf, noCircuit}
-use Rattle.circuit.proofs.Followed.{fit64, Followed, followed, count-range, read-answered, read-refused, small}
+use Rattle.records.proofs.Lists.{fit64}
+use Rattle.record_chain.proofs.Followed.{Followed, followed, count-range}
+use Rattle.circuit.proofs.Answers.{read-answered, read-refused, small}
 use Rattle.circuit.proofs.Lists.{length-read}
 use Rattle.layers.specs.FromLayers.{countTaken, pointSet, pointsSet, emptyOf, fromLayersBy, fromLayersOf}
 use Rattle.layers.specs.Ionset.{layerFrom, twoSlots, threeSlots, assignedBy, assignedOf, tooClose, f1KeptBy, f1By, f1Settled, f2Settled, slotSettled, slotsSettled, ionsetBy, ionsetOf}

@@ -8,7 +8,7 @@ use lib.ListN.{take, replicate}
 use lib.Ieee.{Float, binary32, ofBits}
 use Rattle.refusal.specs.declared.Refusal.{Refusal}
 use Rattle.refusal.specs.declared.Outcome.{Outcome}
-use Rattle.circuit.specs.Record.{form64}
+use Rattle.records.specs.Record.{form64}
 use Rattle.circuit.specs.Read.{readOf}
 use Rattle.circuit.specs.Point.{pointNumber}
 use Rattle.circuit.specs.declared.Circuit as file

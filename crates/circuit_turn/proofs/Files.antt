@@ -13,12 +13,13 @@ use borrow.Author.Tests.{leb-true}
 use Rattle.refusal.specs.declared.Outcome.{Outcome}
 use Rattle.lines.specs.Text.{Clipped}
 use Rattle.circuit.specs.declared.Circuit.{Circuit}
-use Rattle.circuit.specs.declared.Form.{Form}
-use Rattle.circuit.specs.Record.{Fit, allZero}
-use Rattle.circuit.specs.Chain.{chainOf}
+use Rattle.records.specs.declared.Form.{Form}
+use Rattle.records.specs.Record.{Fit, allZero}
+use Rattle.record_chain.specs.Chain.{chainOf}
 use Rattle.circuit.specs.Read.{readOf, circuitOf}
-use Rattle.circuit.proofs.Lists.{both}
-use Rattle.circuit.proofs.Followed.{followed, read-answered}
+use Rattle.records.proofs.Lists.{both}
+use Rattle.record_chain.proofs.Followed.{followed}
+use Rattle.circuit.proofs.Answers.{read-answered}
 use Rattle.circuit_write.specs.Written.{decileRecords, recordsOf, fileOf, goodOf, answerOf, lengthIn, leftOf}
 use Rattle.circuit_write.proofs.Cells.{write-good, length-file, good-is}
 use Rattle.circuit_laws.proofs.WrittenRead.{chain-answered}

@@ -7,9 +7,9 @@ use native.Mathlib.Nat.{sub-zero, suc-sub-suc}
 use lib.ListN.{take, replicate, length-replicate}
 use Rattle.refusal.specs.declared.Outcome.{Outcome}
 use Rattle.circuit.specs.declared.Circuit.{Circuit}
-use Rattle.circuit.specs.declared.Form.{Form}
-use Rattle.circuit.specs.Record.{Fit}
-use Rattle.circuit.specs.Chain.{padded}
+use Rattle.records.specs.declared.Form.{Form}
+use Rattle.records.specs.Record.{Fit}
+use Rattle.record_chain.specs.Chain.{padded}
 use Rattle.circuit.specs.Read.{readOf}
 use Rattle.circuit_write.specs.declared.WriteAnswer.{WriteAnswer}
 use Rattle.circuit_write.specs.Written.{recordsOf, fileOf, answerOf}

@@ -6,7 +6,7 @@ use mathlib.Core.Bool.{Bool, true, false}
 use native.Mathlib.Omega.{arith}
 use Rattle.refusal.specs.declared.Refusal.{Refusal}
 use Rattle.refusal.specs.declared.Outcome.{Outcome}
-use Rattle.circuit.specs.Record.{allZero}
+use Rattle.records.specs.Record.{allZero}
 use Rattle.circuit.specs.Read.{readOf}
 use Rattle.circuit_write.specs.Written.{goodOf}
 use Rattle.wide_circuit.specs.declared.WideAnswer.{WideAnswer}

@@ -14,12 +14,12 @@ use Rattle.refusal.specs.declared.Refusal.{Refusal}
 use Rattle.refusal.specs.declared.Outcome.{Outcome}
 use Rattle.refusal.specs.Number.{numberOf, outcomeNumber}
 use Rattle.lines.specs.Text.{refusedText}
-use Rattle.circuit.specs.declared.Chain.{Chain}
-use Rattle.circuit.specs.declared.Form.{Form}
-use Rattle.circuit.specs.Record.{form64, recordAt, halfAt, kindOf, wordsOf, allZero}
-use Rattle.circuit.specs.Chain.{lengthGood, headGood, kmOf, soundBy, stepOf, ended, answered, refused, pick, walk, chainOf}
+use Rattle.record_chain.specs.declared.Chain.{Chain}
+use Rattle.records.specs.declared.Form.{Form}
+use Rattle.records.specs.Record.{form64, recordAt, halfAt, kindOf, wordsOf, allZero}
+use Rattle.record_chain.specs.Chain.{lengthGood, headGood, kmOf, soundBy, stepOf, ended, answered, refused, pick, walk, chainOf}
 use Rattle.circuit.specs.Read.{numbersOf, circuitOf, readOf, readBy, besideOf}
-use Rattle.circuit.proofs.Followed.{by-step, by-pick, followed}
+use Rattle.record_chain.proofs.Followed.{by-step, by-pick, followed}
 use Rattle.circuit_laws.proofs.Back.{all-zeros}
 use Rattle.circuit_laws.proofs.WrittenRead.{chain-answered}
 use Rattle.wide_circuit.specs.Wide.{form128, wideOf}

@@ -8,11 +8,13 @@ use lib.ListN.{length, replicate}
 use Rattle.refusal.specs.declared.Outcome.{Outcome}
 use Rattle.circuit.specs.declared.Circuit.{Circuit}
 use Rattle.circuit.specs.declared.ReadAnswer.{ReadAnswer}
-use Rattle.circuit.specs.Record.{form64, allZero}
-use Rattle.circuit.specs.Chain.{chainOf}
+use Rattle.records.specs.Record.{form64, allZero}
+use Rattle.record_chain.specs.Chain.{chainOf}
 use Rattle.circuit.specs.Read.{readOf, besideOf}
-use Rattle.circuit.proofs.Lists.{zeros, length-read}
-use Rattle.circuit.proofs.Followed.{fit64, followed}
+use Rattle.records.proofs.Lists.{zeros}
+use Rattle.circuit.proofs.Lists.{length-read}
+use Rattle.records.proofs.Lists.{fit64}
+use Rattle.record_chain.proofs.Followed.{followed}
 use Rattle.circuit_write.specs.Written.{fileOf}
 use Rattle.circuit_laws.specs.Forms.{Beside, InForm}
 use Rattle.circuit_laws.specs.Laws.{ReadBack}

@@ -9,8 +9,8 @@ use Rattle.refusal.specs.declared.Refusal.{Refusal}
 use Rattle.refusal.specs.declared.Outcome.{Outcome}
 use Rattle.refusal.specs.Number.{numberOf}
 use Rattle.lines.specs.Text.{refusedText}
-use Rattle.circuit.specs.Record.{form64, recordAt, wordAt, allZero}
-use Rattle.circuit.specs.Chain.{chainOf, kmOf}
+use Rattle.records.specs.Record.{form64, recordAt, wordAt, allZero}
+use Rattle.record_chain.specs.Chain.{chainOf, kmOf}
 use Rattle.circuit.specs.Read.{readOf}
 use Rattle.circuit_write.specs.Written.{fileOf}
 use Rattle.circuit_laws.specs.Forms.{Each, InForm}

@@ -6,7 +6,7 @@ use lib.ListN.{replicate}
 use Rattle.refusal.specs.declared.Refusal.{Refusal}
 use Rattle.refusal.specs.declared.Outcome.{Outcome}
 use Rattle.lines.specs.Text.{refusedText}
-use Rattle.circuit.specs.Record.{form64, allZero}
+use Rattle.records.specs.Record.{form64, allZero}
 use Rattle.circuit.specs.Read.{readOf}
 use Rattle.circuit_write.specs.Written.{fileOf}
 use Rattle.wide_circuit.specs.declared.WideAnswer.{WideAnswer}

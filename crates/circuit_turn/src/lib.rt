@@ -7,7 +7,7 @@ ghost use mathlib.Core.List.{[]};
 ghost use lib.ListN.{length, replicate};
 ghost use Rattle.io.specs.Counts.{Counts};
 ghost use Rattle.lines.specs.Text.{Clipped, Put};
-ghost use Rattle.circuit.specs.Record.{form64};
+ghost use Rattle.records.specs.Record.{form64};
 ghost use Rattle.circuit_write.specs.Written.{fileOf, goodOf, lengthIn};
 ghost use Rattle.wide_circuit.specs.Wide.{form128};
 ghost use Rattle.circuit_turn.specs.Turn.{backOf, widened, narrowed};

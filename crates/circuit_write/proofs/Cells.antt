@@ -13,9 +13,9 @@ use borrow.Author.Tests.{eq-eqb, ne-eqb, le-leb, lt-leb}
 use Rattle.refusal.specs.declared.Refusal.{Refusal}
 use Rattle.circuit.specs.declared.Circuit.{Circuit}
 use Rattle.circuit_write.specs.declared.WriteAnswer.{WriteAnswer}
-use Rattle.circuit.specs.declared.Form.{Form}
-use Rattle.circuit.specs.Record.{Fit, allZero}
-use Rattle.circuit.proofs.Lists.{rest, drop-replicate}
+use Rattle.records.specs.declared.Form.{Form}
+use Rattle.records.specs.Record.{Fit, allZero}
+use Rattle.records.proofs.Lists.{rest, drop-replicate}
 use Rattle.circuit_write.specs.Written.{halfOf, wordOf, bytesOf, recordOf, headOf, pointAt, extraAt, twelveAt, nextIn, entryBy, entryOf, entriesOf, decileRecords, recordsOf, fileOf, goodOf, answerOf, leftOf}
 
 pub two-cells : (l : List ℕ) (a b : ℕ) → length l ≡ 2 → set (set l 0 a) 1 b ≡ a ∷ b ∷ []

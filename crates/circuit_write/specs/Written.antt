@@ -7,8 +7,8 @@ use lib.Dec.{eqb, leb}
 use Rattle.refusal.specs.declared.Refusal.{Refusal}
 use Rattle.refusal.specs.Number.{numberOf}
 use Rattle.circuit.specs.declared.Circuit.{Circuit}
-use Rattle.circuit.specs.declared.Form.{Form}
-use Rattle.circuit.specs.Record.{allZero}
+use Rattle.records.specs.declared.Form.{Form}
+use Rattle.records.specs.Record.{allZero}
 use Rattle.circuit_write.specs.declared.WriteAnswer.{WriteAnswer}
 
 -- two and four bytes of a number, least significant first

@@ -5,10 +5,10 @@ ghost use mathlib.Core.Path.{_≡_};
 ghost use Prim.Native.Nat.{_+_, _*_, _≤_, _<_};
 ghost use lib.ListN.{length, drop};
 ghost use mathlib.Core.List.{[], _++_};
-ghost use Rattle.circuit.specs.Record.{form64, Fit};
+ghost use Rattle.records.specs.Record.{form64, Fit};
 ghost use Rattle.circuit_write.specs.Written.{recordsOf, nextIn, entryOf, fileOf, answerOf, leftOf, numberIn};
 use circuit::Circuit;
-use circuit::Form;
+use records::Form;
 use refusal::Refusal;
 
 pub enum WriteAnswer {
@@ -114,5 +114,5 @@ pub fn write(c: Circuit, out: &mut [u8]) -> WriteAnswer
     ensures { λ _. ⌜ now (out .exit) ≡ leftOf form64 c [] (now (out .entry)) ⌝ }
 {
     let none = [0u32; 0];
-    write_form(circuit::form64(), c, &none, out)
+    write_form(records::form64(), c, &none, out)
 }

@@ -3,10 +3,10 @@ ghost use mathlib.Core.Path.{_≡_};
 ghost use Prim.Native.Nat.{_+_, _*_, _≤_};
 ghost use lib.ListN.{length, replicate};
 ghost use mathlib.Core.List.{_++_};
-ghost use Rattle.circuit.specs.Record.{Fit};
+ghost use Rattle.records.specs.Record.{Fit};
 ghost use Rattle.circuit_write.specs.Written.{halfOf, wordOf, bytesOf, recordOf, headOf};
 use circuit::Circuit;
-use circuit::Form;
+use records::Form;
 
 fn half(n: usize, out: &mut [u8])
     requires { ⌜ length (now out) ≡ 2 ⌝ }

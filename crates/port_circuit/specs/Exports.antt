@@ -7,7 +7,7 @@ use lib.ListN.{length}
 use Rattle.refusal.specs.Number.{numberOf}
 use Rattle.refusal.specs.declared.Refusal.{Refusal}
 use Rattle.refusal.specs.declared.Outcome.{Outcome}
-use Rattle.circuit.specs.Record.{form64}
+use Rattle.records.specs.Record.{form64}
 use Rattle.circuit.specs.Read.{readOf}
 use Rattle.circuit.specs.declared.Circuit.{Circuit}
 use Rattle.circuit.specs.declared.ReadAnswer.{ReadAnswer}

@@ -11,9 +11,9 @@ use Rattle.refusal.specs.declared.Refusal.{Refusal}
 use Rattle.refusal.specs.declared.Outcome.{Outcome}
 use Rattle.port_state.specs.Words.{floatsOf}
 use Rattle.traces.specs.Lines.{Compared, comparedOf, numberIn, countIn}
-use Rattle.traces.specs.Computed.{traceOf}
+use Rattle.computed_trace.specs.Computed.{traceOf}
 use Rattle.traces.specs.declared.Comparison.{Comparison}
-use Rattle.traces.specs.declared.TraceAnswer.{TraceAnswer}
+use Rattle.computed_trace.specs.declared.TraceAnswer.{TraceAnswer}
 
 -- has the list fewer words than its layout
 abbrev pub short : List ℕ → ℕ → Bool

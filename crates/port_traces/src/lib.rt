@@ -8,9 +8,9 @@ ghost use denote.Ref.{now};
 ghost use Rattle.port_state.specs.Words.{floatsOf};
 ghost use Rattle.traces.specs.Lines.{numberIn, countIn};
 ghost use Rattle.port_traces.specs.Exports.{countInto, portCompare, wordsInto, traceInto, portTrace};
+use computed_trace::TraceAnswer;
 use refusal::Outcome;
 use traces::Comparison;
-use traces::TraceAnswer;
 
 fn count_into(c: Comparison, out: &mut [u32]) -> u32
     requires { ⌜ (1 ≤ length (now out)) × (countIn c ≤ 1024) ⌝ }
@@ -115,6 +115,6 @@ pub extern "C" fn port_trace(rows: &[u32], khz: &mut [u32], height: &mut [u32]) 
     }
     let fvert = floats_30(rows, 0);
     let hprim = floats_30(rows, 30);
-    let t = traces::trace_of(fvert, hprim);
+    let t = computed_trace::trace_of(fvert, hprim);
     trace_into(t, khz, height)
 }

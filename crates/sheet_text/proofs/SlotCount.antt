@@ -4,7 +4,7 @@ use Prim.Native.Nat.{ℕ, _≤_}
 use native.Mathlib.Omega.{arith}
 use lib.Ieee.{binary32, ofBits}
 use Rattle.refusal.specs.declared.Outcome.{Outcome}
-use Rattle.circuit.specs.Record.{form64}
+use Rattle.records.specs.Record.{form64}
 use Rattle.circuit.specs.Read.{readOf}
 use Rattle.layers.specs.declared.IonoState.{IonoState}
 use Rattle.muf.specs.declared.MufHour.{MufHour}

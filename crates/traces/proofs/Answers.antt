@@ -10,7 +10,7 @@ use borrow.Author.Tests.{eqb-true, leb-true}
 use Rattle.refusal.specs.declared.Refusal.{Refusal}
 use Rattle.traces.specs.Trace.{rises, fit}
 use Rattle.traces.specs.Lines.{traceLines, ready, column, comparedOf}
-use Rattle.traces.specs.Held.{Rows}
+use Rattle.traces.specs.Trace.{Rows}
 use Rattle.traces.specs.declared.Comparison.{Comparison}
 use Rattle.traces.proofs.Places.{both}
 use Rattle.traces.proofs.Merged.{khzIn, whichIn, differenceIn}

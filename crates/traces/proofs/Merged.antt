@@ -8,7 +8,7 @@ use lib.IntN.{ℤ}
 use lib.ListN.{length, drop, set, length-drop, drop-of-length-le}
 use lib.Seq.{drop-drop}
 use Rattle.traces.specs.Lines.{ofFirst, ofSecond, listed, traceLines, lineAt, column}
-use Rattle.traces.specs.Held.{Rows}
+use Rattle.traces.specs.Trace.{Rows}
 use Rattle.traces.specs.declared.Line.{Line}
 use Rattle.traces.proofs.Places.{up, up-drop}
 use Rattle.traces.proofs.Steps.{Goes, goes}

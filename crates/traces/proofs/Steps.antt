@@ -13,7 +13,7 @@ use lib.Seq.{drop-cons}
 use borrow.Author.Tests.{ltb-true, ltb-false, eq-eqb, ne-eqb}
 use Rattle.traces.specs.Trace.{heightAt}
 use Rattle.traces.specs.Lines.{inBoth, inFirst, inSecond, ofFirst, ofSecond, listed, traceLine, traceLines, lineAt}
-use Rattle.traces.specs.Held.{Rows}
+use Rattle.traces.specs.Trace.{Rows}
 use Rattle.traces.specs.declared.Line.{Line}
 use Rattle.traces.proofs.Places.{Above, Up, above-less, up, listed-above, listed-first, listed-second, listed-both}
 

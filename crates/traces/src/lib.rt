@@ -1,17 +1,12 @@
 // Two traces held against one another: every kHz of either, rising, with the difference of the heights where both have it.
 ghost use mathlib.Core.Path.{_≡_};
-ghost use mathlib.Core.Bool.{true, false};
-ghost use mathlib.Core.List.{[], map};
 ghost use Prim.Native.Nat.{_+_, _≤_, _<_};
 ghost use lib.IntN.{pos, _-ℤ_};
 ghost use lib.ListN.{length, drop};
 ghost use denote.Ref.{now};
 ghost use Rattle.traces.specs.Trace.{rises as risesOf, fit as fitOf};
 ghost use Rattle.traces.specs.Lines.{ofFirst, ofSecond, traceLines, lineAt, column, ready as readyOf, comparedOf, numberIn, countIn};
-ghost use Rattle.figures.specs.Nearest.{timesOf};
-ghost use Rattle.traces.specs.Held.{Rows};
-ghost use Rattle.traces.specs.Computed.{allFit, traceBy, traceOf};
-use refusal::Outcome;
+ghost use Rattle.traces.specs.Trace.{Rows};
 use refusal::Refusal;
 
 pub struct Line {
@@ -26,14 +21,6 @@ pub enum Comparison {
     // how many
     Lines(usize),
     Refused(Refusal),
-}
-
-// A trace of thirty rows; zeros where it is refused.
-pub struct TraceAnswer {
-    pub outcome: Outcome,
-    pub khz: [u32; 30],
-    // in tenths of a kilometre
-    pub height: [u32; 30],
 }
 
 // 0 for lines, else the refusal's number.
@@ -56,7 +43,8 @@ pub fn count(c: Comparison) -> usize
     }
 }
 
-fn rises(khz: &[u32]) -> bool
+// Whether each number is below the next.
+pub fn rises(khz: &[u32]) -> bool
     ensures { λ r. ⌜ r ≡ risesOf (now (khz .entry)) ⌝ }
 {
     let mut i = 0;
@@ -231,58 +219,4 @@ pub fn compare(
     }
     let n = lines(a, ah, b, bh, khz, which, difference);
     Comparison::Lines(n)
-}
-
-// k times each number, rounded; or no, where one is below zero or its multiple not a u32.
-fn scaled(x: &[f32], k: u32, out: &mut [u32]) -> bool
-    requires { ⌜ length (now out) ≡ length (now x) ⌝ }
-    ensures { λ r. ⌜ r ≡ allFit k (now (x .entry)) ⌝ }
-    ensures { λ r. ⌜ (r ≡ true → now (out .exit) ≡ map (timesOf k) (now (x .entry))) ⌝ }
-{
-    let mut i: usize = 0;
-    while i < x.len() {
-        let v = x[i];
-        if v < 0.0 {
-            return false;
-        }
-        let n = figures::times(v, k);
-        if n >= 0x1_0000_0000 {
-            return false;
-        }
-        out[i] = n as u32;
-        i += 1;
-    }
-    true
-}
-
-fn unfit() -> TraceAnswer
-    ensures { λ r. ⌜ r ≡ traceBy false [] [] ⌝ }
-{
-    TraceAnswer {
-        outcome: Outcome::Refused(Refusal::Traces),
-        khz: [0u32; 30],
-        height: [0u32; 30],
-    }
-}
-
-// A computed ionogram's thirty frequencies in MHz and virtual heights in km, as a trace.
-pub fn trace_of(fvert: [f32; 30], hprim: [f32; 30]) -> TraceAnswer
-    ensures { λ r. ⌜ r ≡ traceOf fvert hprim ⌝ }
-{
-    let mut khz = [0u32; 30];
-    let mut height = [0u32; 30];
-    if !scaled(&fvert, 1000, &mut khz) {
-        return unfit();
-    }
-    if !scaled(&hprim, 10, &mut height) {
-        return unfit();
-    }
-    if !rises(&khz) {
-        return unfit();
-    }
-    TraceAnswer {
-        outcome: Outcome::Answered,
-        khz,
-        height,
-    }
 }

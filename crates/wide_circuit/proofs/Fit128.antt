@@ -7,11 +7,11 @@ use native.Mathlib.Omega.{arith}
 use lib.ListN.{replicate}
 use Rattle.refusal.specs.declared.Refusal.{Refusal}
 use Rattle.refusal.specs.declared.Outcome.{Outcome}
-use Rattle.circuit.specs.declared.Chain.{Chain}
-use Rattle.circuit.specs.Record.{Fit, recordAt}
-use Rattle.circuit.specs.Chain.{kmOf, padded, chainOf}
+use Rattle.record_chain.specs.declared.Chain.{Chain}
+use Rattle.records.specs.Record.{Fit, recordAt}
+use Rattle.record_chain.specs.Chain.{kmOf, padded, chainOf}
 use Rattle.circuit.specs.Read.{numbersOf, circuitOf, noCircuit, besideOf}
-use Rattle.circuit.proofs.Followed.{read-answered, read-refused}
+use Rattle.circuit.proofs.Answers.{read-answered, read-refused}
 use Rattle.wide_circuit.specs.Wide.{form128, wideOf}
 
 pub fit128 : Fit form128

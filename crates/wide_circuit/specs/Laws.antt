@@ -5,7 +5,7 @@ use mathlib.Core.List.{List}
 use lib.ListN.{length, take, drop, replicate}
 use Rattle.refusal.specs.declared.Outcome.{Outcome}
 use Rattle.circuit.specs.declared.Circuit.{Circuit}
-use Rattle.circuit.specs.Record.{recordAt}
+use Rattle.records.specs.Record.{recordAt}
 use Rattle.circuit_write.specs.declared.WriteAnswer.{WriteAnswer}
 use Rattle.circuit_write.specs.Written.{recordsOf, fileOf, answerOf, leftOf}
 use Rattle.circuit_laws.specs.Forms.{Whole, Beside, heldOf, heldBeside, InForm}

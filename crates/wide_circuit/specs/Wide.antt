@@ -2,7 +2,7 @@
 -- (`circuit`, `circuit_write`) at this one.
 use Prim.Native.Nat.{ℕ}
 use mathlib.Core.List.{List}
-use Rattle.circuit.specs.declared.Form.{Form}
+use Rattle.records.specs.declared.Form.{Form}
 use Rattle.circuit.specs.Read.{readOf, besideOf}
 use Rattle.wide_circuit.specs.declared.WideAnswer.{WideAnswer}
 

@@ -3,13 +3,13 @@
 mod numbers;
 
 ghost use mathlib.Core.Path.{_≡_};
-ghost use Rattle.circuit.specs.Chain.{chainOf};
+ghost use Rattle.record_chain.specs.Chain.{chainOf};
 ghost use Rattle.circuit_write.specs.Written.{answerOf, leftOf};
 ghost use Rattle.wide_circuit.specs.Wide.{wideOf};
-use circuit::Chain;
 use circuit::Circuit;
-use circuit::Form;
 use circuit_write::WriteAnswer;
+use record_chain::Chain;
+use records::Form;
 use refusal::Outcome;
 
 // Beside a refusal every number is zero. F2M3 past the km points is zero too.
@@ -34,7 +34,7 @@ pub fn form128() -> Form
 fn follow(file: &[u8]) -> Chain
     ensures { λ c. ⌜ c ≡ chainOf Rattle.wide_circuit.specs.Wide.form128 (now (file .entry)) ⌝ }
 {
-    circuit::follow_form(form128(), file)
+    record_chain::follow_form(form128(), file)
 }
 
 // The circuit of a file and its F2M3, or where it is turned away. Records off the chain are not looked at.

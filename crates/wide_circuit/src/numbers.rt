@@ -3,12 +3,12 @@ ghost use mathlib.Core.Path.{_≡_};
 ghost use Prim.Native.Nat.{ℕ, _+_, _*_, _≤_};
 ghost use lib.ListN.{length, getD, drop};
 ghost use Rattle.refusal.specs.declared.Outcome.{Outcome};
-ghost use Rattle.circuit.specs.Record.{wordsOf};
-ghost use Rattle.circuit.specs.Chain.{chainOf, padded};
+ghost use Rattle.records.specs.Record.{wordsOf};
+ghost use Rattle.record_chain.specs.Chain.{chainOf, padded};
 ghost use Rattle.circuit.specs.Read.{numbersOf, circuitOf, besideOf};
 ghost use Rattle.wide_circuit.specs.Wide.{form128};
-use circuit::Chain;
 use circuit::Circuit;
+use record_chain::Chain;
 
 fn points(file: &[u8], order: &[usize], km: usize) -> [u32; 75]
     requires { ⌜ (km ≤ 5) × (length (now order) ≡ 64) × ((i : ℕ) → 128 * getD (now order) i 0 + 128 ≤ length (now file)) ⌝ }
@@ -43,7 +43,7 @@ pub fn circuit(file: &[u8], c: Chain) -> Circuit
     ensures { λ r. ⌜ r ≡ circuitOf form128 (now (file .entry)) c ⌝ }
 {
     let head = &file[0..128];
-    let km = circuit::byte(head, 4);
+    let km = records::byte(head, 4);
     let order = c.order;
     let count = c.count;
     let points = points(file, &order, km);
@@ -56,7 +56,7 @@ fn read_f2m3(r: &[u8], out: &mut [u32])
     requires { ⌜ (68 ≤ length (now r)) × (length (now out) ≡ 1) ⌝ }
     ensures { λ _. ⌜ now (out .exit) ≡ drop 15 (wordsOf (now (r .entry)) 16) ⌝ }
 {
-    out[0] = circuit::word(r, 64);
+    out[0] = records::word(r, 64);
 }
 
 fn f2m3s(file: &[u8], order: &[usize], km: usize) -> [u32; 5]
@@ -79,7 +79,7 @@ pub fn f2m3(file: &[u8], c: Chain) -> [u32; 5]
     ensures { λ r. ⌜ r ≡ besideOf form128 (now (file .entry)) ⌝ }
 {
     let head = &file[0..128];
-    let km = circuit::byte(head, 4);
+    let km = records::byte(head, 4);
     let order = c.order;
     f2m3s(file, &order, km)
 }

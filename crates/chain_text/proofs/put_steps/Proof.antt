@@ -5,7 +5,7 @@ use native.Mathlib.Nat.{le-antisymm}
 use native.Mathlib.Omega.{arith}
 use lib.ListN.{length, getD}
 use denote.Ref.{now}
-use Rattle.circuit.proofs.Lists.{length-part}
+use Rattle.records.proofs.Lists.{length-part}
 use Rattle.lines.specs.Text.{joined, Clipped}
 use Rattle.lines.proofs.Placing.{clip-start, clip-next, clip-length}
 use Rattle.chain_text.specs.ChainText.{stepAt}

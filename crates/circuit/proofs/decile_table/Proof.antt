@@ -6,7 +6,7 @@ use native.Mathlib.Omega.{arith}
 use borrow.Author.Needs.{needs}
 use lib.ListN.{length, take, replicate, length-set}
 use lib.Seq.{take-all}
-use Rattle.circuit.proofs.Lists.{zeros, sized, mapped-on}
+use Rattle.records.proofs.Lists.{zeros, sized, mapped-on}
 use lib.Ieee.{ofBits, binary32}
 use Rattle.circuit.proofs.decile_table.Statement.{statement}
 use Rattle.circuit.proofs.decile_table.Tie as tie

@@ -3,8 +3,8 @@ use mathlib.Core.Path.{sym, ap, _∙_}
 use Rattle.refusal.specs.declared.Outcome.{Outcome}
 use Rattle.circuit.specs.declared.Circuit.{Circuit}
 use Rattle.circuit.specs.declared.ReadAnswer.{ReadAnswer}
-use Rattle.circuit.specs.Record.{form64}
-use Rattle.circuit.proofs.Followed.{read-answered, read-refused}
+use Rattle.records.specs.Record.{form64}
+use Rattle.circuit.proofs.Answers.{read-answered, read-refused}
 use borrow.Author.Needs.{needs}
 use Rattle.circuit.proofs.read.Statement.{statement}
 use Rattle.circuit.proofs.read.Tie as tie

@@ -1,5 +1,6 @@
 -- The reader's outcome decides; a circuit has at most five points.
-use Rattle.circuit.proofs.Followed.{fit64, small}
+use Rattle.records.proofs.Lists.{fit64}
+use Rattle.circuit.proofs.Answers.{small}
 use Rattle.circuit_sheet.specs.CircuitSheet.{sheetOf}
 use borrow.Author.Needs.{needs}
 use Rattle.circuit_sheet.proofs.of_file.Statement.{statement}

@@ -6,8 +6,8 @@ use native.Mathlib.Omega.{arith}
 use borrow.Author.Needs.{needs}
 use Rattle.lines.proofs.Placing.{fits}
 use Rattle.lines.proofs.Sizes.{refused}
-use Rattle.circuit.specs.Record.{form64}
-use Rattle.circuit.proofs.Followed.{fit64}
+use Rattle.records.specs.Record.{form64}
+use Rattle.records.proofs.Lists.{fit64}
 use Rattle.circuit_write.specs.Written.{goodOf}
 use Rattle.circuit_turn.specs.Turn.{narrowed}
 use Rattle.circuit_turn.proofs.Files.{file-most}

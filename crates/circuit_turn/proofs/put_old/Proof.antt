@@ -2,8 +2,8 @@
 use mathlib.Core.List.{[]}
 use denote.Ref.{now}
 use borrow.Author.Needs.{needs}
-use Rattle.circuit.specs.Record.{form64}
-use Rattle.circuit.proofs.Followed.{fit64}
+use Rattle.records.specs.Record.{form64}
+use Rattle.records.proofs.Lists.{fit64}
 use Rattle.circuit_turn.proofs.Files.{put-file}
 use Rattle.circuit_turn.proofs.put_old.Statement.{statement}
 use Rattle.circuit_turn.proofs.put_old.Tie as tie

@@ -6,8 +6,8 @@ use lib.ListN.{replicate}
 use borrow.Author.Needs.{needs}
 use Rattle.lines.proofs.Placing.{fits}
 use Rattle.lines.proofs.Sizes.{refused}
-use Rattle.circuit.specs.Record.{form64}
-use Rattle.circuit.proofs.Followed.{fit64}
+use Rattle.records.specs.Record.{form64}
+use Rattle.records.proofs.Lists.{fit64}
 use Rattle.circuit_write.specs.Written.{goodOf}
 use Rattle.wide_circuit.specs.Wide.{form128}
 use Rattle.wide_circuit.proofs.Fit128.{fit128}

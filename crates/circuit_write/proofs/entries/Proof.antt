@@ -6,7 +6,7 @@ use native.Mathlib.Omega.{arith}
 use native.Mathlib.Nat.{mul-zero}
 use lib.ListN.{length, drop}
 use denote.Ref.{now}
-use Rattle.circuit.proofs.Lists.{length-part}
+use Rattle.records.proofs.Lists.{length-part}
 use Rattle.circuit_write.specs.Written.{entriesOf, fileOf}
 use Rattle.circuit_write.proofs.Cells.{part-within, entry-more, length-entries, length-filled, records-most}
 use Rattle.circuit_write.proofs.entries.Statement.{statement}

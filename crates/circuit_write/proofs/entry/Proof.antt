@@ -3,7 +3,7 @@ use Prim.Native.Nat.{_+_, _*_, _-_, _≤_}
 use mathlib.Core.Path.{_∙_}
 use native.Mathlib.Omega.{arith}
 use denote.Ref.{now}
-use Rattle.circuit.proofs.Lists.{sized, length-part}
+use Rattle.records.proofs.Lists.{sized, length-part}
 use Rattle.circuit_write.proofs.Cells.{part-within, entry-head, entry-point, entry-twelve}
 use borrow.Author.Needs.{needs}
 use Rattle.circuit_write.proofs.entry.Statement.{statement}

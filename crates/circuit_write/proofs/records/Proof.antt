@@ -1,7 +1,7 @@
 -- The 48 of kind 3 are there unless all deciles are +0.
 use mathlib.Core.Path.{sym, _∙_}
 use native.Mathlib.Omega.{arith}
-use Rattle.circuit.specs.Record.{allZero}
+use Rattle.records.specs.Record.{allZero}
 use borrow.Author.Tests.{not-true, not-false}
 use borrow.Author.Needs.{needs}
 use Rattle.circuit_write.proofs.records.Statement.{statement}

@@ -1,7 +1,7 @@
 -- The writer of any form, at the paper's, with no words beside the circuit.
 use mathlib.Core.Path.{refl}
 use borrow.Author.Needs.{needs}
-use Rattle.circuit.proofs.Followed.{fit64}
+use Rattle.records.proofs.Lists.{fit64}
 use Rattle.circuit_write.proofs.write.Statement.{statement}
 use Rattle.circuit_write.proofs.write.Tie as tie
 

@@ -1,6 +1,6 @@
 -- Three parts, each on what the one before left.
 use denote.Ref.{now}
-use Rattle.circuit.proofs.Lists.{sized}
+use Rattle.records.proofs.Lists.{sized}
 use Rattle.port_circuit.proofs.Laid.{laid}
 use borrow.Author.Needs.{needs}
 use Rattle.port_circuit.proofs.circuit_into.Statement.{statement}

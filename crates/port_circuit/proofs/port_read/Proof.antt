@@ -3,7 +3,8 @@ use Rattle.port_circuit.specs.Exports.{portRead}
 use mathlib.Core.Path.{refl}
 use borrow.Author.Tests.{le-leb, lt-leb}
 use borrow.Author.Needs.{needs}
-use Rattle.circuit.proofs.Followed.{fit64, small}
+use Rattle.records.proofs.Lists.{fit64}
+use Rattle.circuit.proofs.Answers.{small}
 use Rattle.port_circuit.proofs.port_read.Statement.{statement}
 use Rattle.port_circuit.proofs.port_read.Tie as tie
 

@@ -2,7 +2,7 @@
 use mathlib.Core.Path.{refl}
 use borrow.Author.Needs.{needs}
 use borrow.Author.Tests.{lt-ltb, le-ltb}
-use Rattle.traces.proofs.Few.{few-lines}
+use Rattle.trace_laws.proofs.Few.{few-lines}
 use Rattle.port_traces.specs.Exports.{portCompare}
 use Rattle.port_traces.proofs.port_compare.Statement.{statement}
 use Rattle.port_traces.proofs.port_compare.Tie as tie

@@ -5,8 +5,8 @@ use native.Mathlib.Omega.{arith}
 use lib.ListN.{length, drop}
 use lib.Seq.{drop-length}
 use denote.Ref.{now}
-use Rattle.circuit.specs.Record.{allZero}
-use Rattle.circuit.proofs.Lists.{zero-on, zero-off}
+use Rattle.records.specs.Record.{allZero}
+use Rattle.records.proofs.Lists.{zero-on, zero-off}
 use Rattle.circuit.proofs.numbers.all_zero.Statement.{statement}
 use Rattle.circuit.proofs.numbers.all_zero.Tie as tie
 

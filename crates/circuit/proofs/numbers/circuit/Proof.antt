@@ -3,11 +3,12 @@ use Prim.Native.Nat.{_+_, _≤_}
 use mathlib.Core.Path.{sym, ap, _∙_}
 use native.Mathlib.Omega.{arith}
 use denote.Ref.{now}
-use Rattle.circuit.specs.declared.Chain.{Chain}
-use Rattle.circuit.specs.Record.{form64, recordAt}
+use Rattle.record_chain.specs.declared.Chain.{Chain}
+use Rattle.records.specs.Record.{form64, recordAt}
 use Rattle.circuit.specs.Read.{circuitOf}
-use Rattle.circuit.proofs.Followed.{fit64, Followed, followed, there, count-range}
-use Rattle.circuit.specs.Chain.{kmOf}
+use Rattle.records.proofs.Lists.{fit64}
+use Rattle.record_chain.proofs.Followed.{Followed, followed, there, count-range}
+use Rattle.record_chain.specs.Chain.{kmOf}
 use borrow.Author.Needs.{needs}
 use Rattle.circuit.proofs.numbers.circuit.Statement.{statement}
 use Rattle.circuit.proofs.numbers.circuit.Tie as tie

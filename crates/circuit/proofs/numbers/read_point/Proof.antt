@@ -2,7 +2,7 @@
 use mathlib.Core.Path.{ap, _∙_}
 use borrow.Author.Needs.{needs}
 use denote.Ref.{now}
-use Rattle.circuit.specs.Record.{wordsOf}
+use Rattle.records.specs.Record.{wordsOf}
 use Rattle.circuit.proofs.numbers.read_point.Statement.{statement}
 use Rattle.circuit.proofs.numbers.read_point.Tie as tie
 

@@ -6,7 +6,7 @@ use native.Mathlib.Omega.{arith}
 use lib.ListN.{length, take, drop}
 use lib.Seq.{take-all}
 use denote.Ref.{now}
-use Rattle.circuit.proofs.Lists.{length-part, filled-up}
+use Rattle.records.proofs.Lists.{length-part, filled-up}
 use Rattle.circuit_write.specs.Written.{bytesOf}
 use Rattle.circuit_write.proofs.Cells.{words-more, length-filled, bytes-took}
 use Rattle.circuit_write.proofs.put.words.Statement.{statement}

@@ -6,7 +6,7 @@ use native.Mathlib.Omega.{arith}
 use borrow.Author.Fill.{fill-more}
 use lib.ListN.{length, drop, replicate, length-set}
 use denote.Ref.{now}
-use Rattle.circuit.proofs.Lists.{filled-up}
+use Rattle.records.proofs.Lists.{filled-up}
 use Rattle.circuit_write.proofs.put.zeros.Statement.{statement}
 use Rattle.circuit_write.proofs.put.zeros.Tie as tie
 

@@ -3,13 +3,13 @@ use Prim.Native.Nat.{_+_, _≤_}
 use mathlib.Core.Path.{sym, ap, _∙_}
 use native.Mathlib.Omega.{arith}
 use denote.Ref.{now}
-use Rattle.circuit.specs.declared.Chain.{Chain}
-use Rattle.circuit.specs.Record.{recordAt}
+use Rattle.record_chain.specs.declared.Chain.{Chain}
+use Rattle.records.specs.Record.{recordAt}
 use Rattle.wide_circuit.specs.Wide.{form128}
 use Rattle.circuit.specs.Read.{circuitOf}
 use Rattle.wide_circuit.proofs.Fit128.{fit128}
-use Rattle.circuit.proofs.Followed.{Followed, followed, there, count-range}
-use Rattle.circuit.specs.Chain.{kmOf}
+use Rattle.record_chain.proofs.Followed.{Followed, followed, there, count-range}
+use Rattle.record_chain.specs.Chain.{kmOf}
 use borrow.Author.Needs.{needs}
 use Rattle.wide_circuit.proofs.numbers.circuit.Statement.{statement}
 use Rattle.wide_circuit.proofs.numbers.circuit.Tie as tie

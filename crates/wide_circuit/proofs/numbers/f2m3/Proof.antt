@@ -3,8 +3,8 @@ use mathlib.Core.Path.{refl, sym, ap, _∙_}
 use native.Mathlib.Omega.{arith}
 use denote.Ref.{now}
 use borrow.Author.Needs.{needs}
-use Rattle.circuit.specs.declared.Chain.{Chain}
-use Rattle.circuit.proofs.Followed.{Followed, followed, there}
+use Rattle.record_chain.specs.declared.Chain.{Chain}
+use Rattle.record_chain.proofs.Followed.{Followed, followed, there}
 use Rattle.wide_circuit.specs.Wide.{form128}
 use Rattle.wide_circuit.proofs.Fit128.{fit128, beside-answered}
 use Rattle.wide_circuit.proofs.numbers.f2m3.Statement.{statement}

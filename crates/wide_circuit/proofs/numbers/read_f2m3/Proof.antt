@@ -6,7 +6,7 @@ use mathlib.Core.List.{List, [], _∷_}
 use native.Mathlib.Omega.{arith}
 use lib.ListN.{length, set}
 use denote.Ref.{now}
-use Rattle.circuit.specs.Record.{wordsOf}
+use Rattle.records.specs.Record.{wordsOf}
 use Rattle.wide_circuit.proofs.numbers.read_f2m3.Statement.{statement}
 use Rattle.wide_circuit.proofs.numbers.read_f2m3.Tie as tie
 

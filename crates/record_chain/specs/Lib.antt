@@ -1,0 +1,2 @@
+-- The chain of records.
+pub mod Chain

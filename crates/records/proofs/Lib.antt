@@ -1,0 +1,2 @@
+-- Lists of bytes and words.
+pub mod Lists

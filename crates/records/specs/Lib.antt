@@ -1,0 +1,2 @@
+-- A record of a circuit file.
+pub mod Record
