@@ -29,7 +29,7 @@ use Kind::*;
 
 const NONE: &str = "unreachable!(\"not built\")";
 
-const EXPORTS: [Export; 38] = [
+const EXPORTS: [Export; 39] = [
     Export(
         "port_figures",
         "port_figure",
@@ -96,6 +96,7 @@ const EXPORTS: [Export; 38] = [
     ),
     Export("port_state", "port_ionset", &[Lent], "u32", NONE),
     Export("port_state", "port_lecden", &[Lent, Word], "u32", NONE),
+    Export("port_state", "port_owner", &[Words, Lent], "u32", NONE),
     Export(
         "port_heights",
         "port_gethp",

@@ -6,6 +6,7 @@ pub mod circuit;
 pub mod files;
 pub mod float;
 pub mod ours;
+pub mod owner;
 pub mod precise;
 pub mod predict;
 pub mod programs;

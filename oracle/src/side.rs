@@ -5,6 +5,7 @@ use super::ionogram::Ionogram;
 use super::ionosphere::{EsParams, LayerParams};
 use super::muf::{IonoState, LayerMuf, MufHour};
 use super::{ionogram, muf, sigdis};
+use crate::owner;
 use crate::words::*;
 
 /// The deciles as `f2d` has them.
@@ -41,18 +42,18 @@ pub fn marked_state(w: &State) -> IonoState {
     s
 }
 
-/// The state's words after a call on `marked_state`: where a profile was
-/// supplied, the stored mark is as it came.
-fn unmarked_words(s: &IonoState, before: &State) -> State {
-    let mut w = state_words(s);
+/// The state's words after a call on `marked_state` that makes `k` the owner:
+/// where a profile was supplied, the stored mark is as it came.
+fn unmarked_words(s: &IonoState, before: &State, k: usize) -> State {
+    let mut w = state_words(s, owner::left(before, owner::of_slot(k)));
     if s.ielect {
         w[RISES] = u32::from(before[RISES] != 0);
     }
     w
 }
 
-/// A state's words.
-pub fn state_words(s: &IonoState) -> State {
+/// A state's words, and the owner's, which the Rust's state has not.
+fn state_words(s: &IonoState, owner: u32) -> State {
     let mut w = [0; STATE];
     for k in 0..5 {
         for i in 0..3 {
@@ -73,6 +74,7 @@ pub fn state_words(s: &IonoState) -> State {
     w[RISES] = u32::from(s.htr_rises);
     w[IEDP] = s.iedp as u32;
     w[IELECT] = u32::from(s.ielect);
+    w[OWNER] = owner;
     w
 }
 
@@ -185,19 +187,19 @@ pub fn row_words(ion: &Ionogram) -> Vec<u32> {
 
 pub fn from_layers(points: &[u32]) -> State {
     let points: Vec<LayerParams> = points.chunks_exact(POINT).map(point_of).collect();
-    state_words(&IonoState::from_layers(&points))
+    state_words(&IonoState::from_layers(&points), owner::NOBODY)
 }
 
 pub fn ionset(state: &State) -> State {
     let mut s = state_of(state);
     muf::ionset(&mut s);
-    state_words(&s)
+    state_words(&s, owner::left(state, owner::NOBODY))
 }
 
 pub fn lecden(state: &State, k: usize) -> State {
     let mut s = state_of(state);
     muf::lecden(&mut s, k);
-    state_words(&s)
+    state_words(&s, owner::left(state, owner::of_slot(k)))
 }
 
 /// Both heights, under a rising mark of the caller's choice.
@@ -254,7 +256,7 @@ pub fn curmuf(state: &State, call: &Hour) -> (State, Vec<u32>, Vec<u32>) {
     );
     let mut rows = call.es.clone();
     put_es(&es, &mut rows);
-    (unmarked_words(&s, state), rows, hour_words(&hour))
+    (unmarked_words(&s, state, hour.ks), rows, hour_words(&hour))
 }
 
 /// The hour of as many points as there are.
@@ -308,5 +310,5 @@ pub fn sheet(state: &State, k: usize, nang: usize, layers: &[u32]) -> (State, Ve
     let cells = ionogram::fobby(&ion, nang);
     ionogram::alosfv(&s, k, &mut ion, &layers_of(layers));
     let cells = cells.iter().flatten().map(|c| *c as u32).collect();
-    (unmarked_words(&s, state), row_words(&ion), cells)
+    (unmarked_words(&s, state, k), row_words(&ion), cells)
 }

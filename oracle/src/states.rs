@@ -145,6 +145,7 @@ fn wild(r: &mut Random) -> State {
     state[KM] = 1 + r.below(5) as u32;
     state[KFX] = 1 + r.below(3) as u32;
     state[IEDP] = r.pick(&[-1i32, 0]) as u32;
+    state[OWNER] = r.below(6) as u32;
     state
 }
 
@@ -165,7 +166,7 @@ fn beside(r: &mut Random, word: u32) -> u32 {
     r.beside(f32::from_bits(word), 2).to_bits()
 }
 
-/// Anything in km, kfx, the marks, `iedp` and `fsecv`.
+/// Anything in km, kfx, the marks, `iedp`, the owner and `fsecv`.
 fn spoil_rest(r: &mut Random, state: &mut State) {
     let counts = [0, 1, 2, 3, 4, 5, 6, 255, 1 << 31, u32::MAX];
     if r.once_in(4) {
@@ -177,6 +178,7 @@ fn spoil_rest(r: &mut Random, state: &mut State) {
     state[RISES] = r.pick(&[0, 1, 1, 7, u32::MAX]);
     state[IEDP] = r.pick(&[-1, -1, 0, 0, 1, i32::MIN, i32::MAX]) as u32;
     state[IELECT] = r.pick(&[0, 0, 0, 1, 9]);
+    state[OWNER] = r.pick(&[0, 1, 2, 3, 4, 5, 255, u32::MAX]);
     for k in 0..3 {
         state[FSECV + k] = r.wild().to_bits();
     }

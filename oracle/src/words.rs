@@ -3,8 +3,8 @@
 use crate::float;
 
 /// A state: fi, yi, hi (15 each, point-major), km, kfx, htr 50, fnsq 50,
-/// rises, fsecv 3, iedp, ielect.
-pub const STATE: usize = 153;
+/// rises, fsecv 3, iedp, ielect, owner.
+pub const STATE: usize = 154;
 pub const FI: usize = 0;
 pub const YI: usize = 15;
 pub const HI: usize = 30;
@@ -16,6 +16,7 @@ pub const RISES: usize = 147;
 pub const FSECV: usize = 148;
 pub const IEDP: usize = 151;
 pub const IELECT: usize = 152;
+pub const OWNER: usize = 153;
 
 /// A point: fi, yi, hi.
 pub const POINT: usize = 9;
@@ -68,7 +69,7 @@ pub struct Nominal {
 pub type Floats = fn(usize) -> bool;
 
 pub fn state_floats(i: usize) -> bool {
-    !matches!(i, KM | KFX | RISES | IEDP | IELECT)
+    !matches!(i, KM | KFX | RISES | IEDP | IELECT | OWNER)
 }
 
 pub fn layer_floats(i: usize) -> bool {

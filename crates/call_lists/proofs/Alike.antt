@@ -39,6 +39,7 @@ pub record Alike (u v : IonoState) (k : ℕ) : Type 0 where
   pub fnsq-same : u .fnsq ≡ v .fnsq
   pub mark-same : u .«htr_rises» ≡ v .«htr_rises»
   pub iedp-same : u .iedp ≡ v .iedp
+  pub owner-same : u .owner ≡ v .owner
 
 -- ---- the slot's numbers one by one
 

@@ -255,7 +255,7 @@ answer-with c find t agree = same-answer c find t t agree (common-self t) (λ k 
 pub after-with : (c : Call) (find : Finder) (t : IonoState) → AgreesOn find t → afterWith find t c ≡ afterOf t c
 after-with c find t agree = same-left c find t t agree (common-self t) (λ k e. refl) ∙ sym (call-leaves c t)
 
-picks-own : (c : Call) (s : IonoState) → prepares s c ≡ true → pick s c ≡ some (slotOf s c)
+pub picks-own : (c : Call) (s : IonoState) → prepares s c ≡ true → pick s c ≡ some (slotOf s c)
 unfolding pick prepares
 picks-own (aMuf es f2d clat clck c) s e = muf-picked es s f2d clat clck c e
 picks-own (aSheet k nang layers cells) s e = ap (λ (x : Bool). pickIf x k) e
@@ -297,7 +297,7 @@ stepped-by true s t c j eb et es picks small same g fresh =
       own-slot =
           λ k e. ap (λ (w : IonoState). slotAt w k) et ∙ subst (λ (i : ℕ). slotAt (lecdenOf t j) i ≡ slotAt (lecdenOf s j) i) (some-same j k (sym p ∙ e)) (a .slot-same) ∙ sym (ap (λ (w : IonoState). slotAt w k) es);
       other-slot = λ k h. ap (λ (w : IonoState). slotAt w k) et ∙ lecden-others t j k (λ e. h (p ∙ ap some (sym e)));
-      profile-answered = λ e. subst (λ (w : IonoState). SameProfile w (afterOf s c)) (sym et) (subst (λ (w : IonoState). SameProfile (lecdenOf t j) w) (sym es) (a .htr-same, a .fnsq-same, a .mark-same));
+      profile-answered = λ e. subst (λ (w : IonoState). SameProfile w (afterOf s c)) (sym et) (subst (λ (w : IonoState). SameProfile (lecdenOf t j) w) (sym es) (a .htr-same, a .fnsq-same, a .mark-same, a .owner-same));
       state-refused = λ e. absurd (not-both (sym e ∙ eb));
     }
 stepped-by false s t c j eb et es picks small same g fresh =

@@ -6,17 +6,19 @@ use mathlib.Core.Path.{_≡_, refl, sym, ap, _∙_, subst}
 use Prim.Native.Nat.{ℕ}
 use borrow.Author.Tests.{eqb-true, eqb-false}
 use Rattle.layers.specs.declared.IonoState.{IonoState}
+use Rattle.layers.specs.Owners.{ownerOf}
 use Rattle.layers.specs.Ionset.{ionsetOf}
 use Rattle.profile.specs.Lecden.{slotAt, lecdenOf}
+use Rattle.profile.proofs.Owns.{lecden-owner}
 use Rattle.heights.specs.Gethp.{Finder, gethpScanOf}
 use Rattle.heights.specs.Walk.{gethpWalkOf}
 use Rattle.heights.proofs.Whole.{forty-reads}
 use Rattle.heights.proofs.Finders.{walks-agree, scans-agree}
 use Rattle.call_lists.specs.Calls.{Call, Answer, answerOf, afterOf, afterWith, prepares, pick}
-use Rattle.call_lists.specs.Lists.{runOf, answersOf, runWith, answersWith, withPicked, readOf, Every, Together, Allowed, picks, orElse, own, laterOr, onlyIf, lastOf, alone, SameProfile, ReadsWell, Numbers, ListOfCalls, ListsOfCalls}
+use Rattle.call_lists.specs.Lists.{runOf, answersOf, runWith, answersWith, withPicked, readOf, Every, Together, Allowed, picks, orElse, own, laterOr, onlyIf, lastOf, alone, SameProfile, ownerPicked, lastOwner, ReadsWell, Numbers, ListOfCalls, ListsOfCalls}
 use Rattle.call_lists.proofs.Prepared.{Common, common-self}
 use Rattle.call_lists.proofs.Numbers.{lecden-numbers, ionset-numbers}
-use Rattle.call_lists.proofs.Frames.{not-both, FreshFor, preparedIf, AgreesOn, slotOf, call-leaves, answer-with, after-with, some-same, one-step}
+use Rattle.call_lists.proofs.Frames.{not-both, FreshFor, preparedIf, AgreesOn, slotOf, call-leaves, answer-with, after-with, picks-own, some-same, one-step}
 
 -- ---- who picks a slot
 
@@ -66,12 +68,12 @@ slot-step s t t₁ r c k (some d) false p alone-here own-slot other-slot ih = ih
 -- the profile after one call more
 profile-step : (s t t₁ r : IonoState) (c : Call) (o : Option Call) (b : Bool) → (b ≡ true → SameProfile t₁ (afterOf s c)) → (b ≡ false → t₁ ≡ t) → SameProfile r (left o s t₁) → SameProfile r (left (laterOr o (onlyIf b c)) s t)
 profile-step s t t₁ r c (some d) b h g ih = ih
-profile-step s t t₁ r c none true h g ih = let p = h refl in (ih .0 ∙ p .0, ih .1 ∙ p .1, ih .2 ∙ p .2)
+profile-step s t t₁ r c none true h g ih = let p = h refl in (ih .0 ∙ p .0, ih .1 ∙ p .1, ih .2 ∙ p .2, ih .3 ∙ p .3)
 profile-step s t t₁ r c none false h g ih = subst (λ (w : IonoState). SameProfile r w) (g refl) ih
 
 ran : (s : IonoState) (cs : List Call) (t : IonoState) → Common s t → Every (FreshFor s t) cs → Allowed s cs → RanOn s t cs
 unfolding runWith answersWith own lastOf
-ran s [] t g fresh allowed = record { all-answers = refl; all-common = g; all-slots = λ k. refl; the-profile = (refl, refl, refl) }
+ran s [] t g fresh allowed = record { all-answers = refl; all-common = g; all-slots = λ k. refl; the-profile = (refl, refl, refl, refl) }
 ran s (c ∷ cs) t g fresh allowed =
     let x = one-step s t c g (fresh .0) in
     let t₁ = afterOf t c in
@@ -137,6 +139,32 @@ left-alone : (o : Option Call) (s : IonoState) → left o s s ≡ alone s o
 left-alone none s = refl
 left-alone (some c) s = refl
 
+-- ---- the owner
+
+prepared-owner : (c : Call) (s : IonoState) → prepares s c ≡ true → ownerOf (afterOf s c) ≡ ownerPicked (s .ielect) (pick s c)
+prepared-owner c s e =
+    ap ownerOf (call-leaves c s) ∙ ap (λ (b : Bool). ownerOf (preparedIf b s (slotOf s c))) e ∙ lecden-owner s (slotOf s c) ∙ ap (ownerPicked (s .ielect)) (sym (picks-own c s e))
+
+-- the last call that prepares a slot does prepare one
+later-owner : (s : IonoState) (o : Option Call) (b : Bool) (c : Call) → prepares s c ≡ b → ownerOf (alone s o) ≡ lastOwner s o → ownerOf (alone s (laterOr o (onlyIf b c))) ≡ lastOwner s (laterOr o (onlyIf b c))
+later-owner s (some d) b c e h = h
+later-owner s none true c e h = prepared-owner c s e
+later-owner s none false c e h = refl
+
+last-owner : (s : IonoState) (cs : List Call) → ownerOf (alone s (lastOf s cs)) ≡ lastOwner s (lastOf s cs)
+unfolding lastOf
+last-owner s [] = refl
+last-owner s (c ∷ cs) = later-owner s (lastOf s cs) (prepares s c) c refl (last-owner s cs)
+
+alone-ielect : (s : IonoState) (o : Option Call) → alone s o .ielect ≡ s .ielect
+alone-ielect s none = refl
+alone-ielect s (some c) = one-step s s c (common-self s) (λ k e. refl) .still-common .ielect-common
+
+-- equal fields, equal owners
+same-owner : (u v : IonoState) → u .ielect ≡ v .ielect → u .owner ≡ v .owner → ownerOf u ≡ ownerOf v
+unfolding ownerOf
+same-owner u v e h = rw (e, h)
+
 -- for any first state
 pub any-list : (s : IonoState) (calls : List Call) → Allowed s calls → ListOfCalls s calls
 any-list s calls allowed =
@@ -146,6 +174,9 @@ any-list s calls allowed =
       answers-alone = r .all-answers;
       slots-left = λ k h. r .all-slots k ∙ ap (λ (w : IonoState). slotAt w k) (left-alone (own s calls k) s);
       profile-left = subst (λ (w : IonoState). SameProfile (runOf s calls) w) (left-alone (lastOf s calls) s) (r .the-profile);
+      owner-left =
+          same-owner (runOf s calls) (alone s (lastOf s calls)) (c .ielect-common ∙ sym (alone-ielect s (lastOf s calls))) (subst (λ (w : IonoState). SameProfile (runOf s calls) w) (left-alone (lastOf s calls) s) (r .the-profile) .3)
+          ∙ last-owner s calls;
       supplied-left = c .supplied;
       fi-left = c .fi-common;
       yi-left = (c .yi-long, c .yi-upper);

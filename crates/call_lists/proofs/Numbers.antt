@@ -1,6 +1,7 @@
 -- Every number that `ionset` or `lecden` stores into the semi-thicknesses, the layers' heights or the profile's is one that stood there, a constant or the result of an operation, which is rounded to the format: so f32 numbers stay f32 numbers.
 use mathlib.Core.Bool.{Bool, true, false, _||_}
 use mathlib.Core.List.{List, [], _∷_}
+use mathlib.Core.Path.{sym, subst}
 use Prim.Native.Nat.{ℕ, zero, suc, _+_, _*_}
 use lib.Dec.{T, leb}
 use lib.ListN.{set, replicate}
@@ -11,6 +12,8 @@ use Rattle.scalar.specs.Literals.{f0, f0·001, f0·17, f0·25, f0·5, f0·85, f
 use Rattle.scalar.specs.Scalar.{orSecond, minOf, maxOf}
 use Rattle.scalar.specs.Root.{sqrtOf}
 use Rattle.layers.specs.State.{withKfx}
+use Rattle.layers.specs.Owners.{disowned}
+use Rattle.layers.proofs.OwnersLeft.{disowned-only}
 use Rattle.layers.specs.FromLayers.{countTaken}
 use Rattle.layers.specs.Ionset.{layerFrom, twoSlots, threeSlots, assignedBy, assignedOf, tooClose, f1KeptBy, f1Settled, f2Settled, slotSettled, slotsSettled, ionsetBy, ionsetOf}
 use Rattle.layers.specs.Ionset as ionset
@@ -207,9 +210,12 @@ unfolding slotsSettled slotSettled f1Settled
 slots-settled s zero h = h
 slots-settled s (suc n) h = let t = slotsSettled s n in f2-settled (f1Settled t n) n (looked-at (at (t .fi) (3 * n + 1) >f f0) t n (slots-settled s n h))
 
+disowned-numbers : (s : IonoState) → Numbers s → Numbers (disowned s)
+disowned-numbers s n = subst Numbers (sym (disowned-only s)) (record { yi-held = n .yi-held; hi-held = n .hi-held; htr-held = n .htr-held })
+
 ionset-by : (b : Bool) (s : IonoState) → Numbers s → Numbers (ionsetBy b s .state)
 unfolding assignedOf
-ionset-by true s n = slots-settled (assignedOf s) (assignedOf s .kfx) (assigned-by (leb (s .km) 1) (leb (s .km) 3) s n)
+ionset-by true s n = disowned-numbers (slotsSettled (assignedOf s) (assignedOf s .kfx)) (slots-settled (assignedOf s) (assignedOf s .kfx) (assigned-by (leb (s .km) 1) (leb (s .km) 3) s n))
 ionset-by false s n = n
 
 pub ionset-numbers : (s : IonoState) → Numbers s → Numbers (ionsetOf s .state)

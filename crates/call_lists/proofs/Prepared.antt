@@ -1,6 +1,6 @@
--- `lecden` of slot k reads of the state the slot's own numbers only, and writes the slot's F1 height and semi-thickness, `fsecv[k]` and the profile only. With a supplied profile it does nothing.
+-- `lecden` of slot k reads of the state the slot's own numbers only, and writes the slot's F1 height and semi-thickness, `fsecv[k]`, the profile and its owner only. With a supplied profile it does nothing.
 use mathlib.Core.Bool.{Bool, true, false}
-use mathlib.Core.List.{List, [], _∷_, map}
+use mathlib.Core.List.{List, [], _∷_}
 use mathlib.Core.Logic.{_≢_}
 use mathlib.Core.Path.{_≡_, refl, sym, ap, _∙_, subst}
 use Prim.Native.Nat.{ℕ, zero, suc, _+_, _*_, _<_, _≤_}
@@ -9,13 +9,9 @@ use native.Mathlib.Omega.{arith}
 use lib.ListN.{length, set}
 use lib.Ieee.{Float}
 use Rattle.scalar.specs.F32.{at}
-use Rattle.layers.specs.State.{withProfile}
 use Rattle.layers.specs.declared.IonoState.{IonoState}
-use Rattle.profile.specs.Lecden.{slotAt, slotWritten, tailOf, curvesOf, suppliedOf, lecdenBy, lecdenOf}
+use Rattle.profile.specs.Lecden.{slotAt, slotWritten, suppliedOf, profiledOf, lecdenBy, lecdenOf}
 use Rattle.profile.specs.F1.{valleyOf, f1Of, reshapedOf}
-use Rattle.profile.specs.Grid.{heightsOf}
-use Rattle.profile.specs.Density.{densityOf}
-use Rattle.profile.specs.Rising.{risesOf}
 use Rattle.profile.specs.LecdenKept.{LecdenKept}
 use Rattle.profile.specs.declared.Slot.{Slot}
 use Rattle.profile.proofs.Keeps.{lecden-keeps, lecden-supplied}
@@ -52,7 +48,7 @@ common-self s =
     }
 
 pub alike-self : (s : IonoState) (k : ℕ) → Alike s s k
-alike-self s k = record { fi-same = refl; slot-same = refl; htr-same = refl; fnsq-same = refl; mark-same = refl; iedp-same = refl }
+alike-self s k = record { fi-same = refl; slot-same = refl; htr-same = refl; fnsq-same = refl; mark-same = refl; iedp-same = refl; owner-same = refl }
 
 -- ---- a slot written
 
@@ -75,22 +71,11 @@ slot-written s t k q c e =
 
 -- ---- `lecden` of a slot that stands as it first did
 
--- the state that `lecden` makes where the slot's numbers are p
-abbrev preparedBy : IonoState → ℕ → Slot → IonoState
-preparedBy s k p =
-    let v = valleyOf p in
-    let f = f1Of p v in
-    let q = reshapedOf p f in
-    let t = tailOf q in
-    let htr = heightsOf q (t .hex) in
-    let fnsq = map (densityOf (curvesOf q v f t)) htr in
-    withProfile (slotWritten s k q) htr fnsq (risesOf htr)
-
-not-supplied : (s : IonoState) (k : ℕ) → s .ielect ≡ false → lecdenOf s k ≡ preparedBy s k (slotAt s k)
+not-supplied : (s : IonoState) (k : ℕ) → s .ielect ≡ false → lecdenOf s k ≡ profiledOf s k (slotAt s k)
 unfolding lecdenOf suppliedOf
 not-supplied s k e = ap (λ (b : Bool). lecdenBy b s k) e
 
-prepared-alike : (s t : IonoState) (k : ℕ) (p : Slot) → Common s t → slotAt t k ≡ slotAt s k → Alike (preparedBy t k p) (preparedBy s k p) k
+prepared-alike : (s t : IonoState) (k : ℕ) (p : Slot) → Common s t → slotAt t k ≡ slotAt s k → Alike (profiledOf t k p) (profiledOf s k p) k
 unfolding slotAt slotWritten
 prepared-alike s t k p c e =
     record {
@@ -100,14 +85,15 @@ prepared-alike s t k p c e =
       fnsq-same = refl;
       mark-same = refl;
       iedp-same = c .iedp-common;
+      owner-same = refl;
     }
 
 alike-by : (b : Bool) (s t : IonoState) (k : ℕ) → s .ielect ≡ b → Common s t → slotAt t k ≡ slotAt s k → Alike (lecdenOf t k) (lecdenOf s k) k
 alike-by true s t k i c e = subst (λ (w : IonoState). Alike (lecdenOf w k) (lecdenOf s k) k) (sym (c .supplied i)) (alike-self (lecdenOf s k) k)
 alike-by false s t k i c e =
-    let et = not-supplied t k (c .ielect-common ∙ i) ∙ ap (λ (p : Slot). preparedBy t k p) e in
+    let et = not-supplied t k (c .ielect-common ∙ i) ∙ ap (λ (p : Slot). profiledOf t k p) e in
     let es = not-supplied s k i in
-    subst (λ (w : IonoState). Alike (lecdenOf t k) w k) (sym es) (subst (λ (w : IonoState). Alike w (preparedBy s k (slotAt s k)) k) (sym et) (prepared-alike s t k (slotAt s k) c e))
+    subst (λ (w : IonoState). Alike (lecdenOf t k) w k) (sym es) (subst (λ (w : IonoState). Alike w (profiledOf s k (slotAt s k)) k) (sym et) (prepared-alike s t k (slotAt s k) c e))
 
 pub lecden-alike : (s t : IonoState) (k : ℕ) → Common s t → slotAt t k ≡ slotAt s k → Alike (lecdenOf t k) (lecdenOf s k) k
 lecden-alike s t k c e = alike-by (s .ielect) s t k refl c e

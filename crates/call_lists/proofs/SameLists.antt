@@ -60,7 +60,7 @@ state-self u =
       hi-same = all-self (u .hi);
       km-same = refl;
       kfx-same = refl;
-      profile-same = (all-self (u .htr), all-self (u .fnsq), refl);
+      profile-same = (all-self (u .htr), all-self (u .fnsq), refl, refl);
       fsecv-same = all-self (u .fsecv);
       iedp-same = refl;
       ielect-same = refl;
@@ -78,7 +78,7 @@ state-so : (u v : IonoState) → u ≡ v → SameState u v
 state-so u v e = subst (λ (z : IonoState). SameState u z) e (state-self u)
 
 profile-so : (u v : IonoState) → SameProfile u v → SameProfileBits u v
-profile-so u v e = (equal-all (u .htr) (v .htr) (e .0), equal-all (u .fnsq) (v .fnsq) (e .1), e .2)
+profile-so u v e = (equal-all (u .htr) (v .htr) (e .0), equal-all (u .fnsq) (v .fnsq) (e .1), e .2, e .3)
 
 reads-so : (us : List IonoState) → Every ReadsWell us → Every (λ u. (f : Float) → T (risesOf (u .htr)) → SameReads u f) us
 reads-so [] h = tt

@@ -9,9 +9,11 @@ use lib.Dec.{T, eqb}
 use lib.ListN.{length}
 use lib.Ieee.{Float}
 use Rattle.scalar.specs.F32.{at}
+use Rattle.layers.specs.Owners.{ownerBy, ownerOf}
 use Rattle.layers.specs.Ionset.{ionsetOf}
 use Rattle.layers.specs.FromLayers.{countTaken}
 use Rattle.layers.specs.declared.IonoState.{IonoState}
+use Rattle.layers.specs.declared.Owner.{Owner}
 use Rattle.profile.specs.Lecden.{slotAt, lecdenOf}
 use Rattle.profile.specs.Rising.{risesOf}
 use Rattle.walk.specs.Walk.{Held}
@@ -107,9 +109,18 @@ abbrev pub alone : IonoState → Option Call → IonoState
 alone s none = s
 alone s (some c) = afterOf s c
 
--- heights, densities and rising mark
+-- heights, densities, rising mark and owner
 abbrev pub SameProfile : IonoState → IonoState → Type 0
-SameProfile u v = (u .htr ≡ v .htr) × (u .fnsq ≡ v .fnsq) × (u .«htr_rises» ≡ v .«htr_rises»)
+SameProfile u v = (u .htr ≡ v .htr) × (u .fnsq ≡ v .fnsq) × (u .«htr_rises» ≡ v .«htr_rises») × (u .owner ≡ v .owner)
+
+-- whose profile a call leaves that prepares a slot: that slot's, or a supplied one; s's where there is no such call
+abbrev pub ownerPicked : Bool → Option ℕ → Owner
+ownerPicked supplied none = ownerBy supplied Owner.None
+ownerPicked supplied (some k) = ownerBy supplied (Owner.Slot k)
+
+abbrev pub lastOwner : IonoState → Option Call → Owner
+lastOwner s none = ownerOf s
+lastOwner s (some c) = ownerPicked (s .ielect) (pick s c)
 
 -- the forty reads of any frequency, where the heights rise
 abbrev pub ReadsWell : IonoState → Type 0
@@ -128,8 +139,9 @@ pub record ListOfCalls (s : IonoState) (calls : List Call) : Type 0 where
   pub answers-alone : answersOf s calls ≡ map (answerOf s) calls
   -- (ii) each slot, its nine layer numbers and `fsecv[k]`, is what its own call alone leaves, or as it was; also at or above kfx
   pub slots-left : (k : ℕ) → k < 3 → slotAt (runOf s calls) k ≡ slotAt (alone s (own s calls k)) k
-  -- (iii) the profile and its rising mark are those that the last answered MUF or sheet alone leaves, or s's
+  -- (iii) the profile, its rising mark and its owner are those that the last answered MUF or sheet alone leaves, or s's; the owner that counts is that call's slot, or s's own
   pub profile-left : SameProfile (runOf s calls) (alone s (lastOf s calls))
+  pub owner-left : ownerOf (runOf s calls) ≡ lastOwner s (lastOf s calls)
   pub supplied-left : s .ielect ≡ true → runOf s calls ≡ s
   -- (iv) all else is s's: rows 3 and 4 of the tables, the critical frequencies, the counts, the switches
   pub fi-left : runOf s calls .fi ≡ s .fi

@@ -73,7 +73,7 @@ abbrev pub SameSlot : Slot → Slot → Type 0
 SameSlot p q = SameAll (slotNumbers p) (slotNumbers q)
 
 abbrev pub SameProfileBits : IonoState → IonoState → Type 0
-SameProfileBits u v = SameAll (u .htr) (v .htr) × SameAll (u .fnsq) (v .fnsq) × (u .«htr_rises» ≡ v .«htr_rises»)
+SameProfileBits u v = SameAll (u .htr) (v .htr) × SameAll (u .fnsq) (v .fnsq) × (u .«htr_rises» ≡ v .«htr_rises») × (u .owner ≡ v .owner)
 
 pub record SameState (u v : IonoState) : Type 0 where
   pub fi-same : SameAll (u .fi) (v .fi)
@@ -93,7 +93,7 @@ pub record SameListOfCalls (s : IonoState) (calls : List Call) : Type 0 where
   pub answers-alone : Pairwise SameAnswer (answersOf s calls) (map (answerOf s) calls)
   -- (ii) each slot is what its own call alone leaves, or as it was
   pub slots-left : (k : ℕ) → k < 3 → SameSlot (slotAt (runOf s calls) k) (slotAt (alone s (own s calls k)) k)
-  -- (iii) the profile is that of the last answered MUF or sheet alone, or s's
+  -- (iii) the profile, its owner too, is that of the last answered MUF or sheet alone, or s's
   pub profile-left : SameProfileBits (runOf s calls) (alone s (lastOf s calls))
   pub supplied-left : s .ielect ≡ true → SameState (runOf s calls) s
   -- (iv) the numbers of the tables that are no slot's are s's; the counts and the switches are said in `ListOfCalls`

@@ -20,6 +20,7 @@ use Rattle.records.proofs.Lists.{fit64}
 use Rattle.record_chain.proofs.Followed.{Followed, followed, count-range}
 use Rattle.circuit.proofs.Answers.{read-answered, read-refused, small}
 use Rattle.circuit.proofs.Lists.{length-read}
+use Rattle.layers.specs.Owners.{disowned}
 use Rattle.layers.specs.FromLayers.{countTaken, pointSet, pointsSet, emptyOf, fromLayersBy, fromLayersOf}
 use Rattle.layers.specs.Ionset.{layerFrom, twoSlots, threeSlots, assignedBy, assignedOf, tooClose, f1KeptBy, f1By, f1Settled, f2Settled, slotSettled, slotsSettled, ionsetBy, ionsetOf}
 use Rattle.layers.specs.declared.IonoState.{IonoState}
@@ -27,6 +28,7 @@ use Rattle.layers.specs.declared.LayerParams.{LayerParams}
 use Rattle.layers.specs.declared.LayerMuf.{LayerMuf}
 use Rattle.layers.specs.declared.StateAnswer.{StateAnswer}
 use Rattle.layers.proofs.Counts.{three-at-most}
+use Rattle.layers.proofs.OwnersLeft.{disowned-only}
 use Rattle.layer_mufs.specs.Controlling.{compareEBy, compareE, controllingOf}
 use Rattle.layer_mufs.proofs.Small.{controlling-small}
 use Rattle.reflectrix.specs.Angles.{ANG, NANGX, stepOf, raisedBy, raisedFrom, countBy, countOf, scanBy, sangOf}
@@ -68,8 +70,11 @@ unfolding slotsSettled slotSettled f1Settled f2Settled
 settled-kfx s zero = refl
 settled-kfx s (suc n) = let t = slotsSettled s n in f1-kfx (at (t .fi) (3 * n + 1) >f f0) t n ∙ settled-kfx s n
 
+disowned-kfx : (s : IonoState) → disowned s .kfx ≡ s .kfx
+disowned-kfx s = ap (λ (r : IonoState). r .kfx) (disowned-only s)
+
 set-by : (b : Bool) (s : IonoState) → s .kfx ≤ 3 → ionsetBy b s .state .kfx ≤ 3
-set-by true s h = rw (settled-kfx _ _) (three-at-most s)
+set-by true s h = rw (disowned-kfx (slotsSettled (assignedOf s) (assignedOf s .kfx)), settled-kfx (assignedOf s) (assignedOf s .kfx)) (three-at-most s)
 set-by false s h = h
 
 points-kfx : (s : IonoState) (params : List LayerParams) (n : ℕ) → pointsSet s params n .kfx ≡ s .kfx
@@ -156,7 +161,7 @@ under-points false false km e f h = let l = leb-false km 3 f in omega arith
 
 set-by-km : (b : Bool) (t : IonoState) → b ≡ true → ionsetBy b t .state .kfx ≡ slots-for (leb (t .km) 1) (leb (t .km) 3)
 unfolding assignedOf
-set-by-km true t e = settled-kfx (assignedOf t) (assignedOf t .kfx) ∙ assigned-kfx (leb (t .km) 1) (leb (t .km) 3) t
+set-by-km true t e = disowned-kfx (slotsSettled (assignedOf t) (assignedOf t .kfx)) ∙ settled-kfx (assignedOf t) (assignedOf t .kfx) ∙ assigned-kfx (leb (t .km) 1) (leb (t .km) 3) t
 set-by-km false t e = absurd (false≢true e)
 
 set-kfx : (t : IonoState) (n : ℕ) → t .km ≡ n → countTaken n ≡ true → ionsetOf t .state .kfx ≡ slots-for (leb n 1) (leb n 3)

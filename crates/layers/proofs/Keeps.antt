@@ -1,7 +1,7 @@
--- Each step of `ionset` replaces numbers of the tables one for one, or sets kfx.
-use mathlib.Core.Bool.{Bool, true, false}
+-- Each step of `ionset` replaces numbers of the tables one for one, or sets kfx; the last one sets the owner where `ielect` is not set.
+use mathlib.Core.Bool.{Bool, true, false, true≢false}
 use mathlib.Core.List.{List}
-use mathlib.Core.Path.{_≡_, refl, _∙_}
+use mathlib.Core.Path.{_≡_, refl, sym, _∙_}
 use Prim.Native.Nat.{ℕ, zero, suc, _+_, _*_}
 use lib.Dec.{leb}
 use lib.ListN.{length, length-set}
@@ -9,6 +9,7 @@ use lib.Ieee.{Float}
 use Rattle.scalar.specs.F32.{_>f_, at}
 use Rattle.scalar.specs.Literals.{f0}
 use Rattle.layers.specs.State.{withTables, withKfx}
+use Rattle.layers.specs.Owners.{disownedBy, disowned}
 use Rattle.layers.specs.FromLayers.{countTaken}
 use Rattle.layers.specs.Ionset.{layerFrom, twoSlots, threeSlots, assignedBy, assignedOf, tooClose, f1KeptBy, f1By, f1Settled, f2Settled, slotSettled, slotsSettled, ionsetBy, ionsetOf}
 use Rattle.layers.specs.IonsetKept.{IonsetKept}
@@ -16,19 +17,19 @@ use Rattle.layers.specs.declared.IonoState.{IonoState}
 
 same : (s : IonoState) → IonsetKept s s
 same s =
-    record { fi-long = refl; yi-long = refl; hi-long = refl; km-kept = refl; htr-kept = refl; fnsq-kept = refl; mark-kept = refl; fsecv-kept = refl; iedp-kept = refl; ielect-kept = refl }
+    record { fi-long = refl; yi-long = refl; hi-long = refl; km-kept = refl; htr-kept = refl; fnsq-kept = refl; mark-kept = refl; fsecv-kept = refl; iedp-kept = refl; ielect-kept = refl; owner-kept = λ e. refl }
 
 then : {s t r : IonoState} → IonsetKept s t → IonsetKept t r → IonsetKept s r
 then a b =
-    record { fi-long = b .fi-long ∙ a .fi-long; yi-long = b .yi-long ∙ a .yi-long; hi-long = b .hi-long ∙ a .hi-long; km-kept = b .km-kept ∙ a .km-kept; htr-kept = b .htr-kept ∙ a .htr-kept; fnsq-kept = b .fnsq-kept ∙ a .fnsq-kept; mark-kept = b .mark-kept ∙ a .mark-kept; fsecv-kept = b .fsecv-kept ∙ a .fsecv-kept; iedp-kept = b .iedp-kept ∙ a .iedp-kept; ielect-kept = b .ielect-kept ∙ a .ielect-kept }
+    record { fi-long = b .fi-long ∙ a .fi-long; yi-long = b .yi-long ∙ a .yi-long; hi-long = b .hi-long ∙ a .hi-long; km-kept = b .km-kept ∙ a .km-kept; htr-kept = b .htr-kept ∙ a .htr-kept; fnsq-kept = b .fnsq-kept ∙ a .fnsq-kept; mark-kept = b .mark-kept ∙ a .mark-kept; fsecv-kept = b .fsecv-kept ∙ a .fsecv-kept; iedp-kept = b .iedp-kept ∙ a .iedp-kept; ielect-kept = b .ielect-kept ∙ a .ielect-kept; owner-kept = λ e. b .owner-kept (a .ielect-kept ∙ e) ∙ a .owner-kept e }
 
 counted : (s : IonoState) (n : ℕ) → IonsetKept s (withKfx s n)
 counted s n =
-    record { fi-long = refl; yi-long = refl; hi-long = refl; km-kept = refl; htr-kept = refl; fnsq-kept = refl; mark-kept = refl; fsecv-kept = refl; iedp-kept = refl; ielect-kept = refl }
+    record { fi-long = refl; yi-long = refl; hi-long = refl; km-kept = refl; htr-kept = refl; fnsq-kept = refl; mark-kept = refl; fsecv-kept = refl; iedp-kept = refl; ielect-kept = refl; owner-kept = λ e. refl }
 
 tabled : (s : IonoState) (fi yi hi : List Float) → length fi ≡ length (s .fi) → length yi ≡ length (s .yi) → length hi ≡ length (s .hi) → IonsetKept s (withTables s fi yi hi)
 tabled s fi yi hi f y h =
-    record { fi-long = f; yi-long = y; hi-long = h; km-kept = refl; htr-kept = refl; fnsq-kept = refl; mark-kept = refl; fsecv-kept = refl; iedp-kept = refl; ielect-kept = refl }
+    record { fi-long = f; yi-long = y; hi-long = h; km-kept = refl; htr-kept = refl; fnsq-kept = refl; mark-kept = refl; fsecv-kept = refl; iedp-kept = refl; ielect-kept = refl; owner-kept = λ e. refl }
 
 layer : (s : IonoState) (k p i : ℕ) → IonsetKept s (layerFrom s k p i)
 unfolding layerFrom
@@ -63,9 +64,18 @@ unfolding slotsSettled slotSettled
 slots-kept s zero = same s
 slots-kept s (suc n) = then (slots-kept s n) (then (f1-kept _ n) (f2-kept _ n))
 
+disowned-by : (b : Bool) (s : IonoState) → s .ielect ≡ b → IonsetKept s (disownedBy b s)
+disowned-by true s e = same s
+disowned-by false s e =
+    record { fi-long = refl; yi-long = refl; hi-long = refl; km-kept = refl; htr-kept = refl; fnsq-kept = refl; mark-kept = refl; fsecv-kept = refl; iedp-kept = refl; ielect-kept = refl; owner-kept = λ t. absurd (true≢false (sym t ∙ e)) }
+
+disowned-kept : (s : IonoState) → IonsetKept s (disowned s)
+unfolding disowned
+disowned-kept s = disowned-by (s .ielect) s refl
+
 ionset-by : (b : Bool) (s : IonoState) → IonsetKept s (ionsetBy b s .state)
 unfolding assignedOf
-ionset-by true s = then (assigned-by (leb (s .km) 1) (leb (s .km) 3) s) (slots-kept _ _)
+ionset-by true s = then (assigned-by (leb (s .km) 1) (leb (s .km) 3) s) (then (slots-kept _ _) (disowned-kept _))
 ionset-by false s = same s
 
 pub ionset-keeps : (s : IonoState) → IonsetKept s (ionsetOf s .state)

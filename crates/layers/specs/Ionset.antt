@@ -1,4 +1,4 @@
--- `ionset`: the points' layers assigned to one, two or three slots, then made to agree slot by slot. The paper's refusal: 5 where the point count is not 1 to 5.
+-- `ionset`: the points' layers assigned to one, two or three slots, then made to agree slot by slot; the profile, which is not these slots', is nobody's, unless it is supplied. The paper's refusal: 5 where the point count is not 1 to 5.
 use mathlib.Core.Bool.{Bool, true, false, _||_}
 use Prim.Native.Nat.{ℕ, zero, suc, _+_, _*_}
 use lib.Dec.{leb}
@@ -10,6 +10,7 @@ use Rattle.scalar.specs.Scalar.{minOf}
 use Rattle.refusal.specs.declared.Refusal.{Refusal}
 use Rattle.refusal.specs.declared.Outcome.{Outcome}
 use Rattle.layers.specs.State.{withTables, withKfx}
+use Rattle.layers.specs.Owners.{disowned}
 use Rattle.layers.specs.FromLayers.{countTaken}
 use Rattle.layers.specs.declared.IonoState.{IonoState}
 use Rattle.layers.specs.declared.StateAnswer.{StateAnswer}
@@ -83,7 +84,7 @@ slotsSettled s (suc n) = slotSettled (slotsSettled s n) n
 abbrev pub ionsetBy : Bool → IonoState → StateAnswer
 ionsetBy true s =
     let t = assignedOf s in
-    record { outcome = Outcome.Answered; state = slotsSettled t (t .kfx) }
+    record { outcome = Outcome.Answered; state = disowned (slotsSettled t (t .kfx)) }
 ionsetBy false s = record { outcome = Outcome.Refused Refusal.PointCount; state = s }
 
 unfoldable pub ionsetOf : IonoState → StateAnswer

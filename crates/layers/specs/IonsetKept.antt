@@ -1,4 +1,5 @@
--- What `ionset` leaves as it was: all but the three tables, whose lengths stay, and kfx.
+-- What `ionset` leaves as it was: all but the three tables, whose lengths stay, kfx, and the owner unless the profile is supplied.
+use mathlib.Core.Bool.{true}
 use mathlib.Core.Path.{_≡_}
 use lib.ListN.{length}
 use Rattle.layers.specs.declared.IonoState.{IonoState}
@@ -14,3 +15,4 @@ pub record IonsetKept (s r : IonoState) : Type 0 where
   pub fsecv-kept : r .fsecv ≡ s .fsecv
   pub iedp-kept : r .iedp ≡ s .iedp
   pub ielect-kept : r .ielect ≡ s .ielect
+  pub owner-kept : s .ielect ≡ true → r .owner ≡ s .owner

@@ -1,5 +1,7 @@
--- The state of a path: its numbers, `from_layers`, `ionset`, and what `ionset` keeps.
+-- The state of a path: its numbers, whose profile it has, `from_layers`, `ionset`, what `ionset` keeps, and the owner that both leave.
 pub mod State
+pub mod Owners
 pub mod FromLayers
 pub mod Ionset
 pub mod IonsetKept
+pub mod OwnersLeft

@@ -8,6 +8,8 @@ ghost use Rattle.layers.specs.Ionset.{layerFrom, twoSlots, threeSlots, a
 use refusal::Outcome;
 use refusal::Refusal;
 
+pub mod owners;
+
 // The regular layers over a control point: in each list E first, then F1, then F2.
 pub struct LayerParams {
     // critical frequency in MHz; an F1 of 0 is no F1
@@ -24,6 +26,13 @@ pub struct EsParams {
     pub fs: [f32; 3],
     // where it reflects, in km
     pub hs: f32,
+}
+
+// Whose profile a state has: nobody's, a slot's, or one supplied from outside.
+pub enum Owner {
+    None,
+    Slot(usize),
+    Supplied,
 }
 
 // The tables are flat: `fi[3 * k + i]`, layer i of point or slot k, is the Rust's `fi[k][i]`.
@@ -47,6 +56,8 @@ pub struct IonoState {
     pub iedp: i32,
     // set where the profile came from outside, which makes `lecden` do nothing
     pub ielect: bool,
+    // whose profile it is, as stored: `owners::owner_of` says what counts
+    pub owner: Owner,
 }
 
 // A layer's MUF line.
@@ -101,6 +112,7 @@ pub fn zero_state() -> IonoState
         fsecv: [0.0; 3],
         iedp: 0,
         ielect: false,
+        owner: Owner::None,
     }
 }
 
@@ -315,7 +327,7 @@ pub fn ionset(s: IonoState) -> StateAnswer
     if count_taken(s.km) {
         let t = assign(s);
         let n = t.kfx;
-        let state = settle_slots(t, n);
+        let state = owners::disown(settle_slots(t, n));
         return StateAnswer {
             outcome: Outcome::Answered,
             state,

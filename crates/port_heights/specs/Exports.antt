@@ -7,7 +7,7 @@ use lib.ListN.{length, set}
 use lib.Ieee.{binary32, ofBits}
 use Rattle.port_state.specs.Words.{floatsOf, floatsInto}
 use Rattle.port_state.specs.Ports.{Ported}
-use Rattle.port_state.specs.State.{stateOf}
+use Rattle.port_state.specs.State.{stateWords, stateOf}
 use Rattle.readings.specs.Scan.{kindOf, valueOf, readingOf}
 use Rattle.readings.specs.declared.Reading.{Reading}
 use Rattle.heights.specs.Gethp.{gethpOf, gethpScanOf}
@@ -24,7 +24,7 @@ leftBy false false out a = a
 
 -- a state's words, and n words to write
 abbrev pub onState : List ℕ → ℕ → List ℕ → Ported → Ported
-onState state n out a = leftBy (ltb (length state) 153) (ltb (length out) n) out a
+onState state n out a = leftBy (ltb (length state) stateWords) (ltb (length out) n) out a
 
 -- hp, ht, cursor
 unfoldable pub heightsInto : Heights → List ℕ → List ℕ

@@ -8,6 +8,7 @@ ghost use Rattle.heights.specs.Bendy.{layerNumberOf, layerValuesOf};
 ghost use Rattle.port_heights.specs.Exports.{heightsInto, readingInto, gethpLeft, gethpScanLeft, readingLeft, bendyLeft, penLeft, xlinLeft};
 use heights::Heights;
 use heights::LayerNumber;
+use port_state::STATE_WORDS;
 use readings::Reading;
 
 fn heights_into(h: Heights, out: &mut [u32])
@@ -43,12 +44,12 @@ fn layer_into(a: LayerNumber, out: &mut [u32]) -> u32
     }
 }
 
-// state 153 words; out: hp, ht, cursor
+// state STATE_WORDS words; out: hp, ht, cursor
 #[no_mangle]
 pub extern "C" fn port_gethp(state: &[u32], fxx: u32, out: &mut [u32]) -> u32
     ensures { λ r. ⌜ (r ≡ gethpLeft (now (state .entry)) fxx (now (out .entry)) .number) × (now (out .exit) ≡ gethpLeft (now (state .entry)) fxx (now (out .entry)) .words) ⌝ }
 {
-    if state.len() < 153 {
+    if state.len() < STATE_WORDS {
         return 1;
     }
     if out.len() < 3 {
@@ -66,7 +67,7 @@ pub extern "C" fn port_gethp(state: &[u32], fxx: u32, out: &mut [u32]) -> u32
 pub extern "C" fn port_gethp_scan(state: &[u32], fxx: u32, out: &mut [u32]) -> u32
     ensures { λ r. ⌜ (r ≡ gethpScanLeft (now (state .entry)) fxx (now (out .entry)) .number) × (now (out .exit) ≡ gethpScanLeft (now (state .entry)) fxx (now (out .entry)) .words) ⌝ }
 {
-    if state.len() < 153 {
+    if state.len() < STATE_WORDS {
         return 1;
     }
     if out.len() < 3 {
@@ -84,7 +85,7 @@ pub extern "C" fn port_gethp_scan(state: &[u32], fxx: u32, out: &mut [u32]) -> u
 pub extern "C" fn port_reading(state: &[u32], zi: u32, out: &mut [u32]) -> u32
     ensures { λ r. ⌜ (r ≡ readingLeft (now (state .entry)) zi (now (out .entry)) .number) × (now (out .exit) ≡ readingLeft (now (state .entry)) zi (now (out .entry)) .words) ⌝ }
 {
-    if state.len() < 153 {
+    if state.len() < STATE_WORDS {
         return 1;
     }
     if out.len() < 2 {
@@ -104,7 +105,7 @@ pub extern "C" fn port_reading(state: &[u32], zi: u32, out: &mut [u32]) -> u32
 pub extern "C" fn port_bendy(state: &[u32], i: u32, k: u32, f: u32, out: &mut [u32]) -> u32
     ensures { λ r. ⌜ (r ≡ bendyLeft (now (state .entry)) i k f (now (out .entry)) .number) × (now (out .exit) ≡ bendyLeft (now (state .entry)) i k f (now (out .entry)) .words) ⌝ }
 {
-    if state.len() < 153 {
+    if state.len() < STATE_WORDS {
         return 1;
     }
     if out.len() < 1 {
@@ -120,7 +121,7 @@ pub extern "C" fn port_bendy(state: &[u32], i: u32, k: u32, f: u32, out: &mut [u
 pub extern "C" fn port_pen(state: &[u32], i: u32, k: u32, f: u32, out: &mut [u32]) -> u32
     ensures { λ r. ⌜ (r ≡ penLeft (now (state .entry)) i k f (now (out .entry)) .number) × (now (out .exit) ≡ penLeft (now (state .entry)) i k f (now (out .entry)) .words) ⌝ }
 {
-    if state.len() < 153 {
+    if state.len() < STATE_WORDS {
         return 1;
     }
     if out.len() < 1 {

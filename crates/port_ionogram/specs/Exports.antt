@@ -10,7 +10,7 @@ use Rattle.refusal.specs.Number.{numberOf}
 use Rattle.refusal.specs.declared.Refusal.{Refusal}
 use Rattle.refusal.specs.declared.Outcome.{Outcome}
 use Rattle.port_state.specs.Ports.{Ported, refusedWith}
-use Rattle.port_state.specs.State.{stateOf, stateInto}
+use Rattle.port_state.specs.State.{stateWords, stateOf, stateInto}
 use Rattle.reflectrix.specs.Angles.{sangOf, scanNumber, scanValue}
 use Rattle.reflectrix.specs.Selmod.{selmodOf}
 use Rattle.reflectrix.specs.Fobby.{fobbyOutcome, cellsAfter}
@@ -45,7 +45,7 @@ unfoldable pub portSang : ℕ → ℕ → List ℕ → Ported
 portSang gcdkm amind out = unlessShort (short out 1) out (scanInto (sangOf (ofBits binary32 gcdkm) (ofBits binary32 amind)) out)
 
 unfoldable pub portSelmod : List ℕ → List ℕ → Ported
-portSelmod state out = unlessShort (short state 153 || short out 1) out (record { number = 0; words = set out 0 (selmodOf (stateOf state)) })
+portSelmod state out = unlessShort (short state stateWords || short out 1) out (record { number = 0; words = set out 0 (selmodOf (stateOf state)) })
 
 -- ---- the rows
 
@@ -57,11 +57,11 @@ unfoldable pub rowsInto : IonogramAnswer → List ℕ → Ported
 rowsInto a w = rowsBy (a .outcome) (a .ion) w
 
 unfoldable pub portGenion : List ℕ → ℕ → List ℕ → Ported
-portGenion state k out = unlessShort (short state 153 || short out 120) out (rowsInto (genionAnswer (stateOf state) k) out)
+portGenion state k out = unlessShort (short state stateWords || short out 120) out (rowsInto (genionAnswer (stateOf state) k) out)
 
 unfoldable pub portAlosfv : List ℕ → ℕ → List ℕ → List ℕ → Ported
 portAlosfv state k ion layers =
-    unlessShort (short state 153 || short ion 120 || short layers 44) ion
+    unlessShort (short state stateWords || short ion 120 || short layers 44) ion
     (rowsInto (alosfvAnswer (stateOf state) k (ionogramOf ion) (linesOf layers)) ion)
 
 -- ---- the reflectrix: thirty cells an angle, or as many as are lent
@@ -106,5 +106,5 @@ sheetCellsOn state k nang cells = sheetCellsOf (stateOf state) k nang (cellsOf c
 
 unfoldable pub portSheet : List ℕ → ℕ → ℕ → List ℕ → List ℕ → List ℕ → PortedSheet
 portSheet state k nang layers cells out =
-    sheetUnlessShort (short state 153 || short layers 44 || short out 120) state cells out
+    sheetUnlessShort (short state stateWords || short layers 44 || short out 120) state cells out
     (sheetInto (sheetOn state k nang layers cells) (sheetCellsOn state k nang cells) state cells out)

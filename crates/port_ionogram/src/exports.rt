@@ -6,11 +6,12 @@ ghost use denote.Ref.{now};
 ghost use Rattle.reflectrix.specs.Angles.{scanValue};
 ghost use Rattle.reflectrix.specs.Fobby.{cellsAfter};
 ghost use Rattle.slot_sheet.specs.Sheet.{slotSheetOf, sheetCellsOf};
-ghost use Rattle.port_state.specs.State.{stateInto};
+ghost use Rattle.port_state.specs.State.{stateWords, stateInto};
 ghost use Rattle.port_layouts.specs.Layouts.{cellsOf, cellsInto, ionogramInto};
 ghost use Rattle.port_ionogram.specs.Exports.{scanInto, rowsInto, portSang, portSelmod, portGenion, portFobby, portAlosfv, sheetOn, sheetCellsOn, portSheet};
 use layers::IonoState;
 use layers::LayerMuf;
+use port_state::STATE_WORDS;
 use reflectrix::Ionogram;
 use reflectrix::IonogramAnswer;
 use reflectrix::Scan;
@@ -44,12 +45,12 @@ pub extern "C" fn port_sang(gcdkm: u32, amind: u32, out: &mut [u32]) -> u32
     scan_into(a, out)
 }
 
-// state 153 words; out: the slot
+// state STATE_WORDS words; out: the slot
 #[no_mangle]
 pub extern "C" fn port_selmod(state: &[u32], out: &mut [u32]) -> u32
     ensures { λ r. ⌜ (r ≡ portSelmod (now (state .entry)) (now (out .entry)) .number) × (now (out .exit) ≡ portSelmod (now (state .entry)) (now (out .entry)) .words) ⌝ }
 {
-    if state.len() < 153 {
+    if state.len() < STATE_WORDS {
         return 1;
     }
     if out.len() < 1 {
@@ -76,12 +77,12 @@ fn rows_into(a: IonogramAnswer, w: &mut [u32]) -> u32
     }
 }
 
-// state 153 words; out 120: fvert, hprim, htrue, afac
+// state STATE_WORDS words; out 120: fvert, hprim, htrue, afac
 #[no_mangle]
 pub extern "C" fn port_genion(state: &[u32], k: u32, out: &mut [u32]) -> u32
     ensures { λ r. ⌜ (r ≡ portGenion (now (state .entry)) k (now (out .entry)) .number) × (now (out .exit) ≡ portGenion (now (state .entry)) k (now (out .entry)) .words) ⌝ }
 {
-    if state.len() < 153 {
+    if state.len() < STATE_WORDS {
         return 1;
     }
     if out.len() < 120 {
@@ -92,12 +93,12 @@ pub extern "C" fn port_genion(state: &[u32], k: u32, out: &mut [u32]) -> u32
     rows_into(a, out)
 }
 
-// state 153 words, ion 120 as `port_genion` leaves them, layers 44
+// state STATE_WORDS words, ion 120 as `port_genion` leaves them, layers 44
 #[no_mangle]
 pub extern "C" fn port_alosfv(state: &[u32], k: u32, ion: &mut [u32], layers: &[u32]) -> u32
     ensures { λ r. ⌜ (r ≡ portAlosfv (now (state .entry)) k (now (ion .entry)) (now (layers .entry)) .number) × (now (ion .exit) ≡ portAlosfv (now (state .entry)) k (now (ion .entry)) (now (layers .entry)) .words) ⌝ }
 {
-    if state.len() < 153 {
+    if state.len() < STATE_WORDS {
         return 1;
     }
     if ion.len() < 120 {
@@ -171,7 +172,7 @@ fn sheet_into(
     cells: &mut [u32],
     out: &mut [u32],
 )
-    requires { ⌜ (153 ≤ length (now state)) × (44 ≤ length (now layers)) × (120 ≤ length (now out)) × (nang ≤ 40) × (30 * nang ≤ length (now cells)) ⌝ }
+    requires { ⌜ (stateWords ≤ length (now state)) × (44 ≤ length (now layers)) × (120 ≤ length (now out)) × (nang ≤ 40) × (30 * nang ≤ length (now cells)) ⌝ }
     ensures { λ _. ⌜ (now (state .exit) ≡ stateInto (sheetOn (now (state .entry)) k nang (now (layers .entry)) (now (cells .entry)) .state) (now (state .entry)))
         × (now (cells .exit) ≡ cellsInto (now (cells .entry)) (sheetCellsOn (now (state .entry)) k nang (now (cells .entry))))
         × (now (out .exit) ≡ ionogramInto (sheetOn (now (state .entry)) k nang (now (layers .entry)) (now (cells .entry)) .ion) (now (out .entry))) ⌝ }
@@ -187,7 +188,7 @@ fn sheet_into(
     port_layouts::ionogram_into(ion, out);
 }
 
-// state 153 words, layers 44; cells: 30 words an angle; out 120: fvert, hprim, htrue, afac
+// state STATE_WORDS words, layers 44; cells: 30 words an angle; out 120: fvert, hprim, htrue, afac
 #[no_mangle]
 pub extern "C" fn port_sheet(
     state: &mut [u32],
@@ -202,7 +203,7 @@ pub extern "C" fn port_sheet(
         × (now (cells .exit) ≡ portSheet (now (state .entry)) k nang (now (layers .entry)) (now (cells .entry)) (now (out .entry)) .cells)
         × (now (out .exit) ≡ portSheet (now (state .entry)) k nang (now (layers .entry)) (now (cells .entry)) (now (out .entry)) .out) ⌝ }
 {
-    if state.len() < 153 {
+    if state.len() < STATE_WORDS {
         return 1;
     }
     if layers.len() < 44 {

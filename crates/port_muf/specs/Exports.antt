@@ -16,7 +16,7 @@ use Rattle.muf.specs.declared.MufHour.{MufHour}
 use Rattle.muf.specs.declared.AnswerAndRow.{AnswerAndRow}
 use Rattle.port_state.specs.Words.{floatsOf, floatsInto, word, wordOf, countOf}
 use Rattle.port_state.specs.Ports.{Ported}
-use Rattle.port_state.specs.State.{stateOf, stateInto}
+use Rattle.port_state.specs.State.{stateWords, stateOf, stateInto}
 use Rattle.deciles.specs.F2dis.{f2disOf, deviationNumber, deviationValue}
 use Rattle.deciles.specs.declared.Deviation.{Deviation}
 
@@ -111,6 +111,6 @@ curmufBy false false false short a = a
 -- `flatOf` is all of `curmuf`: its hour and state, and the row that it rewrites; here on what the words stand for, lists of any length
 unfoldable pub curmufLeft : List ℕ → List ℕ → List ℕ → List ℕ → List ℕ → List ℕ → List ℕ → HourLeft
 curmufLeft state es deciles clat clck numbers out =
-    curmufBy (ltb (length state) 153) (ltb (length numbers) 4) (ltb (length out) 54)
+    curmufBy (ltb (length state) stateWords) (ltb (length numbers) 4) (ltb (length out) 54)
     (leaves (numberOf Refusal.Length) state es out)
     (doneLeft (flatOf (stateOf state) (floats es) (floats deciles) (floats clat) (floats clck) (pathNumbersOf numbers)) state es out)

@@ -8,11 +8,13 @@ ghost use Rattle.port_state.specs.Words.{floatsInto};
 ghost use Rattle.sporadic.specs.Sporadic.{rowAt, esFrom, startOf};
 ghost use Rattle.muf.specs.Curmuf.{flatOf};
 ghost use Rattle.port_muf.specs.Exports.{floats, leaves, pathNumbersOf, tenInto, lineInto, headInto, hourInto, wordsBy, doneLeft, curmufLeft};
+ghost use Rattle.port_state.specs.State.{stateWords};
 use layer_mufs::PathNumbers;
 use layers::IonoState;
 use layers::LayerMuf;
 use muf::AnswerAndRow;
 use muf::MufHour;
+use port_state::STATE_WORDS;
 use refusal::Outcome;
 use refusal::Refusal;
 use sporadic::EsRow;
@@ -182,7 +184,7 @@ fn es_into(rewrites: bool, ksx: usize, lower: f32, es: &mut [u32])
 }
 
 fn done_into(d: AnswerAndRow, state: &mut [u32], es: &mut [u32], out: &mut [u32]) -> u32
-    requires { ⌜ (153 ≤ length (now state)) × (54 ≤ length (now out)) × (d .rewrites ≡ true → 4 * d .ksx < length (now es)) ⌝ }
+    requires { ⌜ (stateWords ≤ length (now state)) × (54 ≤ length (now out)) × (d .rewrites ≡ true → 4 * d .ksx < length (now es)) ⌝ }
     ensures { λ r. ⌜ leaves r (now (state .exit)) (now (es .exit)) (now (out .exit)) ≡ doneLeft d (now (state .entry)) (now (es .entry)) (now (out .entry)) ⌝ }
 {
     let a = d.answer;
@@ -200,7 +202,7 @@ fn done_into(d: AnswerAndRow, state: &mut [u32], es: &mut [u32], out: &mut [u32]
     }
 }
 
-// state 153 words; es 4 words a row: fs 3, hs; deciles 576; numbers: gcd, gcdkm, amind, ssn;
+// state STATE_WORDS words; es 4 words a row: fs 3, hs; deciles 576; numbers: gcd, gcdkm, amind, ssn;
 // out 54: the hour's numbers, its mode and controlling slot, four lines of eleven words
 #[no_mangle]
 pub extern "C" fn port_curmuf(
@@ -214,7 +216,7 @@ pub extern "C" fn port_curmuf(
 ) -> u32
     ensures { λ r. ⌜ leaves r (now (state .exit)) (now (es .exit)) (now (out .exit)) ≡ curmufLeft (now (state .entry)) (now (es .entry)) (now (deciles .entry)) (now (clat .entry)) (now (clck .entry)) (now (numbers .entry)) (now (out .entry)) ⌝ }
 {
-    if state.len() < 153 {
+    if state.len() < STATE_WORDS {
         return 1;
     }
     if numbers.len() < 4 {

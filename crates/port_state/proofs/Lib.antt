@@ -1,3 +1,4 @@
--- Signs as words, and words copied.
+-- Signs as words, words copied, and owners read back.
 pub mod Signs
 mod Copies
+mod Owners

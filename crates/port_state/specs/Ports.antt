@@ -8,14 +8,16 @@ use Rattle.scalar.specs.Literals.{f0}
 use Rattle.refusal.specs.Number.{numberOf}
 use Rattle.refusal.specs.declared.Refusal.{Refusal}
 use Rattle.refusal.specs.declared.Outcome.{Outcome}
+use Rattle.layers.specs.Owners.{ownerNumber, ownerSlot, ownerOf}
 use Rattle.layers.specs.FromLayers.{fromLayersOf}
 use Rattle.layers.specs.Ionset.{ionsetOf}
 use Rattle.layers.specs.declared.IonoState.{IonoState}
 use Rattle.layers.specs.declared.LayerParams.{LayerParams}
+use Rattle.layers.specs.declared.Owner.{Owner}
 use Rattle.layers.specs.declared.StateAnswer.{StateAnswer}
 use Rattle.profile.specs.Lecden.{lecdenAnswer}
-use Rattle.port_state.specs.Words.{floatsOf}
-use Rattle.port_state.specs.State.{stateOf, stateInto}
+use Rattle.port_state.specs.Words.{floatsOf, countOf}
+use Rattle.port_state.specs.State.{stateWords, stateOf, stateInto}
 
 pub record Ported : Type 0 where
   pub number : ℕ
@@ -36,14 +38,14 @@ ionsetBy true w = answerOf (ionsetOf (stateOf w)) w
 ionsetBy false w = refusedWith Refusal.Length w
 
 unfoldable pub portIonset : List ℕ → Ported
-portIonset w = ionsetBy (leb 153 (length w)) w
+portIonset w = ionsetBy (leb stateWords (length w)) w
 
 abbrev pub lecdenBy : Bool → List ℕ → ℕ → Ported
 lecdenBy true w k = answerOf (lecdenAnswer (stateOf w) k) w
 lecdenBy false w k = refusedWith Refusal.Length w
 
 unfoldable pub portLecden : List ℕ → ℕ → Ported
-portLecden w k = lecdenBy (leb 153 (length w)) w k
+portLecden w k = lecdenBy (leb stateWords (length w)) w k
 
 -- point k: nine words, fi, yi, hi
 unfoldable pub pointOf : List ℕ → ℕ → LayerParams
@@ -69,4 +71,15 @@ fromLayersBy true points w = fromPointsBy (eqb (length points % 9) 0 && leb (len
 fromLayersBy false points w = refusedWith Refusal.Length w
 
 unfoldable pub portFromLayers : List ℕ → List ℕ → Ported
-portFromLayers points w = fromLayersBy (leb 153 (length w)) points w
+portFromLayers points w = fromLayersBy (leb stateWords (length w)) points w
+
+-- the owner that counts: its number, and the slot's beside it
+unfoldable pub ownerPair : Owner → List ℕ → List ℕ
+ownerPair o out = set (set out 0 (ownerNumber o)) 1 (countOf (ownerSlot o))
+
+abbrev pub ownerAnswerBy : Bool → List ℕ → List ℕ → Ported
+ownerAnswerBy true state out = record { number = 0; words = ownerPair (ownerOf (stateOf state)) out }
+ownerAnswerBy false state out = refusedWith Refusal.Length out
+
+unfoldable pub portOwner : List ℕ → List ℕ → Ported
+portOwner state out = ownerAnswerBy (leb stateWords (length state) && leb 2 (length out)) state out

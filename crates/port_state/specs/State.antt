@@ -1,10 +1,15 @@
--- A state as 153 words: fi, yi, hi (15 each), km, kfx, htr and fnsq (50 each), rises, fsecv (3), iedp, ielect.
+-- A state as words: fi, yi, hi (15 each), km, kfx, htr and fnsq (50 each), rises, fsecv (3), iedp, ielect, owner.
 use mathlib.Core.List.{List}
 use Prim.Native.Nat.{ℕ}
 use lib.ListN.{set}
-use Rattle.layers.specs.State.{zeroState, withTables, withKm, withKfx, withProfile, withFsecv, withIedp, withIelect}
+use Rattle.layers.specs.State.{zeroState, withTables, withKm, withKfx, withProfile, withFsecv, withIedp, withIelect, withOwner}
 use Rattle.layers.specs.declared.IonoState.{IonoState}
+use Rattle.port_state.specs.Owners.{ownerOfWord, wordOfOwner}
 use Rattle.port_state.specs.Words.{word, floatsOf, floatsInto, signedOf, wordOf, yesOf, flagOf, countOf}
+
+-- how many they are, for every call that takes a state
+abbrev pub stateWords : ℕ
+stateWords = 154
 
 unfoldable pub stateOf : List ℕ → IonoState
 stateOf w =
@@ -12,7 +17,8 @@ stateOf w =
     let b = withKfx (withKm a (word w 45)) (word w 46) in
     let c = withProfile b (floatsOf w 47 50) (floatsOf w 97 50) (yesOf (word w 147)) in
     let d = withFsecv c (floatsOf w 148 3) in
-    withIelect (withIedp d (signedOf (word w 151))) (yesOf (word w 152))
+    let e = withIelect (withIedp d (signedOf (word w 151))) (yesOf (word w 152)) in
+    withOwner e (ownerOfWord (word w 153))
 
 -- words 0 to 44
 unfoldable pub tablesInto : IonoState → List ℕ → List ℕ
@@ -30,6 +36,10 @@ countsInto s w = set (set w 45 (countOf (s .km))) 46 (countOf (s .kfx))
 unfoldable pub marksInto : IonoState → List ℕ → List ℕ
 marksInto s w = set (set (set w 147 (flagOf (s .«htr_rises»))) 151 (wordOf (s .iedp))) 152 (flagOf (s .ielect))
 
--- words past the 153 stay
+-- word 153: the owner as stored
+unfoldable pub ownerInto : IonoState → List ℕ → List ℕ
+ownerInto s w = set w 153 (wordOfOwner (s .owner))
+
+-- words past the state's stay
 unfoldable pub stateInto : IonoState → List ℕ → List ℕ
-stateInto s w = marksInto s (countsInto s (profileInto s (tablesInto s w)))
+stateInto s w = ownerInto s (marksInto s (countsInto s (profileInto s (tablesInto s w))))

@@ -3,10 +3,16 @@ ghost use mathlib.Core.Path.{_≡_};
 ghost use Prim.Native.Nat.{_+_, _≤_};
 ghost use lib.ListN.{length};
 ghost use Rattle.port_state.specs.Words.{floatsOf, floatsInto, signedOf, wordOf, yesOf, flagOf, countOf};
-ghost use Rattle.port_state.specs.State.{stateOf, tablesInto, profileInto, countsInto, marksInto, stateInto};
+ghost use Rattle.port_state.specs.State.{stateWords, stateOf, tablesInto, profileInto, countsInto, marksInto, ownerInto, stateInto};
+ghost use Rattle.port_state.specs.Owners.{ownerOfWord, slotWord, wordOfOwner};
 use layers::IonoState;
+use layers::Owner;
+use layers::owners;
 
 pub mod ports;
+
+// How many words a state takes: specs/State.antt says which.
+pub const STATE_WORDS: usize = 154;
 
 // The floats of the words from `from` on.
 pub fn floats_of(w: &[u32], from: usize, x: &mut [f32])
@@ -120,8 +126,42 @@ pub fn wide(w: u32) -> usize
     w as usize
 }
 
+// A word that is no owner counts as none.
+fn owner_of_word(w: u32) -> Owner
+    ensures { λ r. ⌜ r ≡ ownerOfWord w ⌝ }
+{
+    if w == 4 {
+        return Owner::Supplied;
+    }
+    if 1 <= w {
+        if w <= 3 {
+            return Owner::Slot(wide(w - 1));
+        }
+    }
+    Owner::None
+}
+
+fn slot_word(k: usize) -> u32
+    ensures { λ r. ⌜ r ≡ slotWord k ⌝ }
+{
+    if k < 3 {
+        return k as u32 + 1;
+    }
+    0
+}
+
+fn owner_word(o: Owner) -> u32
+    ensures { λ r. ⌜ r ≡ wordOfOwner o ⌝ }
+{
+    match o {
+        Owner::None => 0,
+        Owner::Slot(k) => slot_word(k),
+        Owner::Supplied => 4,
+    }
+}
+
 pub fn state_of(w: &[u32]) -> IonoState
-    requires { ⌜ 153 ≤ length (now w) ⌝ }
+    requires { ⌜ stateWords ≤ length (now w) ⌝ }
     ensures { λ r. ⌜ r ≡ stateOf (now (w .entry)) ⌝ }
 {
     let mut s = layers::zero_state();
@@ -142,7 +182,7 @@ pub fn state_of(w: &[u32]) -> IonoState
     s.fsecv = fsecv;
     s.iedp = signed(w[151]);
     s.ielect = yes(w[152]);
-    s
+    owners::with_owner(s, owner_of_word(w[153]))
 }
 
 fn count(n: usize) -> u32
@@ -152,7 +192,7 @@ fn count(n: usize) -> u32
 }
 
 fn tables_into(s: IonoState, w: &mut [u32])
-    requires { ⌜ 153 ≤ length (now w) ⌝ }
+    requires { ⌜ stateWords ≤ length (now w) ⌝ }
     ensures { λ r. ⌜ now (w .exit) ≡ tablesInto s (now (w .entry)) ⌝ }
 {
     let fi = s.fi;
@@ -164,7 +204,7 @@ fn tables_into(s: IonoState, w: &mut [u32])
 }
 
 fn profile_into(s: IonoState, w: &mut [u32])
-    requires { ⌜ 153 ≤ length (now w) ⌝ }
+    requires { ⌜ stateWords ≤ length (now w) ⌝ }
     ensures { λ r. ⌜ now (w .exit) ≡ profileInto s (now (w .entry)) ⌝ }
 {
     let htr = s.htr;
@@ -176,7 +216,7 @@ fn profile_into(s: IonoState, w: &mut [u32])
 }
 
 fn counts_into(s: IonoState, w: &mut [u32])
-    requires { ⌜ 153 ≤ length (now w) ⌝ }
+    requires { ⌜ stateWords ≤ length (now w) ⌝ }
     ensures { λ r. ⌜ now (w .exit) ≡ countsInto s (now (w .entry)) ⌝ }
 {
     w[45] = count(s.km);
@@ -184,7 +224,7 @@ fn counts_into(s: IonoState, w: &mut [u32])
 }
 
 fn marks_into(s: IonoState, w: &mut [u32])
-    requires { ⌜ 153 ≤ length (now w) ⌝ }
+    requires { ⌜ stateWords ≤ length (now w) ⌝ }
     ensures { λ r. ⌜ now (w .exit) ≡ marksInto s (now (w .entry)) ⌝ }
 {
     let iedp = s.iedp;
@@ -193,12 +233,21 @@ fn marks_into(s: IonoState, w: &mut [u32])
     w[152] = flag(s.ielect);
 }
 
+fn owner_into(s: IonoState, w: &mut [u32])
+    requires { ⌜ stateWords ≤ length (now w) ⌝ }
+    ensures { λ r. ⌜ now (w .exit) ≡ ownerInto s (now (w .entry)) ⌝ }
+{
+    let o = s.owner;
+    w[153] = owner_word(o);
+}
+
 pub fn state_into(s: IonoState, w: &mut [u32])
-    requires { ⌜ 153 ≤ length (now w) ⌝ }
+    requires { ⌜ stateWords ≤ length (now w) ⌝ }
     ensures { λ r. ⌜ now (w .exit) ≡ stateInto s (now (w .entry)) ⌝ }
 {
     tables_into(s, w);
     profile_into(s, w);
     counts_into(s, w);
     marks_into(s, w);
+    owner_into(s, w);
 }

@@ -1,4 +1,4 @@
--- `lecden` builds its state by three setters, none of which touches what `LecdenKept` lists.
+-- `lecden` builds its state by four setters, none of which touches what `LecdenKept` lists.
 use mathlib.Core.Bool.{Bool, true, false}
 use mathlib.Core.List.{List}
 use mathlib.Core.Path.{_≡_, refl}

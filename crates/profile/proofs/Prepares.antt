@@ -57,7 +57,7 @@ read-other s k j p h =
 slot-profiled : (s : IonoState) (k : ℕ) → Shaped s → k < 3 → Prepared s (lecdenBy false s k) k
 unfolding slotAt
 slot-profiled s k l h =
-    record { own = read-own s k _ l h; others = λ j n. read-other s k j _ n; heights = refl; densities = refl; mark = refl }
+    record { own = read-own s k _ l h; others = λ j n. read-other s k j _ n; heights = refl; densities = refl; mark = refl; owner = refl }
 
 -- what `lecden` works out where no profile is supplied
 pub lecden-prepares : (s : IonoState) (k : ℕ) → s .ielect ≡ false → Shaped s → k < 3 → Prepared s (lecdenOf s k) k

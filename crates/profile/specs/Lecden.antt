@@ -1,4 +1,4 @@
--- `lecden`: the density profile of slot k. It writes the slot's F1 height and semi-thickness, `fsecv[k]`, the profile and the rising mark. The paper's refusal: 6 for a slot above 2.
+-- `lecden`: the density profile of slot k. It writes the slot's F1 height and semi-thickness, `fsecv[k]`, the profile, the rising mark and the owner, which is slot k; nothing where the profile is supplied. The paper's refusal: 6 for a slot above 2.
 use mathlib.Core.Bool.{Bool, true, false}
 use mathlib.Core.List.{map}
 use Prim.Native.Nat.{ℕ, _+_, _*_}
@@ -10,8 +10,9 @@ use Rattle.scalar.specs.Scalar.{maxOf}
 use Rattle.exponential.specs.Exp.{expOf}
 use Rattle.refusal.specs.declared.Refusal.{Refusal}
 use Rattle.refusal.specs.declared.Outcome.{Outcome}
-use Rattle.layers.specs.State.{withTables, withFsecv, withProfile}
+use Rattle.layers.specs.State.{withTables, withFsecv, withProfile, withOwner}
 use Rattle.layers.specs.declared.IonoState.{IonoState}
+use Rattle.layers.specs.declared.Owner.{Owner}
 use Rattle.layers.specs.declared.StateAnswer.{StateAnswer}
 use Rattle.profile.specs.Rising.{risesOf}
 use Rattle.profile.specs.F1.{valleyOf, f1Of, reshapedOf}
@@ -53,17 +54,20 @@ curvesOf s v f t =
 unfoldable pub suppliedOf : IonoState → Bool
 suppliedOf s = s .ielect
 
-abbrev pub lecdenBy : Bool → IonoState → ℕ → IonoState
-lecdenBy true s k = s
-lecdenBy false s k =
-    let p = slotAt s k in
+-- the profile of a slot whose numbers are p, and what of it is written at slot k
+abbrev pub profiledOf : IonoState → ℕ → Slot → IonoState
+profiledOf s k p =
     let v = valleyOf p in
     let f = f1Of p v in
     let q = reshapedOf p f in
     let t = tailOf q in
     let htr = heightsOf q (t .hex) in
     let fnsq = map (densityOf (curvesOf q v f t)) htr in
-    withProfile (slotWritten s k q) htr fnsq (risesOf htr)
+    withOwner (withProfile (slotWritten s k q) htr fnsq (risesOf htr)) (Owner.Slot k)
+
+abbrev pub lecdenBy : Bool → IonoState → ℕ → IonoState
+lecdenBy true s k = s
+lecdenBy false s k = profiledOf s k (slotAt s k)
 
 unfoldable pub lecdenOf : IonoState → ℕ → IonoState
 lecdenOf s k = lecdenBy (suppliedOf s) s k

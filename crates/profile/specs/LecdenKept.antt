@@ -1,4 +1,4 @@
--- What `lecden` of slot k leaves as it was: all of the state but the slot's F1 height and semi-thickness, `fsecv[k]`, the profile and the rising mark.
+-- What `lecden` of slot k leaves as it was: all of the state but the slot's F1 height and semi-thickness, `fsecv[k]`, the profile, the rising mark and the owner.
 use mathlib.Core.List.{List}
 use mathlib.Core.Path.{_≡_}
 use mathlib.Core.Logic.{_≢_}

@@ -1,4 +1,4 @@
--- `lecden`: the rising test, F1 reshaped, the fifty heights, their densities, the whole, and what it keeps and prepares.
+-- `lecden`: the rising test, F1 reshaped, the fifty heights, their densities, the whole, what it keeps and prepares, and whose profile it leaves.
 pub mod Rising
 pub mod F1
 pub mod Grid
@@ -6,3 +6,4 @@ pub mod Density
 pub mod Lecden
 pub mod LecdenKept
 pub mod Prepared
+pub mod LecdenOwns

@@ -1,4 +1,4 @@
--- What `lecden` of slot k works out is a function of that slot alone: the slot as it leaves it, the heights and the densities. The other slots are as they were.
+-- What `lecden` of slot k works out is a function of that slot alone: the slot as it leaves it, the heights and the densities; the owner is the slot. The other slots are as they were.
 use mathlib.Core.List.{List, map}
 use mathlib.Core.Path.{_≡_}
 use mathlib.Core.Logic.{_≢_}
@@ -6,6 +6,7 @@ use Prim.Native.Nat.{ℕ}
 use lib.ListN.{length}
 use lib.Ieee.{Float}
 use Rattle.layers.specs.declared.IonoState.{IonoState}
+use Rattle.layers.specs.declared.Owner.{Owner}
 use Rattle.profile.specs.Rising.{risesOf}
 use Rattle.profile.specs.F1.{valleyOf, f1Of, reshapedOf}
 use Rattle.profile.specs.Grid.{heightsOf}
@@ -34,3 +35,4 @@ pub record Prepared (s r : IonoState) (k : ℕ) : Type 0 where
   pub heights : r .htr ≡ htrOf (slotAt s k)
   pub densities : r .fnsq ≡ fnsqOf (slotAt s k)
   pub mark : r .«htr_rises» ≡ risesOf (htrOf (slotAt s k))
+  pub owner : r .owner ≡ Owner.Slot k

@@ -6,7 +6,9 @@ ghost use Rattle.profile.specs.Rising.{risesOf};
 ghost use Rattle.profile.specs.Density.{densityOf};
 ghost use Rattle.profile.specs.Lecden.{slotAt, slotWritten, tailOf, curvesOf, suppliedOf, lecdenOf, lecdenAnswer};
 use layers::IonoState;
+use layers::Owner;
 use layers::StateAnswer;
+use layers::owners;
 use refusal::Outcome;
 use refusal::Refusal;
 
@@ -221,7 +223,7 @@ pub fn lecden_slot(s: IonoState, k: usize) -> IonoState
     r.htr = htr;
     r.fnsq = fnsq;
     r.htr_rises = rises;
-    r
+    owners::with_owner(r, Owner::Slot(k))
 }
 
 pub fn lecden(s: IonoState, k: usize) -> StateAnswer

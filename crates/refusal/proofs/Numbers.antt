@@ -22,3 +22,4 @@ no-answer Refusal.Tariff = refl
 no-answer Refusal.Seconds = refl
 no-answer Refusal.Prices = refl
 no-answer Refusal.Traces = refl
+no-answer Refusal.Owner = refl

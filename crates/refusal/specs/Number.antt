@@ -25,6 +25,7 @@ numberOf Refusal.Tariff = 15
 numberOf Refusal.Seconds = 16
 numberOf Refusal.Prices = 17
 numberOf Refusal.Traces = 18
+numberOf Refusal.Owner = 19
 
 -- what `no-answer` says: no refusal has the number of an answer
 abbrev pub NoAnswer : Type 0

@@ -39,6 +39,8 @@ pub enum Refusal {
     Prices,
     // a trace that is not one, or room for fewer lines than its rows and the other's
     Traces,
+    // `genion` of a slot that the profile was not made for
+    Owner,
 }
 
 // An answer whose value stands beside it.
@@ -70,6 +72,7 @@ pub fn number(r: Refusal) -> u32
         Refusal::Seconds => 16,
         Refusal::Prices => 17,
         Refusal::Traces => 18,
+        Refusal::Owner => 19,
     }
 }
 

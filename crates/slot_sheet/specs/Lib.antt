@@ -1,2 +1,3 @@
--- The slot sheet.
+-- The slot sheet, and whose profile it makes.
 pub mod Sheet
+pub mod Owned

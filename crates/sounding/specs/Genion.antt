@@ -1,5 +1,5 @@
--- `genion`: the ionogram of slot k, off the density profile that `lecden` made for the same slot. The paper's refusal: 6 for a slot above 2.
-use mathlib.Core.Bool.{Bool, true, false}
+-- `genion`: the ionogram of slot k, off the density profile that `lecden` made for the same slot, or a supplied one. The refusals: 6 for a slot above 2, then 19 for a profile that is another slot's or nobody's. A slot sheet takes its rows by `genionWith`, which refuses nothing.
+use mathlib.Core.Bool.{Bool, true, false, cond}
 use mathlib.Core.List.{List, [], _∷_, _++_}
 use Prim.Native.Nat.{ℕ, zero, suc, _+_, _*_}
 use lib.Dec.{leb}
@@ -8,6 +8,7 @@ use lib.Ieee.{Float}
 use Rattle.scalar.specs.F32.{_+f_, _-f_, _*f_, _>f_, at}
 use Rattle.scalar.specs.Literals.{f0, f2, f70, f84·51, f87·4, f88·52, f93, f94, f94·26, f95·71, f97·68, f98·68, f100·2, f100·27, f102·65, f104·22, f107·15, f107·19, f113·74, f125·25, f140·03}
 use Rattle.layers.specs.State.{profileOnly}
+use Rattle.layers.specs.Owners.{ownedBy}
 use Rattle.layers.specs.declared.IonoState.{IonoState}
 use Rattle.heights.specs.Gethp.{Finder, gethpOf}
 use Rattle.heights.specs.Xlin.{xlinOf}
@@ -65,9 +66,13 @@ genionWith find s k = rowsWith find s k (fvertAt s k)
 abbrev pub genionOf : IonoState → ℕ → Ionogram
 genionOf = genionWith gethpOf
 
-abbrev pub genionAnswerBy : Bool → IonoState → ℕ → IonogramAnswer
-genionAnswerBy true s k = record { outcome = Outcome.Answered; ion = genionOf s k }
-genionAnswerBy false s k = record { outcome = Outcome.Refused Refusal.SlotNumber; ion = noRows }
+abbrev pub answeredRows : Ionogram → IonogramAnswer
+answeredRows ion = record { outcome = Outcome.Answered; ion = ion }
 
+abbrev pub refusedRows : Refusal → IonogramAnswer
+refusedRows r = record { outcome = Outcome.Refused r; ion = noRows }
+
+-- 6 for a slot above 2, then 19 for a profile that is not the slot's
 unfoldable pub genionAnswer : IonoState → ℕ → IonogramAnswer
-genionAnswer s k = genionAnswerBy (leb k 2) s k
+genionAnswer s k =
+    cond (leb k 2) (cond (ownedBy s k) (answeredRows (genionOf s k)) (refusedRows Refusal.Owner)) (refusedRows Refusal.SlotNumber)

@@ -4,8 +4,9 @@ mod rows;
 
 ghost use mathlib.Core.Path.{_≡_};
 ghost use Prim.Native.Nat.{_<_};
-ghost use Rattle.sounding.specs.Genion.{fvertAt, genionOf, genionAnswer};
+ghost use Rattle.sounding.specs.Genion.{fvertAt, genionOf, refusedRows, genionAnswer};
 use layers::IonoState;
+use layers::owners;
 use reflectrix::Ionogram;
 use reflectrix::IonogramAnswer;
 use refusal::Outcome;
@@ -30,17 +31,27 @@ pub fn genion_slot(s: IonoState, k: usize) -> Ionogram
     rows::rows(s, k, fv)
 }
 
+fn refused(r: Refusal) -> IonogramAnswer
+    ensures { λ a. ⌜ a ≡ refusedRows r ⌝ }
+{
+    IonogramAnswer {
+        outcome: Outcome::Refused(r),
+        ion: reflectrix::no_rows(),
+    }
+}
+
+// The ionogram of a slot that the profile was made for, or of any slot off a supplied profile.
 pub fn genion(s: IonoState, k: usize) -> IonogramAnswer
     ensures { λ r. ⌜ r ≡ genionAnswer s k ⌝ }
 {
     if k <= 2 {
-        return IonogramAnswer {
-            outcome: Outcome::Answered,
-            ion: genion_slot(s, k),
-        };
+        if owners::owned_by(s, k) {
+            return IonogramAnswer {
+                outcome: Outcome::Answered,
+                ion: genion_slot(s, k),
+            };
+        }
+        return refused(Refusal::Owner);
     }
-    IonogramAnswer {
-        outcome: Outcome::Refused(Refusal::SlotNumber),
-        ion: reflectrix::no_rows(),
-    }
+    refused(Refusal::SlotNumber)
 }

@@ -4,6 +4,7 @@ use lib.Ieee.{add, sub, mul, div, le, lt, ofBits, neg, round}
 use Rattle.scalar.specs.Literals.{decimal}
 use Rattle.scalar.specs.Scalar.{truncOf, minOf}
 use Rattle.scalar.specs.Root.{sqrtOf}
+use Rattle.layers.specs.Owners.{disowned}
 use Rattle.layers.specs.FromLayers.{fromLayersOf, countTaken, emptyOf, pointsSet, pointSet, rowSet}
 use Rattle.layers.specs.Ionset.{ionsetOf, assignedOf, slotsSettled, slotSettled, f1Settled, f2Settled, tooClose}
 use Rattle.deciles.specs.F2dis.{f2disOf, iccOf, timeBlockOf}
@@ -11,5 +12,5 @@ use Rattle.reflectrix.specs.Angles.{sangOf, stepOf, countOf, raisedFrom, ANG, N
 use Rattle.starred.specs.Starred.{Holds, starred, resultOf}
 
 pub starred-trials : Holds starred
-unfolding resultOf decimal add sub mul div le lt ofBits neg round truncOf minOf sqrtOf fromLayersOf countTaken emptyOf pointsSet pointSet rowSet ionsetOf assignedOf slotsSettled slotSettled f1Settled f2Settled tooClose f2disOf iccOf timeBlockOf sangOf stepOf countOf raisedFrom ANG NANGX
+unfolding resultOf decimal add sub mul div le lt ofBits neg round truncOf minOf sqrtOf fromLayersOf countTaken emptyOf pointsSet pointSet rowSet ionsetOf disowned assignedOf slotsSettled slotSettled f1Settled f2Settled tooClose f2disOf iccOf timeBlockOf sangOf stepOf countOf raisedFrom ANG NANGX
 starred-trials = (refl, (refl, (refl, (refl, (refl, (refl, (refl, (refl, (refl, (refl, (refl, (refl, (refl, (refl, (refl, (refl, tt))))))))))))))))

@@ -9,7 +9,7 @@ use oracle::random::Random;
 use oracle::report::{argument, finish, hex, Tally, Verdict};
 use oracle::routed::side;
 use oracle::words::*;
-use oracle::{ours, predict, states};
+use oracle::{ours, owner, predict, states};
 
 /// A circuit MUF, a slot sheet or a nominal MUF, with arguments of its own.
 enum Call {
@@ -136,6 +136,7 @@ fn state_after(first: &State, list: &[Call], alone: &[Done]) -> State {
         let prepares = !matches!(call, Call::Nominal(_));
         if prepares && done.answer == 0 && first[IELECT] == 0 {
             state[HTR..=RISES].copy_from_slice(&done.state[HTR..=RISES]);
+            state[OWNER] = call.own(first).map_or(owner::NOBODY, owner::of_slot);
         }
     }
     state

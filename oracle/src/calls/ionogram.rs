@@ -2,7 +2,7 @@
 
 use super::*;
 use crate::routed::side;
-use crate::{ours, predict, states};
+use crate::{ours, owner, predict, states};
 
 fn angles(r: &mut Random) -> u32 {
     match r.below(20) {
@@ -67,12 +67,19 @@ pub fn selmod(r: &mut Random) -> Call {
     })
 }
 
+/// Mostly of the slot that the profile was made for.
 pub fn genion(r: &mut Random) -> Call {
     let state = states::any(r);
-    let k = number(r);
+    let owner = state[OWNER];
+    let k = if (1..=3).contains(&owner) && !r.once_in(5) {
+        owner - 1
+    } else {
+        number(r)
+    };
     let (given, out) = (resized(r, &state), room(r, ROWS));
     let wanted = long_enough(&[(&given, STATE), (&out, ROWS)])
         .and_then(|()| predict::slot(&[k]))
+        .and_then(|()| owner::answers(&state, k))
         .map(|()| side::genion(&state, k as usize));
     let lists = vec![("state", given.clone()), ("k", vec![k])];
     answering(lists, all_floats, out, wanted, |out| {

@@ -15,11 +15,12 @@ use crate::words::*;
 pub type Case = fn(&mut Random) -> Call;
 
 /// Each comparison by its name, which is that of our function.
-pub const COMPARISONS: [(&str, Case); 19] = [
+pub const COMPARISONS: [(&str, Case); 20] = [
     ("rust_walk", heights::rust_walk),
     ("port_from_layers", slots::from_layers),
     ("port_ionset", slots::ionset),
     ("port_lecden", slots::lecden),
+    ("port_owner", slots::owner),
     ("port_gethp", heights::gethp),
     ("port_gethp_scan", heights::gethp_scan),
     ("port_bendy", heights::bendy),

@@ -1,8 +1,8 @@
-//! `from_layers`, `ionset`, `lecden`.
+//! `from_layers`, `ionset`, `lecden`, and whose profile a state has.
 
 use super::*;
 use crate::routed::side;
-use crate::{ours, predict, states};
+use crate::{ours, owner, predict, states};
 
 pub fn from_layers(r: &mut Random) -> Call {
     let mut points = states::points(r);
@@ -72,4 +72,15 @@ pub fn lecden(r: &mut Random) -> Call {
     );
     call.given.push(("k", vec![k]));
     call
+}
+
+/// Whose profile it is: the request's words, since the Rust has nothing like it.
+pub fn owner(r: &mut Random) -> Call {
+    let state = states::any(r);
+    let (given, out) = (resized(r, &state), room(r, 2));
+    let wanted = long_enough(&[(&given, STATE), (&out, 2)]).map(|()| owner::pair(&state));
+    let lists = vec![("state", given.clone())];
+    answering(lists, no_floats, out, wanted, |out| {
+        ours::port_owner(&given, out)
+    })
 }

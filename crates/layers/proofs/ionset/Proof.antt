@@ -10,7 +10,7 @@ settle-slots-requires c κs = rw (c .assign .ensures) (three-at-most _)
 
 returns : tie.Need-returns
 unfolding ionsetOf
-returns c = rw (← c .before .before .before .count-taken .ensures, c .before .before .if1 .taken, ← c .before .assign .ensures, ← c .settle-slots .ensures)
+returns c = rw (← c .before .before .before .before .count-taken .ensures, c .before .before .before .if1 .taken, ← c .before .before .assign .ensures, ← c .before .settle-slots .ensures, ← c .disown .ensures)
 
 returns-2 : tie.Need-returns-2
 unfolding ionsetOf
@@ -19,4 +19,4 @@ returns-2 c = rw (← c .before .count-taken .ensures, c .if1 .left)
 pub ionset-spec : {M : Type 1} → statement M
 ionset-spec =
     tie.close
-    (tie.spec (λ c κs. search needs) (λ c κs. search needs) settle-slots-requires returns returns-2)
+    (tie.spec (λ c κs. search needs) (λ c κs. search needs) settle-slots-requires (λ c κs. search needs) returns returns-2)

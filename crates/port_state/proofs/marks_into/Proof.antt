@@ -14,6 +14,9 @@ use Rattle.port_state.proofs.marks_into.Tie as tie
 slice-write-w-2 : tie.Need-slice-write-w-2
 slice-write-w-2 c = rw length-set (omega arith)
 
+slice-write-w-3 : tie.Need-slice-write-w-3
+slice-write-w-3 c = rw (length-set, length-set) (omega arith)
+
 returns : tie.Need-returns
 unfolding marksInto
 returns c =
@@ -26,4 +29,4 @@ pub marks-into-spec : {M : Type 1} → statement M
 marks-into-spec =
     tie.close
     (tie.spec (λ c κs. search needs) (λ c. search needs) (λ c κs. search needs) slice-write-w-2
-    (λ c κs. search needs) (λ c. search needs) (λ c. search needs) returns)
+    (λ c κs. search needs) slice-write-w-3 (λ c. search needs) returns)

@@ -10,11 +10,11 @@ returns c = rw (← c .before .supplied .ensures, c .if1 .taken)
 
 returns-2 : tie.Need-returns-2
 unfolding lecdenOf
-returns-2 c = rw (← c .before .before .before .before .before .before .before .before .before .before .before .before .supplied .ensures, c .before .before .before .before .before .before .before .before .before .before .before .if1 .left, ← c .before .before .before .before .before .before .before .before .before .before .slot-at .ensures, ← c .before .before .before .before .before .before .before .before .before .valley .ensures, ← c .before .before .before .before .before .before .before .before .reshape .ensures, ← c .before .before .before .before .before .before .before .reshaped .ensures, ← c .before .before .before .before .before .before .tail-of .ensures, ← c .before .before .before .before .before .heights .ensures, ← c .before .before .before .before .curves-of .ensures, ← c .before .before .before .densities .ensures, ← c .before .rises-throughout .ensures, ← c .write-slot .ensures)
+returns-2 c = rw (← c .before .before .before .before .before .before .before .before .before .before .before .before .before .supplied .ensures, c .before .before .before .before .before .before .before .before .before .before .before .before .if1 .left, ← c .before .before .before .before .before .before .before .before .before .before .before .slot-at .ensures, ← c .before .before .before .before .before .before .before .before .before .before .valley .ensures, ← c .before .before .before .before .before .before .before .before .before .reshape .ensures, ← c .before .before .before .before .before .before .before .before .reshaped .ensures, ← c .before .before .before .before .before .before .before .tail-of .ensures, ← c .before .before .before .before .before .before .heights .ensures, ← c .before .before .before .before .before .curves-of .ensures, ← c .before .before .before .before .densities .ensures, ← c .before .before .rises-throughout .ensures, ← c .before .write-slot .ensures, ← c .with-owner .ensures)
 
 pub lecden-slot-spec : {M : Type 1} → statement M
 lecden-slot-spec =
     tie.close
     (tie.spec (λ c κs. search needs) returns (λ c κs. search needs) (λ c κs. search needs) (λ c κs. search needs)
     (λ c κs. search needs) (λ c κs. search needs) (λ c κs. search needs) (λ c κs. search needs)
-    (λ c κs. search needs) (λ c κs. search needs) (λ c κs. search needs) returns-2)
+    (λ c κs. search needs) (λ c κs. search needs) (λ c κs. search needs) (λ c κs. search needs) returns-2)

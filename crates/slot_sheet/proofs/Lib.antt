@@ -1,0 +1,2 @@
+-- Whose profile a slot sheet makes.
+pub mod Owned
