@@ -133,7 +133,8 @@ pub fn curmuf(state: &State, call: &Hour) -> Result<(), u32> {
 }
 
 /// The cursor that the walk hands up: how many of the upper 49 heights are at
-/// or below the height of the last read; 0 where no walk ran.
+/// or below the height of the last read; 0 where no walk ran, as where the
+/// exact rule did.
 pub fn cursor(state: &State, fxx: f32) -> u32 {
     let (htr, fnsq) = (heights(state), densities(state));
     let fr = fxx * fxx;
@@ -141,6 +142,9 @@ pub fn cursor(state: &State, fxx: f32) -> u32 {
         return 0;
     }
     let ht = reach::profile_interpolate(&fnsq, &htr, fr) - htr[0];
+    if state[EXACT] != 0 && ht > 0.0 {
+        return 0;
+    }
     // The last node read, on the side that is higher up.
     let node = reach::NODES[19];
     let part = if ht >= 0.0 { 1.0 - node } else { 1.0 + node };

@@ -18,7 +18,7 @@ fn table(words: &[u32]) -> [[f32; 3]; 5] {
 /// The state that the words stand for.
 pub fn state_of(w: &[u32]) -> IonoState {
     let profile = |at: usize| std::array::from_fn(|i| f32::from_bits(w[at + i]));
-    IonoState {
+    let mut s = IonoState {
         fi: table(&w[FI..]),
         yi: table(&w[YI..]),
         hi: table(&w[HI..]),
@@ -31,7 +31,9 @@ pub fn state_of(w: &[u32]) -> IonoState {
         fsecv: std::array::from_fn(|k| f32::from_bits(w[FSECV + k])),
         iedp: w[IEDP] as i32,
         ielect: w[IELECT] != 0,
-    }
+    };
+    s.numerics.exact_virtual_height = w[EXACT] != 0;
+    s
 }
 
 /// The state, its mark set to what the rising test says: the Rust reads the
@@ -75,6 +77,7 @@ fn state_words(s: &IonoState, owner: u32) -> State {
     w[IEDP] = s.iedp as u32;
     w[IELECT] = u32::from(s.ielect);
     w[OWNER] = owner;
+    w[EXACT] = u32::from(s.numerics.exact_virtual_height);
     w
 }
 

@@ -116,8 +116,24 @@ fn zero_height(r: &mut Random, state: &mut State) {
     state[HTR..HTR + 50].copy_from_slice(&bits(&h));
 }
 
-/// A state of any class.
+/// A state of any class, the switch of the exact height rule on or off.
 pub fn any(r: &mut Random) -> State {
+    let state = of_any_class(r);
+    let on = r.once_in(2);
+    switched(r, state, on)
+}
+
+/// The state with the switch of the exact height rule so: any word but 0 is on.
+pub fn switched(r: &mut Random, mut state: State, on: bool) -> State {
+    state[EXACT] = if on {
+        r.pick(&[1, 1, 1, 7, u32::MAX])
+    } else {
+        0
+    };
+    state
+}
+
+fn of_any_class(r: &mut Random) -> State {
     let mut state = match r.below(10) {
         0 => wild(r),
         1 | 2 => slots(r),

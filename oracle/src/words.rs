@@ -3,8 +3,8 @@
 use crate::float;
 
 /// A state: fi, yi, hi (15 each, point-major), km, kfx, htr 50, fnsq 50,
-/// rises, fsecv 3, iedp, ielect, owner.
-pub const STATE: usize = 154;
+/// rises, fsecv 3, iedp, ielect, owner, the switch of the exact height rule.
+pub const STATE: usize = 155;
 pub const FI: usize = 0;
 pub const YI: usize = 15;
 pub const HI: usize = 30;
@@ -17,6 +17,7 @@ pub const FSECV: usize = 148;
 pub const IEDP: usize = 151;
 pub const IELECT: usize = 152;
 pub const OWNER: usize = 153;
+pub const EXACT: usize = 154;
 
 /// A point: fi, yi, hi.
 pub const POINT: usize = 9;
@@ -69,7 +70,7 @@ pub struct Nominal {
 pub type Floats = fn(usize) -> bool;
 
 pub fn state_floats(i: usize) -> bool {
-    !matches!(i, KM | KFX | RISES | IEDP | IELECT | OWNER)
+    !matches!(i, KM | KFX | RISES | IEDP | IELECT | OWNER | EXACT)
 }
 
 pub fn layer_floats(i: usize) -> bool {

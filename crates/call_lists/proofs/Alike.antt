@@ -40,6 +40,7 @@ pub record Alike (u v : IonoState) (k : ℕ) : Type 0 where
   pub mark-same : u .«htr_rises» ≡ v .«htr_rises»
   pub iedp-same : u .iedp ≡ v .iedp
   pub owner-same : u .owner ≡ v .owner
+  pub exact-same : u .«exact_virtual_height» ≡ v .«exact_virtual_height»
 
 -- ---- the slot's numbers one by one
 
@@ -73,9 +74,9 @@ fsec-same u v k e = ap (λ (p : Slot). p .fsec) e
 
 -- ---- heights
 
-pub gethp-same : (u v : IonoState) → u .htr ≡ v .htr → u .fnsq ≡ v .fnsq → (f : Float) → gethpOf u f ≡ gethpOf v f
+pub gethp-same : (u v : IonoState) → u .htr ≡ v .htr → u .fnsq ≡ v .fnsq → u .«exact_virtual_height» ≡ v .«exact_virtual_height» → (f : Float) → gethpOf u f ≡ gethpOf v f
 unfolding gethpOf
-gethp-same u v eh en f = rw (eh, en)
+gethp-same u v eh en ex f = rw (eh, en, ex)
 
 bendy-same : (u v : IonoState) (k : ℕ) → Alike u v k → (f : Float) → bendyOf u 2 k f ≡ bendyOf v 2 k f
 unfolding bendyOf

@@ -186,6 +186,7 @@ any-list s calls allowed =
       kfx-left = c .kfx-common;
       iedp-left = c .iedp-common;
       ielect-left = c .ielect-common;
+      exact-left = c .exact-common;
       answers-walked = λ n. answers-with gethpWalkOf Numbers after-numbers by-walks calls s n;
       state-walked = λ n. run-with gethpWalkOf Numbers after-numbers by-walks calls s n;
       answers-scanned = answers-with gethpScanOf (λ t. Unit {0}) (λ t c u. tt) by-scans calls s tt;

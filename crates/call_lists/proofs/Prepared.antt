@@ -24,6 +24,7 @@ pub record Common (s t : IonoState) : Type 0 where
   pub kfx-common : t .kfx ≡ s .kfx
   pub iedp-common : t .iedp ≡ s .iedp
   pub ielect-common : t .ielect ≡ s .ielect
+  pub exact-common : t .«exact_virtual_height» ≡ s .«exact_virtual_height»
   pub yi-long : length (t .yi) ≡ length (s .yi)
   pub hi-long : length (t .hi) ≡ length (s .hi)
   pub fsecv-long : length (t .fsecv) ≡ length (s .fsecv)
@@ -39,6 +40,7 @@ common-self s =
       kfx-common = refl;
       iedp-common = refl;
       ielect-common = refl;
+      exact-common = refl;
       yi-long = refl;
       hi-long = refl;
       fsecv-long = refl;
@@ -48,7 +50,7 @@ common-self s =
     }
 
 pub alike-self : (s : IonoState) (k : ℕ) → Alike s s k
-alike-self s k = record { fi-same = refl; slot-same = refl; htr-same = refl; fnsq-same = refl; mark-same = refl; iedp-same = refl; owner-same = refl }
+alike-self s k = record { fi-same = refl; slot-same = refl; htr-same = refl; fnsq-same = refl; mark-same = refl; iedp-same = refl; owner-same = refl; exact-same = refl }
 
 -- ---- a slot written
 
@@ -86,6 +88,7 @@ prepared-alike s t k p c e =
       mark-same = refl;
       iedp-same = c .iedp-common;
       owner-same = refl;
+      exact-same = c .exact-common;
     }
 
 alike-by : (b : Bool) (s t : IonoState) (k : ℕ) → s .ielect ≡ b → Common s t → slotAt t k ≡ slotAt s k → Alike (lecdenOf t k) (lecdenOf s k) k
@@ -131,6 +134,7 @@ lecden-common s t j h c =
       kfx-common = p .kfx-kept ∙ c .kfx-common;
       iedp-common = p .iedp-kept ∙ c .iedp-common;
       ielect-common = p .ielect-kept ∙ c .ielect-common;
+      exact-common = p .exact-kept ∙ c .exact-common;
       yi-long = p .yi-kept .long ∙ c .yi-long;
       hi-long = p .hi-kept .long ∙ c .hi-long;
       fsecv-long = p .fsecv-kept .long ∙ c .fsecv-long;

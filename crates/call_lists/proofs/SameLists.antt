@@ -64,6 +64,7 @@ state-self u =
       fsecv-same = all-self (u .fsecv);
       iedp-same = refl;
       ielect-same = refl;
+      exact-same = refl;
     }
 
 -- ---- what is equal is the same

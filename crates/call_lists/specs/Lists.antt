@@ -1,4 +1,4 @@
--- The theorem on lists of calls, as one claim about a whole list of any length.
+-- The theorem on lists of calls, as one claim about a whole list of any length. Nothing is asked of the state's switch of the exact height rule: all of it holds for both settings.
 -- The first call gets the state s that `ionset` answered, each later one the state that the one before returned. "Alone" is on s, with the same arguments and cells.
 use mathlib.Core.Bool.{Bool, true, false}
 use mathlib.Core.List.{List, [], _∷_, map}
@@ -152,12 +152,13 @@ pub record ListOfCalls (s : IonoState) (calls : List Call) : Type 0 where
   pub kfx-left : runOf s calls .kfx ≡ s .kfx
   pub iedp-left : runOf s calls .iedp ≡ s .iedp
   pub ielect-left : runOf s calls .ielect ≡ s .ielect
-  -- (v) read by walks, as the code does, every answer (rows, cells, hours, Es rows) and the state left are these; and they are the same with forty full scans in place of each walk
+  pub exact-left : runOf s calls .«exact_virtual_height» ≡ s .«exact_virtual_height»
+  -- (v) read by walks, as the code does where it reads, every answer (rows, cells, hours, Es rows) and the state left are these; and they are the same with forty full scans in place of each walk
   pub answers-walked : Numbers s → answersWalkOf s calls ≡ answersOf s calls
   pub state-walked : Numbers s → runWalkOf s calls ≡ runOf s calls
   pub answers-scanned : answersScanOf s calls ≡ answersOf s calls
   pub state-scanned : runScanOf s calls ≡ runOf s calls
-  -- (vi) on each profile that is read the forty reads are the scans', in rising order, with the cursor as counted and moved 49 places at most
+  -- (vi) on each profile that is read the forty reads, where the exact rule does not stand for them, are the scans', in rising order, with the cursor as counted and moved 49 places at most
   pub reads-well : Numbers s → Every ReadsWell (readOf s calls)
 
 -- for what `ionset` answers of any state with 1 to 5 points, and its numbers are f32 where those of that state are

@@ -85,6 +85,7 @@ pub record SameState (u v : IonoState) : Type 0 where
   pub fsecv-same : SameAll (u .fsecv) (v .fsecv)
   pub iedp-same : u .iedp ≡ v .iedp
   pub ielect-same : u .ielect ≡ v .ielect
+  pub exact-same : u .«exact_virtual_height» ≡ v .«exact_virtual_height»
 
 -- ---- the claim, part by part as `ListOfCalls` has it
 

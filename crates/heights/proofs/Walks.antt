@@ -10,7 +10,7 @@ use native.Mathlib.Omega.{arith}
 use lib.Dec.{T, eqb, ltb, eqb→eq, ltb→lt}
 use lib.Ieee.{Float, binary32, fits}
 use lib.Ieee.Fits.{and-l, and-r, sub-fits}
-use Rattle.scalar.specs.F32.{_+f_, _-f_, _*f_, _<f_, _≤f_, _≥f_, at}
+use Rattle.scalar.specs.F32.{_+f_, _-f_, _*f_, _<f_, _≤f_, _>f_, _≥f_, at}
 use Rattle.scalar.specs.Literals.{f0}
 use Rattle.layers.specs.declared.IonoState.{IonoState}
 use Rattle.profile.specs.Rising.{risesFrom, risesOf}
@@ -21,7 +21,7 @@ use Rattle.readings.specs.declared.Read.{Read}
 use Rattle.walk.specs.Walk.{Held, Rising, cursorBefore, scannedRead, movesOf}
 use Rattle.walk.proofs.Walks.{reads-are-scans, cursor-after, moves-bound}
 use Rattle.heights.specs.Nodes.{xnpl, twdiv, wt, heightOf, heightAt, igAt, ibAt}
-use Rattle.heights.specs.Gethp.{cutOf, ysqOf, mupOf, hpOf, gethpBy, cursorBy, gethpOf, gethpScanOf}
+use Rattle.heights.specs.Gethp.{cutOf, ysqOf, mupOf, hpOf, heightsBy, gethpBy, cursorBy, gethpOf, gethpScanOf}
 use Rattle.heights.specs.Walk.{readAt, cursorAfter, turnOf, ysqWalkOf, gethpReadOf}
 use Rattle.heights.specs.declared.Heights.{Heights}
 use Rattle.heights.proofs.Rise.{all, all-at, height-fits, reads-orderly}
@@ -113,13 +113,15 @@ same-sum f g (suc n) e =
 made : List Float → Float → Float → ℕ → Heights
 made htr ht hp cursor = record { hp = at htr 0 +f ht *f twdiv *f xnpl *f hp; ht = at htr 0 +f ht; cursor = cursor }
 
-by-test : (b : Bool) (htr fnsq : List Float) (fr : Float) (ysq ysq' : Float → ℕ → ℕ → Float) (cur cur' : Float → ℕ) → let ht = profileInterpolateOf fnsq htr fr -f at htr 0 in hpOf (ysq ht) 20 ≡ hpOf (ysq' ht) 20 → cur ht ≡ cur' ht → gethpBy b htr fnsq fr ysq cur ≡ gethpBy b htr fnsq fr ysq' cur'
-by-test true htr fnsq fr ysq ysq' cur cur' e f = refl
-by-test false htr fnsq fr ysq ysq' cur cur' e f =
-    let ht = profileInterpolateOf fnsq htr fr -f at htr 0 in
-    unfold made in ap (λ (h : Float). made htr ht h (cur ht)) e ∙ ap (λ (c : ℕ). made htr ht (hpOf (ysq' ht) 20) c) f
+by-rule : (r : Bool) (htr fnsq : List Float) (fr ht : Float) (ysq ysq' : ℕ → ℕ → Float) (cur cur' : ℕ) → hpOf ysq 20 ≡ hpOf ysq' 20 → cur ≡ cur' → heightsBy r htr fnsq fr ht ysq cur ≡ heightsBy r htr fnsq fr ht ysq' cur'
+by-rule true htr fnsq fr ht ysq ysq' cur cur' e f = refl
+by-rule false htr fnsq fr ht ysq ysq' cur cur' e f = unfold made in ap (λ (h : Float). made htr ht h cur) e ∙ ap (λ (c : ℕ). made htr ht (hpOf ysq' 20) c) f
 
-by-walk : (s : IonoState) (fxx : Float) → Held (s .htr) → true ≡ risesOf (s .htr) → gethpReadOf true (s .htr) (s .fnsq) fxx ≡ gethpOf s fxx
+by-test : (b exact : Bool) (htr fnsq : List Float) (fr : Float) (ysq ysq' : Float → ℕ → ℕ → Float) (cur cur' : Float → ℕ) → let ht = profileInterpolateOf fnsq htr fr -f at htr 0 in hpOf (ysq ht) 20 ≡ hpOf (ysq' ht) 20 → cur ht ≡ cur' ht → gethpBy b exact htr fnsq fr ysq cur ≡ gethpBy b exact htr fnsq fr ysq' cur'
+by-test true exact htr fnsq fr ysq ysq' cur cur' e f = refl
+by-test false exact htr fnsq fr ysq ysq' cur cur' e f = let ht = profileInterpolateOf fnsq htr fr -f at htr 0 in by-rule (exact && (ht >f f0)) htr fnsq fr ht (ysq ht) (ysq' ht) (cur ht) (cur' ht) e f
+
+by-walk : (s : IonoState) (fxx : Float) → Held (s .htr) → true ≡ risesOf (s .htr) → gethpReadOf (s .«exact_virtual_height») true (s .htr) (s .fnsq) fxx ≡ gethpOf s fxx
 unfolding gethpReadOf gethpOf cursorBy
 by-walk s fxx held e =
     let htr = s .htr in
@@ -130,24 +132,24 @@ by-walk s fxx held e =
     let ht = top -f h0 in
     let rises = subst (λ (b : Bool). T b) e tt in
     let fine = sub-fits binary32 top h0 in
-    by-test (fr -f at fnsq 0 ≤f f0) htr fnsq fr (λ ht. ysqWalkOf htr fnsq ht fr) (λ ht. ysqOf htr fnsq ht fr) (λ ht. cursorAfter htr fnsq ht 40) (λ ht. cursorBy (risesOf htr) htr ht)
+    by-test (fr -f at fnsq 0 ≤f f0) (s .«exact_virtual_height») htr fnsq fr (λ ht. ysqWalkOf htr fnsq ht fr) (λ ht. ysqOf htr fnsq ht fr) (λ ht. cursorAfter htr fnsq ht 40) (λ ht. cursorBy (risesOf htr) htr ht)
     (same-sum (ysqWalkOf htr fnsq ht fr) (ysqOf htr fnsq ht fr) 20 (node-density htr fnsq ht fr held rises fine))
     (cursor-counts htr fnsq ht held rises fine 39 (omega arith) ∙ ap (λ (b : Bool). cursorBy b htr ht) e)
 
-by-scans : (s : IonoState) (fxx : Float) → false ≡ risesOf (s .htr) → gethpReadOf false (s .htr) (s .fnsq) fxx ≡ gethpOf s fxx
+by-scans : (s : IonoState) (fxx : Float) → false ≡ risesOf (s .htr) → gethpReadOf (s .«exact_virtual_height») false (s .htr) (s .fnsq) fxx ≡ gethpOf s fxx
 unfolding gethpReadOf gethpOf cursorBy
 by-scans s fxx e =
     let htr = s .htr in
     let fnsq = s .fnsq in
     let fr = fxx *f fxx in
-    by-test (fr -f at fnsq 0 ≤f f0) htr fnsq fr (λ ht. ysqOf htr fnsq ht fr) (λ ht. ysqOf htr fnsq ht fr) (λ ht. 0) (λ ht. cursorBy (risesOf htr) htr ht) refl
+    by-test (fr -f at fnsq 0 ≤f f0) (s .«exact_virtual_height») htr fnsq fr (λ ht. ysqOf htr fnsq ht fr) (λ ht. ysqOf htr fnsq ht fr) (λ ht. 0) (λ ht. cursorBy (risesOf htr) htr ht) refl
     (ap (λ (b : Bool). cursorBy b htr (profileInterpolateOf fnsq htr fr -f at htr 0)) e)
 
 -- read by a walk where the heights rise and by scans where they do not
-pub gethp-read-so : (rises : Bool) (s : IonoState) (fxx : Float) → Held (s .htr) → rises ≡ risesOf (s .htr) → gethpReadOf rises (s .htr) (s .fnsq) fxx ≡ gethpOf s fxx
+pub gethp-read-so : (rises : Bool) (s : IonoState) (fxx : Float) → Held (s .htr) → rises ≡ risesOf (s .htr) → gethpReadOf (s .«exact_virtual_height») rises (s .htr) (s .fnsq) fxx ≡ gethpOf s fxx
 gethp-read-so true s fxx held e = by-walk s fxx held e
 gethp-read-so false s fxx held e = by-scans s fxx e
 
-pub gethp-scan-so : (s : IonoState) (fxx : Float) → gethpReadOf false (s .htr) (s .fnsq) fxx ≡ gethpScanOf s fxx
+pub gethp-scan-so : (s : IonoState) (fxx : Float) → gethpReadOf (s .«exact_virtual_height») false (s .htr) (s .fnsq) fxx ≡ gethpScanOf s fxx
 unfolding gethpReadOf gethpScanOf
 gethp-scan-so s fxx = refl

@@ -1,4 +1,4 @@
--- The forty reads as the code makes them: one walk where the heights rise, else forty scans. That `gethp` so read is `gethpOf` is a theorem.
+-- The forty reads as the code makes them, where it does: one walk where the heights rise, else forty scans. That `gethp` so read is `gethpOf` is a theorem.
 use mathlib.Core.Bool.{Bool, true, false}
 use mathlib.Core.List.{List}
 use Prim.Native.Nat.{ℕ, zero, suc, _+_, _-_, _*_, _/_, _%_}
@@ -44,14 +44,14 @@ abbrev pub cursorReadBy : Bool → List Float → List Float → Float → ℕ
 cursorReadBy true htr fnsq ht = cursorAfter htr fnsq ht 40
 cursorReadBy false htr fnsq ht = 0
 
-unfoldable pub gethpReadOf : Bool → List Float → List Float → Float → Heights
-gethpReadOf rises htr fnsq fxx =
+unfoldable pub gethpReadOf : Bool → Bool → List Float → List Float → Float → Heights
+gethpReadOf exact rises htr fnsq fxx =
     let fr = fxx *f fxx in
-    gethpBy (fr -f at fnsq 0 ≤f f0) htr fnsq fr (λ ht. ysqReadBy rises htr fnsq ht fr) (λ ht. cursorReadBy rises htr fnsq ht)
+    gethpBy (fr -f at fnsq 0 ≤f f0) exact htr fnsq fr (λ ht. ysqReadBy rises htr fnsq ht fr) (λ ht. cursorReadBy rises htr fnsq ht)
 
--- the code's way of finding heights: one walk where the heights pass the rising test, and forty scans where they do not
+-- the code's way of finding heights: the exact rule where it is used; else one walk where the heights pass the rising test, and forty scans where they do not
 unfoldable pub gethpWalkOf : Finder
-gethpWalkOf s fxx = gethpReadOf (risesOf (s .htr)) (s .htr) (s .fnsq) fxx
+gethpWalkOf s fxx = gethpReadOf (s .«exact_virtual_height») (risesOf (s .htr)) (s .htr) (s .fnsq) fxx
 
 -- ---- the densities in a flat table, ysq[ig][ib] at 2 * ig + ib: after n reads, each put at its place
 unfoldable pub placed : (ℕ → ℕ) → (ℕ → Float) → ℕ → List Float

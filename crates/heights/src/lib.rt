@@ -1,14 +1,18 @@
-// Heights of a vertical frequency: off the profile by a Gauss rule (`gethp`) or by interpolation
-// (`xlin`); and what bending and delay in a parabolic layer come to (`bendy`, `pen`).
+// Heights of a vertical frequency: off the profile by a Gauss rule, or the exact one, (`gethp`) or by
+// interpolation (`xlin`); and what bending and delay in a parabolic layer come to (`bendy`, `pen`).
+ghost use mathlib.Core.Bool.{false, _&&_};
 ghost use mathlib.Core.Path.{_≡_};
 ghost use Prim.Native.Nat.{_<_};
 ghost use lib.Dec.{eqb};
 ghost use denote.Ref.{now};
+ghost use Rattle.scalar.specs.F32.{_>f_};
+ghost use Rattle.scalar.specs.Literals.{f0};
 ghost use Rattle.heights.specs.Nodes.{xt, wt, zgBy, heightOf, igAt, ibAt};
-ghost use Rattle.heights.specs.Gethp.{cutOf, mupOf, hpOf, gethpOf, gethpScanOf};
+ghost use Rattle.heights.specs.Gethp.{cutOf, mupOf, hpOf, heightsBy, gethpOf, gethpScanOf};
 ghost use Rattle.heights.specs.Bendy.{bendyOf, penOf, bendyAnswer, penAnswer};
 ghost use Rattle.heights.specs.Xlin.{xlinOf};
-ghost use Rattle.heights.specs.Walk.{flat, walkTable, scanTable, tableBy, cursorAfter, cursorReadBy, gethpReadOf};
+ghost use Rattle.heights.specs.Walk.{flat, walkTable, scanTable, tableBy, cursorAfter, ysqReadBy, cursorReadBy, gethpReadOf};
+use height_integral::virtual_height_exact;
 use layers::IonoState;
 use profile::rises_throughout;
 use readings::Reading;
@@ -227,21 +231,11 @@ fn quadrature(ysq: &[f32; 40], wts: &[f32; 20]) -> f32
     hp
 }
 
-// `gethp` with the densities read by a walk, or by scans.
-fn gethp_read(htr: &[f32; 50], fnsq: &[f32; 50], rises: bool, fxx: f32) -> Heights
-    ensures { λ r. ⌜ r ≡ gethpReadOf rises (now (htr .entry)) (now (fnsq .entry)) fxx ⌝ }
+// By the sum over forty densities, read by a walk or by scans. `ht` is the reflecting height less the lowest one.
+fn by_densities(htr: &[f32; 50], fnsq: &[f32; 50], rises: bool, ht: f32, fr: f32) -> Heights
+    ensures { λ r. ⌜ r ≡ heightsBy false (now (htr .entry)) (now (fnsq .entry)) fr ht (ysqReadBy rises (now (htr .entry)) (now (fnsq .entry)) ht fr) (cursorReadBy rises (now (htr .entry)) (now (fnsq .entry)) ht) ⌝ }
 {
-    let fr = fxx * fxx;
     let h0 = htr[0];
-    if fr - fnsq[0] <= 0.0 {
-        return Heights {
-            hp: h0,
-            ht: h0,
-            cursor: 0,
-        };
-    }
-    let top = profile_interpolate(fnsq, htr, fr);
-    let ht = top - h0;
     let hrmz = ht * 0.5 * 1.0;
     let d = gethp_densities(htr, fnsq, rises, ht, fr);
     let cursor = d.cursor;
@@ -255,13 +249,50 @@ fn gethp_read(htr: &[f32; 50], fnsq: &[f32; 50], rises: bool, fxx: f32) -> Heigh
     }
 }
 
-// The heights of the vertical frequency `fxx`, the densities read by a walk or by scans: `gethp` where `rises` is what the rising test says of the state's heights, for a caller that asks for many frequencies on one profile.
+// Whether the exact rule is used: it is asked for, and the reflecting height is above the lowest one.
+fn rule_used(exact: bool, ht: f32) -> bool
+    ensures { λ r. ⌜ r ≡ (exact && (ht >f f0)) ⌝ }
+{
+    if exact {
+        return ht > 0.0;
+    }
+    false
+}
+
+// `gethp` with the exact rule where it is asked for and can be used, else with the densities read by a walk, or by scans.
+fn gethp_read(htr: &[f32; 50], fnsq: &[f32; 50], exact: bool, rises: bool, fxx: f32) -> Heights
+    ensures { λ r. ⌜ r ≡ gethpReadOf exact rises (now (htr .entry)) (now (fnsq .entry)) fxx ⌝ }
+{
+    let fr = fxx * fxx;
+    let h0 = htr[0];
+    if fr - fnsq[0] <= 0.0 {
+        return Heights {
+            hp: h0,
+            ht: h0,
+            cursor: 0,
+        };
+    }
+    let top = profile_interpolate(fnsq, htr, fr);
+    let ht = top - h0;
+    if rule_used(exact, ht) {
+        let rise = virtual_height_exact(htr, fnsq, fr, top);
+        return Heights {
+            hp: h0 + rise,
+            ht: h0 + ht,
+            // no walk
+            cursor: 0,
+        };
+    }
+    by_densities(htr, fnsq, rises, ht, fr)
+}
+
+// The heights of the vertical frequency `fxx`, densities read by a walk or by scans: `gethp` where `rises` is what the rising test says of the state's heights, for a caller that asks for many frequencies on one profile.
 pub fn gethp_rising(s: IonoState, rises: bool, fxx: f32) -> Heights
-    ensures { λ r. ⌜ r ≡ gethpReadOf rises (s .htr) (s .fnsq) fxx ⌝ }
+    ensures { λ r. ⌜ r ≡ gethpReadOf (s .«exact_virtual_height») rises (s .htr) (s .fnsq) fxx ⌝ }
 {
     let htr = s.htr;
     let fnsq = s.fnsq;
-    gethp_read(&htr, &fnsq, rises, fxx)
+    gethp_read(&htr, &fnsq, s.exact_virtual_height, rises, fxx)
 }
 
 // The virtual and the true height of the vertical frequency `fxx`. The heights are tested here: the state's rising mark is not read.
@@ -273,13 +304,13 @@ pub fn gethp(s: IonoState, fxx: f32) -> Heights
     gethp_rising(s, rises, fxx)
 }
 
-// The same by forty scans on every profile.
+// The same by forty scans on every profile where densities are read.
 pub fn gethp_scan(s: IonoState, fxx: f32) -> Heights
     ensures { λ r. ⌜ r ≡ gethpScanOf s fxx ⌝ }
 {
     let htr = s.htr;
     let fnsq = s.fnsq;
-    gethp_read(&htr, &fnsq, false, fxx)
+    gethp_read(&htr, &fnsq, s.exact_virtual_height, false, fxx)
 }
 
 // The number of `yn` that goes with `x`, on the line between the neighbours of `x` in `xn`; the

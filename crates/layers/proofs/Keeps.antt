@@ -17,19 +17,19 @@ use Rattle.layers.specs.declared.IonoState.{IonoState}
 
 same : (s : IonoState) → IonsetKept s s
 same s =
-    record { fi-long = refl; yi-long = refl; hi-long = refl; km-kept = refl; htr-kept = refl; fnsq-kept = refl; mark-kept = refl; fsecv-kept = refl; iedp-kept = refl; ielect-kept = refl; owner-kept = λ e. refl }
+    record { fi-long = refl; yi-long = refl; hi-long = refl; km-kept = refl; htr-kept = refl; fnsq-kept = refl; mark-kept = refl; fsecv-kept = refl; iedp-kept = refl; ielect-kept = refl; owner-kept = λ e. refl; exact-kept = refl }
 
 then : {s t r : IonoState} → IonsetKept s t → IonsetKept t r → IonsetKept s r
 then a b =
-    record { fi-long = b .fi-long ∙ a .fi-long; yi-long = b .yi-long ∙ a .yi-long; hi-long = b .hi-long ∙ a .hi-long; km-kept = b .km-kept ∙ a .km-kept; htr-kept = b .htr-kept ∙ a .htr-kept; fnsq-kept = b .fnsq-kept ∙ a .fnsq-kept; mark-kept = b .mark-kept ∙ a .mark-kept; fsecv-kept = b .fsecv-kept ∙ a .fsecv-kept; iedp-kept = b .iedp-kept ∙ a .iedp-kept; ielect-kept = b .ielect-kept ∙ a .ielect-kept; owner-kept = λ e. b .owner-kept (a .ielect-kept ∙ e) ∙ a .owner-kept e }
+    record { fi-long = b .fi-long ∙ a .fi-long; yi-long = b .yi-long ∙ a .yi-long; hi-long = b .hi-long ∙ a .hi-long; km-kept = b .km-kept ∙ a .km-kept; htr-kept = b .htr-kept ∙ a .htr-kept; fnsq-kept = b .fnsq-kept ∙ a .fnsq-kept; mark-kept = b .mark-kept ∙ a .mark-kept; fsecv-kept = b .fsecv-kept ∙ a .fsecv-kept; iedp-kept = b .iedp-kept ∙ a .iedp-kept; ielect-kept = b .ielect-kept ∙ a .ielect-kept; owner-kept = λ e. b .owner-kept (a .ielect-kept ∙ e) ∙ a .owner-kept e; exact-kept = b .exact-kept ∙ a .exact-kept }
 
 counted : (s : IonoState) (n : ℕ) → IonsetKept s (withKfx s n)
 counted s n =
-    record { fi-long = refl; yi-long = refl; hi-long = refl; km-kept = refl; htr-kept = refl; fnsq-kept = refl; mark-kept = refl; fsecv-kept = refl; iedp-kept = refl; ielect-kept = refl; owner-kept = λ e. refl }
+    record { fi-long = refl; yi-long = refl; hi-long = refl; km-kept = refl; htr-kept = refl; fnsq-kept = refl; mark-kept = refl; fsecv-kept = refl; iedp-kept = refl; ielect-kept = refl; owner-kept = λ e. refl; exact-kept = refl }
 
 tabled : (s : IonoState) (fi yi hi : List Float) → length fi ≡ length (s .fi) → length yi ≡ length (s .yi) → length hi ≡ length (s .hi) → IonsetKept s (withTables s fi yi hi)
 tabled s fi yi hi f y h =
-    record { fi-long = f; yi-long = y; hi-long = h; km-kept = refl; htr-kept = refl; fnsq-kept = refl; mark-kept = refl; fsecv-kept = refl; iedp-kept = refl; ielect-kept = refl; owner-kept = λ e. refl }
+    record { fi-long = f; yi-long = y; hi-long = h; km-kept = refl; htr-kept = refl; fnsq-kept = refl; mark-kept = refl; fsecv-kept = refl; iedp-kept = refl; ielect-kept = refl; owner-kept = λ e. refl; exact-kept = refl }
 
 layer : (s : IonoState) (k p i : ℕ) → IonsetKept s (layerFrom s k p i)
 unfolding layerFrom
@@ -67,7 +67,7 @@ slots-kept s (suc n) = then (slots-kept s n) (then (f1-kept _ n) (f2-kept _ n))
 disowned-by : (b : Bool) (s : IonoState) → s .ielect ≡ b → IonsetKept s (disownedBy b s)
 disowned-by true s e = same s
 disowned-by false s e =
-    record { fi-long = refl; yi-long = refl; hi-long = refl; km-kept = refl; htr-kept = refl; fnsq-kept = refl; mark-kept = refl; fsecv-kept = refl; iedp-kept = refl; ielect-kept = refl; owner-kept = λ t. absurd (true≢false (sym t ∙ e)) }
+    record { fi-long = refl; yi-long = refl; hi-long = refl; km-kept = refl; htr-kept = refl; fnsq-kept = refl; mark-kept = refl; fsecv-kept = refl; iedp-kept = refl; ielect-kept = refl; owner-kept = λ t. absurd (true≢false (sym t ∙ e)); exact-kept = refl }
 
 disowned-kept : (s : IonoState) → IonsetKept s (disowned s)
 unfolding disowned

@@ -16,3 +16,4 @@ pub record IonsetKept (s r : IonoState) : Type 0 where
   pub iedp-kept : r .iedp ≡ s .iedp
   pub ielect-kept : r .ielect ≡ s .ielect
   pub owner-kept : s .ielect ≡ true → r .owner ≡ s .owner
+  pub exact-kept : r .«exact_virtual_height» ≡ s .«exact_virtual_height»

@@ -2,7 +2,7 @@
 // Fortran shares COMMON blocks, made by `from_layers` and divided into slots by `ionset`.
 ghost use mathlib.Core.Path.{_≡_};
 ghost use Prim.Native.Nat.{_<_, _≤_};
-ghost use Rattle.layers.specs.State.{profileOnly, zeroState, withIedp, withIelect};
+ghost use Rattle.layers.specs.State.{profileOnly, zeroState, withIedp, withIelect, withExact};
 ghost use Rattle.layers.specs.FromLayers.{countTaken, rowSet, pointSet, pointsSet, emptyOf, fromLayersOf};
 ghost use Rattle.layers.specs.Ionset.{layerFrom, twoSlots, threeSlots, assignedOf, tooClose, f1Settled, f2Settled, slotSettled, slotsSettled, ionsetOf};
 use refusal::Outcome;
@@ -58,6 +58,8 @@ pub struct IonoState {
     pub ielect: bool,
     // whose profile it is, as stored: `owners::owner_of` says what counts
     pub owner: Owner,
+    // the Rust's `numerics.exact_virtual_height`: virtual heights as the integral evaluated, not by the rule of forty nodes
+    pub exact_virtual_height: bool,
 }
 
 // A layer's MUF line.
@@ -113,6 +115,7 @@ pub fn zero_state() -> IonoState
         iedp: 0,
         ielect: false,
         owner: Owner::None,
+        exact_virtual_height: false,
     }
 }
 
@@ -209,6 +212,14 @@ pub fn with_ielect(mut s: IonoState, ielect: bool) -> IonoState
     ensures { λ r. ⌜ r ≡ withIelect s ielect ⌝ }
 {
     s.ielect = ielect;
+    s
+}
+
+// Whether virtual heights are worked out by the exact rule, where it can be.
+pub fn with_exact(mut s: IonoState, exact: bool) -> IonoState
+    ensures { λ r. ⌜ r ≡ withExact s exact ⌝ }
+{
+    s.exact_virtual_height = exact;
     s
 }
 

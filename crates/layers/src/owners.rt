@@ -90,6 +90,7 @@ pub fn with_owner(s: IonoState, owner: Owner) -> IonoState
         iedp: s.iedp,
         ielect: s.ielect,
         owner,
+        exact_virtual_height: s.exact_virtual_height,
     }
 }
 

@@ -1,15 +1,15 @@
--- A state as words: fi, yi, hi (15 each), km, kfx, htr and fnsq (50 each), rises, fsecv (3), iedp, ielect, owner.
+-- A state as words: fi, yi, hi (15 each), km, kfx, htr and fnsq (50 each), rises, fsecv (3), iedp, ielect, owner, the switch of the exact height rule.
 use mathlib.Core.List.{List}
 use Prim.Native.Nat.{ℕ}
 use lib.ListN.{set}
-use Rattle.layers.specs.State.{zeroState, withTables, withKm, withKfx, withProfile, withFsecv, withIedp, withIelect, withOwner}
+use Rattle.layers.specs.State.{zeroState, withTables, withKm, withKfx, withProfile, withFsecv, withIedp, withIelect, withOwner, withExact}
 use Rattle.layers.specs.declared.IonoState.{IonoState}
 use Rattle.port_state.specs.Owners.{ownerOfWord, wordOfOwner}
 use Rattle.port_state.specs.Words.{word, floatsOf, floatsInto, signedOf, wordOf, yesOf, flagOf, countOf}
 
 -- how many they are, for every call that takes a state
 abbrev pub stateWords : ℕ
-stateWords = 154
+stateWords = 155
 
 unfoldable pub stateOf : List ℕ → IonoState
 stateOf w =
@@ -18,7 +18,7 @@ stateOf w =
     let c = withProfile b (floatsOf w 47 50) (floatsOf w 97 50) (yesOf (word w 147)) in
     let d = withFsecv c (floatsOf w 148 3) in
     let e = withIelect (withIedp d (signedOf (word w 151))) (yesOf (word w 152)) in
-    withOwner e (ownerOfWord (word w 153))
+    withOwner (withExact e (yesOf (word w 154))) (ownerOfWord (word w 153))
 
 -- words 0 to 44
 unfoldable pub tablesInto : IonoState → List ℕ → List ℕ
@@ -40,6 +40,10 @@ marksInto s w = set (set (set w 147 (flagOf (s .«htr_rises»))) 151 (wordOf (s 
 unfoldable pub ownerInto : IonoState → List ℕ → List ℕ
 ownerInto s w = set w 153 (wordOfOwner (s .owner))
 
+-- word 154
+unfoldable pub exactInto : IonoState → List ℕ → List ℕ
+exactInto s w = set w 154 (flagOf (s .«exact_virtual_height»))
+
 -- words past the state's stay
 unfoldable pub stateInto : IonoState → List ℕ → List ℕ
-stateInto s w = ownerInto s (marksInto s (countsInto s (profileInto s (tablesInto s w))))
+stateInto s w = exactInto s (ownerInto s (marksInto s (countsInto s (profileInto s (tablesInto s w)))))

@@ -3,7 +3,7 @@ ghost use mathlib.Core.Path.{_≡_};
 ghost use Prim.Native.Nat.{_+_, _≤_};
 ghost use lib.ListN.{length};
 ghost use Rattle.port_state.specs.Words.{floatsOf, floatsInto, signedOf, wordOf, yesOf, flagOf, countOf};
-ghost use Rattle.port_state.specs.State.{stateWords, stateOf, tablesInto, profileInto, countsInto, marksInto, ownerInto, stateInto};
+ghost use Rattle.port_state.specs.State.{stateWords, stateOf, tablesInto, profileInto, countsInto, marksInto, ownerInto, exactInto, stateInto};
 ghost use Rattle.port_state.specs.Owners.{ownerOfWord, slotWord, wordOfOwner};
 use layers::IonoState;
 use layers::Owner;
@@ -12,7 +12,7 @@ use layers::owners;
 pub mod ports;
 
 // How many words a state takes: specs/State.antt says which.
-pub const STATE_WORDS: usize = 154;
+pub const STATE_WORDS: usize = 155;
 
 // The floats of the words from `from` on.
 pub fn floats_of(w: &[u32], from: usize, x: &mut [f32])
@@ -182,6 +182,7 @@ pub fn state_of(w: &[u32]) -> IonoState
     s.fsecv = fsecv;
     s.iedp = signed(w[151]);
     s.ielect = yes(w[152]);
+    s.exact_virtual_height = yes(w[154]);
     owners::with_owner(s, owner_of_word(w[153]))
 }
 
@@ -241,6 +242,13 @@ fn owner_into(s: IonoState, w: &mut [u32])
     w[153] = owner_word(o);
 }
 
+fn exact_into(s: IonoState, w: &mut [u32])
+    requires { ⌜ stateWords ≤ length (now w) ⌝ }
+    ensures { λ r. ⌜ now (w .exit) ≡ exactInto s (now (w .entry)) ⌝ }
+{
+    w[154] = flag(s.exact_virtual_height);
+}
+
 pub fn state_into(s: IonoState, w: &mut [u32])
     requires { ⌜ stateWords ≤ length (now w) ⌝ }
     ensures { λ r. ⌜ now (w .exit) ≡ stateInto s (now (w .entry)) ⌝ }
@@ -250,4 +258,5 @@ pub fn state_into(s: IonoState, w: &mut [u32])
     counts_into(s, w);
     marks_into(s, w);
     owner_into(s, w);
+    exact_into(s, w);
 }

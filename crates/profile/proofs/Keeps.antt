@@ -19,9 +19,9 @@ one-set l p x = record { long = length-set l p x; same = λ i h. getD-set-other 
 by-supply : (b : Bool) (s : IonoState) (k : ℕ) → LecdenKept s (lecdenBy b s k) k
 unfolding slotWritten
 by-supply true s k =
-    record { fi-kept = refl; yi-kept = unchanged _ _; hi-kept = unchanged _ _; fsecv-kept = unchanged _ _; km-kept = refl; kfx-kept = refl; iedp-kept = refl; ielect-kept = refl }
+    record { fi-kept = refl; yi-kept = unchanged _ _; hi-kept = unchanged _ _; fsecv-kept = unchanged _ _; km-kept = refl; kfx-kept = refl; iedp-kept = refl; ielect-kept = refl; exact-kept = refl }
 by-supply false s k =
-    record { fi-kept = refl; yi-kept = one-set _ _ _; hi-kept = one-set _ _ _; fsecv-kept = one-set _ _ _; km-kept = refl; kfx-kept = refl; iedp-kept = refl; ielect-kept = refl }
+    record { fi-kept = refl; yi-kept = one-set _ _ _; hi-kept = one-set _ _ _; fsecv-kept = one-set _ _ _; km-kept = refl; kfx-kept = refl; iedp-kept = refl; ielect-kept = refl; exact-kept = refl }
 
 pub lecden-keeps : (s : IonoState) (k : ℕ) → LecdenKept s (lecdenOf s k) k
 unfolding lecdenOf

@@ -22,3 +22,4 @@ pub record LecdenKept (s r : IonoState) (k : ℕ) : Type 0 where
   pub kfx-kept : r .kfx ≡ s .kfx
   pub iedp-kept : r .iedp ≡ s .iedp
   pub ielect-kept : r .ielect ≡ s .ielect
+  pub exact-kept : r .«exact_virtual_height» ≡ s .«exact_virtual_height»

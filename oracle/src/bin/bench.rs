@@ -1,7 +1,8 @@
 //! Our exports beside the Rust's native build on the same realistic states,
 //! in one run: nanoseconds for each call and their ratio.
 //!
-//! bench [STATES] [SEED] [NAME..]: 300 states and all names by default.
+//! bench [STATES] [SEED] [NAME..]: 300 states and all names by default; what
+//! reads heights by the exact rule too.
 
 use oracle::ours;
 use oracle::random::Random;
@@ -34,9 +35,10 @@ struct Hourly {
 }
 
 impl Hourly {
-    fn new(r: &mut Random) -> Self {
+    fn new(r: &mut Random, exact: bool) -> Self {
         let mut words = states::slots(r);
         words[IEDP] = -1i32 as u32;
+        words[EXACT] = u32::from(exact);
         let call = states::plain_hour(r, words[KM] as usize);
         let (profile_words, _, hour) = routed::curmuf(&words, &call);
         let slot = hour[KS];
@@ -177,6 +179,9 @@ const TIMED: [Timed; 7] = [
     ("port_alosfv", 1, our_alosfv, rust_alosfv),
 ];
 
+/// Those that read heights, timed with the switch of the exact rule on too.
+const READING: [&str; 4] = ["port_gethp", "port_curmuf", "port_sheet", "port_genion"];
+
 const ROUNDS: usize = 60;
 
 /// The calls that make up a slot sheet.
@@ -230,22 +235,32 @@ fn print_shares(times: &[(&str, Times)]) {
 }
 
 fn main() {
-    let mut random = Random::new(argument(2, 1));
-    let hours: Vec<Hourly> = (0..argument(1, 300))
-        .map(|_| Hourly::new(&mut random))
-        .collect();
+    let hours = |exact: bool| -> Vec<Hourly> {
+        let mut random = Random::new(argument(2, 1));
+        (0..argument(1, 300))
+            .map(|_| Hourly::new(&mut random, exact))
+            .collect()
+    };
     let named: Vec<String> = std::env::args().skip(3).collect();
     let chosen = |name: &str| named.is_empty() || named.iter().any(|n| n == name);
     let timed: Vec<Timed> = TIMED
         .into_iter()
         .filter(|t| chosen(t.0) && ours::all_built(&[t.0]))
         .collect();
-    let times = measure(&hours, &timed);
-    let times: Vec<(&str, Times)> = timed.iter().map(|t| t.0).zip(times).collect();
-    for (name, times) in &times {
-        print_times(name, *times);
-    }
-    if named.is_empty() {
-        print_shares(&times);
+    let reading: Vec<Timed> = timed
+        .iter()
+        .filter(|t| READING.contains(&t.0))
+        .copied()
+        .collect();
+    for (exact, timed) in [(false, timed), (true, reading)] {
+        println!("{}", if exact { "by the exact rule" } else { "by forty nodes" });
+        let times = measure(&hours(exact), &timed);
+        let times: Vec<(&str, Times)> = timed.iter().map(|t| t.0).zip(times).collect();
+        for (name, times) in &times {
+            print_times(name, *times);
+        }
+        if named.is_empty() && !exact {
+            print_shares(&times);
+        }
     }
 }

@@ -167,6 +167,8 @@ struct Counts {
     mufs: [u64; 2],
     sheets: [u64; 2],
     nominals: [u64; 2],
+    /// Lists with the switch of the exact height rule off, and on.
+    settings: [u64; 2],
 }
 
 impl Counts {
@@ -183,6 +185,7 @@ impl Counts {
 fn case(r: &mut Random, counts: &mut Counts) -> Option<String> {
     let first = first_state(r);
     let list = calls(r, &first);
+    counts.settings[usize::from(first[EXACT] != 0)] += 1;
     let alone: Vec<Done> = list.iter().map(|c| c.on(&first)).collect();
     for (call, done) in list.iter().zip(&alone) {
         counts.add(call, done);
@@ -220,9 +223,11 @@ fn main() {
         mufs,
         sheets,
         nominals,
+        settings,
     } = counts;
     println!("  MUFs answered {}, refused {}", mufs[0], mufs[1]);
     println!("  sheets answered {}, refused {}", sheets[0], sheets[1]);
     println!("  nominal MUFs answered {}, refused {}", nominals[0], nominals[1]);
+    println!("  exact rule off {}, on {}", settings[0], settings[1]);
     finish(&[verdict])
 }

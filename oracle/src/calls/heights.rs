@@ -6,10 +6,11 @@ use crate::{ours, predict, states};
 
 type Gethp = fn(&[u32], u32, &mut [u32]) -> u32;
 
-/// Both heights and the cursor: by the walk where the heights rise, or always
-/// by scans.
-fn heights_read(r: &mut Random, walks: bool, ours: Gethp) -> Call {
+/// Both heights and the cursor: by the exact rule or not; by the walk where
+/// the heights rise, or always by scans.
+fn heights_read(r: &mut Random, exact: bool, walks: bool, ours: Gethp) -> Call {
     let state = states::any(r);
+    let state = states::switched(r, state, exact);
     let fxx = states::frequency(r, &state);
     let (given, out) = (resized(r, &state), room(r, 3));
     let wanted = long_enough(&[(&given, STATE), (&out, 3)]).map(|()| {
@@ -26,12 +27,12 @@ fn heights_read(r: &mut Random, walks: bool, ours: Gethp) -> Call {
     answering(lists, |i| i < 2, out, wanted, |out| ours(&given, fxx, out))
 }
 
-pub fn gethp(r: &mut Random) -> Call {
-    heights_read(r, true, ours::port_gethp)
+pub fn gethp<const EXACT: bool>(r: &mut Random) -> Call {
+    heights_read(r, EXACT, true, ours::port_gethp)
 }
 
-pub fn gethp_scan(r: &mut Random) -> Call {
-    heights_read(r, false, ours::port_gethp_scan)
+pub fn gethp_scan<const EXACT: bool>(r: &mut Random) -> Call {
+    heights_read(r, EXACT, false, ours::port_gethp_scan)
 }
 
 /// Rust's walk against Rust's scans, by bits.
@@ -40,6 +41,8 @@ pub fn rust_walk(r: &mut Random) -> Call {
     while !rises(&state) {
         state = states::any(r);
     }
+    // With the switch on it has no walk where the exact rule runs.
+    state[EXACT] = 0;
     let fxx = states::frequency(r, &state);
     let walked = side::gethp(&state, fxx, true).to_vec();
     let lists = vec![("state", state.to_vec()), ("fxx", vec![fxx.to_bits()])];

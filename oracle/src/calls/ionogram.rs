@@ -67,9 +67,11 @@ pub fn selmod(r: &mut Random) -> Call {
     })
 }
 
-/// Mostly of the slot that the profile was made for.
-pub fn genion(r: &mut Random) -> Call {
+/// Mostly of the slot that the profile was made for; with the switch of the
+/// exact height rule off, or on.
+pub fn genion<const EXACT: bool>(r: &mut Random) -> Call {
     let state = states::any(r);
+    let state = states::switched(r, state, EXACT);
     let owner = state[OWNER];
     let k = if (1..=3).contains(&owner) && !r.once_in(5) {
         owner - 1
@@ -122,13 +124,15 @@ pub fn alosfv(r: &mut Random) -> Call {
     })
 }
 
-pub fn sheet(r: &mut Random) -> Call {
+/// With the switch of the exact height rule off, or on.
+pub fn sheet<const EXACT: bool>(r: &mut Random) -> Call {
     let plain = r.once_in(3);
     let state = if plain {
         states::slots(r)
     } else {
         states::any(r)
     };
+    let state = states::switched(r, state, EXACT);
     let (k, nang) = (number(r), angles(r));
     let mut layers = states::layers(r);
     if k < 3 {

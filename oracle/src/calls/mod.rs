@@ -14,27 +14,33 @@ use crate::words::*;
 /// Makes one call.
 pub type Case = fn(&mut Random) -> Call;
 
-/// Each comparison by its name, which is that of our function.
-pub const COMPARISONS: [(&str, Case); 20] = [
+/// Each comparison by its name, which is that of our function; where heights
+/// are read, once more with the switch of the exact rule on.
+pub const COMPARISONS: [(&str, Case); 25] = [
     ("rust_walk", heights::rust_walk),
     ("port_from_layers", slots::from_layers),
     ("port_ionset", slots::ionset),
     ("port_lecden", slots::lecden),
     ("port_owner", slots::owner),
-    ("port_gethp", heights::gethp),
-    ("port_gethp_scan", heights::gethp_scan),
+    ("port_gethp", heights::gethp::<false>),
+    ("port_gethp exact", heights::gethp::<true>),
+    ("port_gethp_scan", heights::gethp_scan::<false>),
+    ("port_gethp_scan exact", heights::gethp_scan::<true>),
     ("port_bendy", heights::bendy),
     ("port_pen", heights::pen),
     ("port_xlin", heights::xlin),
     ("port_f2dis", muf::f2dis),
-    ("port_curmuf", muf::curmuf),
+    ("port_curmuf", muf::curmuf::<false>),
+    ("port_curmuf exact", muf::curmuf::<true>),
     ("port_nommuf", muf::nommuf),
     ("port_sang", ionogram::sang),
     ("port_selmod", ionogram::selmod),
-    ("port_genion", ionogram::genion),
+    ("port_genion", ionogram::genion::<false>),
+    ("port_genion exact", ionogram::genion::<true>),
     ("port_fobby", ionogram::fobby),
     ("port_alosfv", ionogram::alosfv),
-    ("port_sheet", ionogram::sheet),
+    ("port_sheet", ionogram::sheet::<false>),
+    ("port_sheet exact", ionogram::sheet::<true>),
     ("port_reading", heights::reading),
 ];
 

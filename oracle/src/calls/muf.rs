@@ -20,13 +20,15 @@ pub fn f2dis(r: &mut Random) -> Call {
     })
 }
 
-pub fn curmuf(r: &mut Random) -> Call {
+/// With the switch of the exact height rule off, or on.
+pub fn curmuf<const EXACT: bool>(r: &mut Random) -> Call {
     let plain = r.once_in(3);
     let state = if plain {
         states::slots(r)
     } else {
         states::any(r)
     };
+    let state = states::switched(r, state, EXACT);
     let mut hour = states::hour(r);
     if r.once_in(6) {
         many_hops(r, &state, &mut hour);

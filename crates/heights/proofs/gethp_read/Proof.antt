@@ -1,42 +1,35 @@
--- Past the early return the forty densities fill the flat table, and its sum is the sum over the nodes.
-use mathlib.Core.Path.{_≡_}
-use mathlib.Core.Bool.{Bool, false}
-use mathlib.Core.List.{List}
-use Prim.Native.Nat.{ℕ}
+-- Each path is the clause that its tests choose; each call is what its contract says. Where the exact rule is called, the test that it asks for has just passed.
+use mathlib.Core.Bool.{Bool}
+use mathlib.Core.Path.{sym, subst, _∙_}
 use borrow.Author.Needs.{needs}
-use lib.Ieee.{Float}
-use Rattle.scalar.specs.F32.{_+f_, _-f_, _*f_, _≤f_, at}
+use lib.Dec.{T}
+use lib.Ieee.Fits.{and-r}
+use Rattle.scalar.specs.F32.{_-f_, _>f_, at}
 use Rattle.scalar.specs.Literals.{f0}
-use Rattle.readings.specs.Scan.{profileInterpolateOf}
-use Rattle.heights.specs.Nodes.{xnpl, twdiv}
-use Rattle.heights.specs.Gethp.{hpOf}
-use Rattle.heights.specs.Walk.{flat, tableBy, cursorReadBy, gethpReadOf}
-use Rattle.heights.specs.declared.Heights.{Heights}
-use Rattle.heights.proofs.Tables.{table-sum}
+use Rattle.heights.specs.Walk.{gethpReadOf}
 use Rattle.heights.proofs.gethp_read.Statement.{statement}
 use Rattle.heights.proofs.gethp_read.Tie as tie
-
-abbrev made : Float → Float → Float → ℕ → Heights
-made h0 ht hp cursor = record { hp = h0 +f ht *f twdiv *f xnpl *f hp; ht = h0 +f ht; cursor = cursor }
-
-whole : (rises : Bool) (htr fnsq : List Float) (fxx top : Float) (ysq : List Float) (cursor : ℕ) (hp : Float) → (fxx *f fxx -f at fnsq 0 ≤f f0) ≡ false → top ≡ profileInterpolateOf fnsq htr (fxx *f fxx) → ysq ≡ tableBy rises htr fnsq (top -f at htr 0) (fxx *f fxx) → cursor ≡ cursorReadBy rises htr fnsq (top -f at htr 0) → hp ≡ hpOf (flat ysq) 20
-    → made (at htr 0) (top -f at htr 0) hp cursor ≡ gethpReadOf rises htr fnsq fxx
-unfolding gethpReadOf
-whole rises htr fnsq fxx top ysq cursor hp e et ey ec eh = rw (e, eh, ey, ec, table-sum, et)
 
 returns : tie.Need-returns
 unfolding gethpReadOf
 returns c = rw (c .if1 .taken)
 
+virtual-height-exact-requires : tie.Need-virtual-height-exact-requires
+virtual-height-exact-requires c κs =
+    let a = c .before .before .before .before .before .before .args in
+    let top = c .before .before .profile-interpolate .result in
+    and-r (a .exact) (top -f at (a .htr .now) 0 >f f0) (subst (λ (b : Bool). T b) (sym (c .if2 .taken) ∙ c .before .rule-used .ensures) tt)
+
 returns-2 : tie.Need-returns-2
-returns-2 c =
-    let s = c .before .before .before .before .before .before .before .before .before .before in
-    let p = c .before .before .before .before .before .before .profile-interpolate in
-    let d = c .before .before .before .before .before .gethp-densities in
-    whole (s .args .rises) (s .args .htr .now) (s .args .fnsq .now) (s .args .fxx) (p .result) (d .result .ysq) (d .result .cursor) (c .quadrature .result) (c .before .before .before .before .before .before .before .if1 .left) (p .ensures) (d .ensures .0) (d .ensures .1) (c .quadrature .ensures)
+unfolding gethpReadOf
+returns-2 c = rw (c .before .before .before .before .if1 .left, ← c .before .before .before .profile-interpolate .ensures, ← c .before .before .rule-used .ensures, c .before .if2 .taken, ← c .virtual-height-exact .ensures)
+
+returns-3 : tie.Need-returns-3
+unfolding gethpReadOf
+returns-3 c = rw (c .before .before .before .before .if1 .left, ← c .before .before .before .profile-interpolate .ensures, ← c .before .before .rule-used .ensures, c .before .if2 .left, ← c .by-densities .ensures)
 
 pub gethp-read-spec : {M : Type 1} → statement M
 gethp-read-spec =
     tie.close
-    (tie.spec (λ c. search needs) (λ c. search needs) returns (λ c κs. search needs) (λ c κs. search needs)
-    (λ c κs. search needs) (λ c κs. search needs) returns-2)
+    (tie.spec (λ c. search needs) (λ c. search needs) returns (λ c κs. search needs) (λ c κs. search needs) virtual-height-exact-requires
+    returns-2 (λ c κs. search needs) returns-3)
