@@ -82,12 +82,16 @@ impl Source {
         .concat()
     }
 
-    /// The two modules with their elementary functions routed to ours.
+    /// The modules with their elementary functions routed to ours, and the
+    /// segments of searches noted.
     pub fn routed(&self) -> String {
+        routing::all_found(&[&self.muf, &self.ionogram, &self.xlin]);
         let muf = routing::routed("muf.rs", &self.muf);
         let ionogram = routing::routed("ionogram.rs", &self.ionogram);
+        let xlin = routing::routed("sigdis.rs", &self.xlin);
         [
-            "pub use crate::voacap::{con, ionosphere, sigdis};\n".to_string(),
+            "pub use crate::voacap::{con, ionosphere};\n".to_string(),
+            module("sigdis", &with_r(&xlin)),
             module(
                 "muf",
                 &(muf + "\nuse crate::routing::{Elementary, Order};\n" + REACH),

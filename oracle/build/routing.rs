@@ -1,9 +1,10 @@
 //! The one edit of the Rust's text: elementary functions, minimum and maximum
-//! become calls of ours, and each hop count is noted down as it is made. The
-//! edit is undone again and must give the original back, letter for letter.
+//! become calls of ours, and each hop count is noted down as it is made, as is
+//! the segment at which a search stands. The edit is undone again and must give
+//! the original back, letter for letter.
 
 /// What is replaced, and by what.
-const EDITS: [(&str, &str); 9] = [
+const EDITS: [(&str, &str); 19] = [
     (".exp()", ".routed_exp()"),
     (".ln()", ".routed_ln()"),
     (".sin()", ".routed_sin()"),
@@ -13,7 +14,56 @@ const EDITS: [(&str, &str); 9] = [
     (".min(", ".routed_min("),
     (".max(", ".routed_max("),
     ("(nhops + 1)", "(crate::routing::hop(nhops) + 1)"),
+    // the segments that a scan tries, and its end
+    (
+        "from[ih] - from[ih + 1]",
+        "from[crate::routing::tried(ih)] - from[ih + 1]",
+    ),
+    (
+        "\n    to[49]\n}",
+        "\n    to[crate::routing::tried(49)]\n}",
+    ),
+    // the segment of the true height: `gethp` and its first test
+    (
+        "let mut ht = profile_interpolate(&s.fnsq, &s.htr, fr);",
+        "let mut ht = crate::routing::found(profile_interpolate(&s.fnsq, &s.htr, fr));",
+    ),
+    (
+        "return (s.htr[0], s.htr[0]);",
+        "return crate::routing::unsought((s.htr[0], s.htr[0]));",
+    ),
+    // `xlin`, its first test and its end
+    (
+        "xn[j] - xn[j + 1]",
+        "xn[crate::routing::at(j)] - xn[j + 1]",
+    ),
+    ("return yn[0];", "return crate::routing::unsought(yn[0]);"),
+    (
+        "\n    yn[N - 1]\n}",
+        "\n    yn[crate::routing::at(N - 1)]\n}",
+    ),
+    // the row that a true height goes into
+    (
+        "ion.htrue[i] = ht;",
+        "ion.htrue[i] = crate::routing::row(i, ht);",
+    ),
+    (
+        "ion.htrue[i] = xlin(fn_, &s.fnsq, &s.htr);",
+        "ion.htrue[i] = crate::routing::row(i, xlin(fn_, &s.fnsq, &s.htr));",
+    ),
+    (
+        "ion.htrue[..10].copy_from_slice(&HTE);",
+        "ion.htrue[..10].copy_from_slice(crate::routing::fixed(&HTE));",
+    ),
 ];
+
+/// Every edit finds its place in the texts.
+pub fn all_found(texts: &[&str]) {
+    for (old, _) in EDITS {
+        let found = texts.iter().any(|t| t.contains(old));
+        assert!(found, "no {old} in the Rust source");
+    }
+}
 
 /// Functions that are routed nowhere, so must not be there.
 const ABSENT: [&str; 7] = [

@@ -152,16 +152,17 @@ pub fn cursor(state: &State, fxx: f32) -> u32 {
     htr[1..].iter().filter(|h| **h <= read).count() as u32
 }
 
-/// The kind of a density read: 0 floor, 1 on a segment, 2 top. Floor is the
-/// first test's answer, top is where no segment holds the read.
-pub fn kind(state: &State, zi: f32) -> u32 {
+/// The kind of a density read, 0 floor, 1 on a segment, 2 top, and its
+/// segment. Floor, whose segment is 0, is the first test's answer; top, whose
+/// segment is 49, is where no segment holds the read.
+pub fn kind(state: &State, zi: f32) -> (u32, u32) {
     let htr = heights(state);
     if zi - htr[0] <= 0.0 {
-        0
-    } else if htr.windows(2).any(|h| holds(h[0], h[1], zi)) {
-        1
-    } else {
-        2
+        return (0, 0);
+    }
+    match htr.windows(2).position(|h| holds(h[0], h[1], zi)) {
+        Some(n) => (1, n as u32),
+        None => (2, 49),
     }
 }
 

@@ -98,11 +98,11 @@ fn muf_lines(hour: &[u32]) -> String {
     format!("muf {} {mode} {slot}\ncall {call}\n", mufs.join(" "))
 }
 
-/// fvert, htrue, hprim, afac of each row.
+/// fvert, htrue, hprim, afac and segment of each row.
 fn slot_lines(k: usize, rows: &[u32]) -> String {
     let line = |i: usize| {
-        let fields = [0, 60, 30, 90].map(|column| digits(rows[column + i]));
-        format!("{} {}\n", i + 1, fields.join(" "))
+        let fields = [0, TRUE, 30, LOSSES].map(|column| digits(rows[column + i]));
+        format!("{} {} {}\n", i + 1, fields.join(" "), rows[SEGMENT + i])
     };
     format!("slot {k}\n") + &(0..30).map(line).collect::<String>()
 }

@@ -3,5 +3,10 @@
 
 include!(concat!(env!("OUT_DIR"), "/routed.rs"));
 
+/// The segments noted of the last scan, true height and ionogram.
+mod noted {
+    pub use crate::routing::{last_found, last_rows, last_tried};
+}
+
 #[path = "side.rs"]
 pub mod side;

@@ -92,6 +92,70 @@ thread_local! {
     static OUTSIDE: Cell<u64> = const { Cell::new(0) };
 }
 
+thread_local! {
+    static TRIED: Cell<u32> = const { Cell::new(0) };
+    static FOUND: Cell<u32> = const { Cell::new(0) };
+    static ROWS: Cell<[u32; 30]> = const { Cell::new([0; 30]) };
+}
+
+/// Where a true height stands if nothing was sought.
+const UNSOUGHT: u32 = 50;
+
+/// Notes the segment that a scan tries; 49 where none held the read.
+pub fn tried(ih: usize) -> usize {
+    TRIED.set(ih as u32);
+    ih
+}
+
+/// The segment at which the last scan ended.
+pub fn last_tried() -> u32 {
+    TRIED.get()
+}
+
+/// Notes that the last scan found a true height.
+pub fn found(height: f32) -> f32 {
+    FOUND.set(TRIED.get());
+    height
+}
+
+/// Notes the segment that `xlin` tries; 49 where none held the number.
+pub fn at(j: usize) -> usize {
+    FOUND.set(j as u32);
+    j
+}
+
+/// Notes that a true height was not sought.
+pub fn unsought<T>(height: T) -> T {
+    FOUND.set(UNSOUGHT);
+    height
+}
+
+/// The segment of the last true height.
+pub fn last_found() -> u32 {
+    FOUND.get()
+}
+
+/// Notes the row that the last true height goes into.
+pub fn row(i: usize, height: f32) -> f32 {
+    let mut rows = ROWS.get();
+    rows[i] = FOUND.get();
+    ROWS.set(rows);
+    height
+}
+
+/// Notes that the first rows have fixed heights.
+pub fn fixed(heights: &[f32; 10]) -> &[f32; 10] {
+    let mut rows = ROWS.get();
+    rows[..10].fill(UNSOUGHT);
+    ROWS.set(rows);
+    heights
+}
+
+/// The segments of the last ionogram's thirty rows.
+pub fn last_rows() -> [u32; 30] {
+    ROWS.get()
+}
+
 /// Notes a hop count before its plus one.
 pub fn hop(nhops: i32) -> i32 {
     HOPS.with(|h| h.borrow_mut().push(nhops));

@@ -4,7 +4,7 @@
 use super::ionogram::Ionogram;
 use super::ionosphere::{EsParams, LayerParams};
 use super::muf::{IonoState, LayerMuf, MufHour};
-use super::{ionogram, muf, sigdis};
+use super::{ionogram, muf, noted, sigdis};
 use crate::owner;
 use crate::words::*;
 
@@ -181,11 +181,14 @@ pub fn rows_of(w: &[u32]) -> Ionogram {
     }
 }
 
-pub fn row_words(ion: &Ionogram) -> Vec<u32> {
-    [ion.fvert, ion.hprim, ion.htrue, ion.afac]
+/// The four columns of numbers, then the segments.
+pub fn row_words(ion: &Ionogram, segments: &[u32]) -> Vec<u32> {
+    let mut words: Vec<u32> = [ion.fvert, ion.hprim, ion.htrue, ion.afac]
         .iter()
         .flat_map(|c| bits(c))
-        .collect()
+        .collect();
+    words.extend(segments);
+    words
 }
 
 pub fn from_layers(points: &[u32]) -> State {
@@ -205,22 +208,36 @@ pub fn lecden(state: &State, k: usize) -> State {
     state_words(&s, owner::left(state, owner::of_slot(k)))
 }
 
-/// Both heights, under a rising mark of the caller's choice.
-pub fn gethp(state: &State, fxx: f32, rises: bool) -> [u32; 2] {
+/// Both heights and the segment of the true one, under a rising mark of the
+/// caller's choice.
+pub fn gethp(state: &State, fxx: f32, rises: bool) -> [u32; 3] {
     let mut s = state_of(state);
     s.htr_rises = rises;
     let (hp, ht) = muf::gethp(&s, fxx);
-    [hp.to_bits(), ht.to_bits()]
+    [hp.to_bits(), ht.to_bits(), noted::last_found()]
 }
 
-/// The density at a height as `gethp` has it by scans: the first under its
-/// floor test, else what the scan answers.
-pub fn reading(state: &State, zi: f32) -> u32 {
+/// The density at a height as `gethp` has it by scans, and its segment: the
+/// first under its floor test, else what the scan answers.
+pub fn reading(state: &State, zi: f32) -> [u32; 2] {
     let s = state_of(state);
     if zi - s.htr[0] <= 0.0 {
-        return s.fnsq[0].to_bits();
+        return [s.fnsq[0].to_bits(), 0];
     }
-    muf::reach::profile_interpolate(&s.htr, &s.fnsq, zi).to_bits()
+    let density = muf::reach::profile_interpolate(&s.htr, &s.fnsq, zi);
+    [density.to_bits(), noted::last_tried()]
+}
+
+/// The same by the walk on a rising profile, the cursor at its start: where it
+/// stops is the segment.
+pub fn walked(state: &State, zi: f32) -> [u32; 2] {
+    let s = state_of(state);
+    if zi - s.htr[0] <= 0.0 {
+        return [s.fnsq[0].to_bits(), 0];
+    }
+    let mut ih = 0;
+    let density = muf::reach::rising_interpolate(&s.htr, &s.fnsq, zi, &mut ih);
+    [density.to_bits(), ih as u32]
 }
 
 pub fn bendy(state: &State, i: usize, k: usize, f: f32) -> u32 {
@@ -231,8 +248,9 @@ pub fn pen(state: &State, i: usize, k: usize, f: f32) -> u32 {
     muf::pen(&state_of(state), i, k, f).to_bits()
 }
 
-pub fn xlin(x: f32, xn: &[f32; 50], yn: &[f32; 50]) -> u32 {
-    sigdis::xlin(x, xn, yn).to_bits()
+/// The number, and its segment.
+pub fn xlin(x: f32, xn: &[f32; 50], yn: &[f32; 50]) -> [u32; 2] {
+    [sigdis::xlin(x, xn, yn).to_bits(), noted::last_found()]
 }
 
 /// numbers: fmuf, ssn, clat, freq, abb.
@@ -287,7 +305,8 @@ pub fn selmod(state: &State) -> u32 {
 }
 
 pub fn genion(state: &State, k: usize) -> Vec<u32> {
-    row_words(&ionogram::genion(&marked_state(state), k))
+    let ion = ionogram::genion(&marked_state(state), k);
+    row_words(&ion, &noted::last_rows())
 }
 
 /// The cells of `nang` angles.
@@ -302,7 +321,7 @@ pub fn fobby(rows: &[u32], nang: usize) -> Vec<u32> {
 pub fn alosfv(state: &State, k: usize, rows: &[u32], layers: &[u32]) -> Vec<u32> {
     let mut ion = rows_of(rows);
     ionogram::alosfv(&state_of(state), k, &mut ion, &layers_of(layers));
-    row_words(&ion)
+    row_words(&ion, &rows[SEGMENT..ROWS])
 }
 
 /// `lecden`, `genion`, `fobby`, `alosfv` in turn: state, rows, cells.
@@ -310,8 +329,13 @@ pub fn sheet(state: &State, k: usize, nang: usize, layers: &[u32]) -> (State, Ve
     let mut s = marked_state(state);
     muf::lecden(&mut s, k);
     let mut ion = ionogram::genion(&s, k);
+    let segments = noted::last_rows();
     let cells = ionogram::fobby(&ion, nang);
     ionogram::alosfv(&s, k, &mut ion, &layers_of(layers));
     let cells = cells.iter().flatten().map(|c| *c as u32).collect();
-    (unmarked_words(&s, state, k), row_words(&ion), cells)
+    (
+        unmarked_words(&s, state, k),
+        row_words(&ion, &segments),
+        cells,
+    )
 }

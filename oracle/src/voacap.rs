@@ -3,5 +3,18 @@
 
 include!(concat!(env!("OUT_DIR"), "/voacap.rs"));
 
+/// No segment is noted here.
+mod noted {
+    pub fn last_tried() -> u32 {
+        0
+    }
+    pub fn last_found() -> u32 {
+        0
+    }
+    pub fn last_rows() -> [u32; 30] {
+        [0; 30]
+    }
+}
+
 #[path = "side.rs"]
 pub mod side;

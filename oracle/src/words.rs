@@ -36,10 +36,13 @@ pub const MODMUF: usize = 8;
 pub const KS: usize = 9;
 /// Deciles, last index fastest.
 pub const DECILES: usize = 576;
-/// Thirty rows: fvert, hprim, htrue, afac, one after the other.
-pub const ROWS: usize = 120;
+/// Thirty rows: fvert, hprim, htrue, afac, segment, one after the other.
+pub const ROWS: usize = 150;
 /// Where the true heights begin.
 pub const TRUE: usize = 60;
+/// Where the loss factors begin, and the segments, which are no floats.
+pub const LOSSES: usize = 90;
+pub const SEGMENT: usize = 120;
 /// Reflectrix cells of one angle.
 pub const CELLS: usize = 30;
 
@@ -79,6 +82,10 @@ pub fn layer_floats(i: usize) -> bool {
 
 pub fn hour_floats(i: usize) -> bool {
     i < MODMUF || i > KS && layer_floats(i - KS - 1)
+}
+
+pub fn row_floats(i: usize) -> bool {
+    i < SEGMENT
 }
 
 pub fn all_floats(_: usize) -> bool {

@@ -1,10 +1,11 @@
--- What the rows of slot k, their loss factors and the layers' MUF lines read of a state: the critical frequencies, the slot's own numbers, the profile and `iedp`. Two states alike in these give the same, each by a way of finding heights that finds the same two on its own state.
+-- What the rows of slot k, their loss factors and the layers' MUF lines read of a state: the critical frequencies, the slot's own numbers, the profile and `iedp`. Two states alike in these give the same, each by a way of finding heights that finds the same two, and the same segment, on its own state.
 use mathlib.Core.Bool.{Bool, true, false}
 use mathlib.Core.List.{List}
 use mathlib.Core.Path.{_≡_, refl, ap, _∙_}
 use Prim.Native.Nat.{ℕ, _+_, _*_}
 use native.Mathlib.Nat.{add-zero}
 use lib.IntN.{ℤ, pos}
+use lib.ListN.{replicate}
 use lib.Signed.{ltZ}
 use lib.Ieee.{Float}
 use Rattle.scalar.specs.F32.{_-f_, _≤f_, _>f_, at}
@@ -17,8 +18,9 @@ use Rattle.profile.specs.declared.Slot.{Slot}
 use Rattle.heights.specs.Gethp.{Finder, gethpOf}
 use Rattle.heights.specs.Bendy.{bendyOf, penOf}
 use Rattle.heights.proofs.Finders.{FindAlike}
+use Rattle.readings.specs.Scan.{unsearched}
 use Rattle.reflectrix.specs.declared.Ionogram.{Ionogram}
-use Rattle.sounding.specs.Genion.{HTE, HPE, rowsOf, trueByProfile, virtualByParabola, virtualBy, made, rowsBy, fvertAt, rowsWith, genionWith}
+use Rattle.sounding.specs.Genion.{HTE, HPE, rowsOf, trueByProfile, segmentByProfile, virtualByParabola, virtualBy, made, rowsBy, fvertAt, rowsWith, genionWith}
 use Rattle.sounding.proofs.Ways.{rows-agree}
 use Rattle.losses.specs.Alosfv.{eRows, lineAt, aboveBy, aboveOf, notBelowZeros, withAfac, alosfvOf}
 use Rattle.losses.specs.declared.Factors.{Factors}
@@ -96,6 +98,10 @@ true-same : (u v : IonoState) (k : ℕ) → Alike u v k → (f : Float) → true
 unfolding trueByProfile
 true-same u v k a f = rw (a .fnsq-same, a .htr-same)
 
+segment-same : (u v : IonoState) (k : ℕ) → Alike u v k → (f : Float) → segmentByProfile u f ≡ segmentByProfile v f
+unfolding segmentByProfile
+segment-same u v k a f = rw (a .fnsq-same, a .htr-same)
+
 parabola-same : (u v : IonoState) (k : ℕ) → Alike u v k → (f : Float) → virtualByParabola u k f ≡ virtualByParabola v k f
 unfolding virtualByParabola
 parabola-same u v k a f =
@@ -108,12 +114,15 @@ module _ (find other : Finder) (u v : IonoState) (k : ℕ) (a : Alike u v k) (fo
 
   rows-same : (b : Bool) (fv : List Float) → rowsBy b find u k fv ≡ rowsBy b other v k fv
   rows-same true fv =
-      rw (rows-agree (λ f. find u f .hp) (λ f. other v f .hp) (λ f. found f .0) fv 0 _ 30, rows-agree (λ f. find u f .ht) (λ f. other v f .ht) (λ f. found f .1) fv 0 _ 30)
+      rw (rows-agree (λ f. find u f .hp) (λ f. other v f .hp) (λ f. found f .0) fv 0 _ 30, rows-agree (λ f. find u f .ht) (λ f. other v f .ht) (λ f. found f .1) fv 0 _ 30, rows-agree (λ f. find u f .segment) (λ f. other v f .segment) (λ f. found f .2) fv 0 _ 30)
   rows-same false fv =
       let e : (at (u .fi) (3 * k + 1) >f f0) ≡ (at (v .fi) (3 * k + 1) >f f0) = ap (λ (fi : List Float). at fi (3 * k + 1) >f f0) (a .fi-same) in
-      ap (λ (hprim : List Float). made fv hprim (rowsOf (λ f. trueByProfile u f) fv 10 HTE 20))
+      ap (λ (hprim : List Float). made fv hprim (rowsOf (λ f. trueByProfile u f) fv 10 HTE 20) (rowsOf (λ f. segmentByProfile u f) fv 10 (replicate 30 unsearched) 20))
       (rows-agree (λ f. virtualBy (at (u .fi) (3 * k + 1) >f f0) find u k f) (λ f. virtualBy (at (v .fi) (3 * k + 1) >f f0) other v k f) (λ f. virtual-same (at (u .fi) (3 * k + 1) >f f0) f ∙ ap (λ (b : Bool). virtualBy b other v k f) e) fv 10 HPE 20)
-      ∙ ap (λ (htrue : List Float). made fv (rowsOf (λ f. virtualBy (at (v .fi) (3 * k + 1) >f f0) other v k f) fv 10 HPE 20) htrue) (rows-agree (λ f. trueByProfile u f) (λ f. trueByProfile v f) (true-same u v k a) fv 10 HTE 20)
+      ∙ ap (λ (htrue : List Float). made fv (rowsOf (λ f. virtualBy (at (v .fi) (3 * k + 1) >f f0) other v k f) fv 10 HPE 20) htrue (rowsOf (λ f. segmentByProfile u f) fv 10 (replicate 30 unsearched) 20))
+      (rows-agree (λ f. trueByProfile u f) (λ f. trueByProfile v f) (true-same u v k a) fv 10 HTE 20)
+      ∙ ap (λ (segment : List ℕ). made fv (rowsOf (λ f. virtualBy (at (v .fi) (3 * k + 1) >f f0) other v k f) fv 10 HPE 20) (rowsOf (λ f. trueByProfile v f) fv 10 HTE 20) segment)
+      (rows-agree (λ f. segmentByProfile u f) (λ f. segmentByProfile v f) (segment-same u v k a) fv 10 (replicate 30 unsearched) 20)
 
   pub genion-same : genionWith find u k ≡ genionWith other v k
   unfolding genionWith rowsWith profileOnly

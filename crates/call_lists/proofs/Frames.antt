@@ -62,12 +62,12 @@ abbrev pub AgreesOn : Finder → IonoState → Type 0
 AgreesOn find t = (k : ℕ) → Agree find gethpOf (lecdenOf t k)
 
 itself : (t : IonoState) → AgreesOn gethpOf t
-itself t k f = (refl, refl)
+itself t k f = (refl, refl, refl)
 
 found-alike : (find : Finder) (s t : IonoState) (k : ℕ) → AgreesOn find t → Alike (lecdenOf t k) (lecdenOf s k) k → FindAlike find (lecdenOf t k) gethpOf (lecdenOf s k)
 found-alike find s t k agree a f =
     let e = gethp-same (lecdenOf t k) (lecdenOf s k) (a .htr-same) (a .fnsq-same) (a .exact-same) f in
-    (agree k f .0 ∙ ap (λ (h : Heights). h .hp) e, agree k f .1 ∙ ap (λ (h : Heights). h .ht) e)
+    (agree k f .0 ∙ ap (λ (h : Heights). h .hp) e, agree k f .1 ∙ ap (λ (h : Heights). h .ht) e, agree k f .2 ∙ ap (λ (h : Heights). h .segment) e)
 
 -- ---- the circuit MUF
 

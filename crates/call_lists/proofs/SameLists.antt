@@ -42,7 +42,7 @@ es-self (flat es) = all-self es
 es-self (records es) = pairwise-self SameRecord record-self es
 
 rows-self : (i : Ionogram) → SameRows i i
-rows-self i = (all-self (i .fvert), all-self (i .hprim), all-self (i .htrue), all-self (i .afac))
+rows-self i = (all-self (i .fvert), all-self (i .hprim), all-self (i .htrue), all-self (i .afac), refl)
 
 answer-self : (a : Answer) → SameAnswer a a
 answer-self (ofMuf o h es) = (refl, hour-self h, es-self es)

@@ -153,12 +153,12 @@ pub record ListOfCalls (s : IonoState) (calls : List Call) : Type 0 where
   pub iedp-left : runOf s calls .iedp ≡ s .iedp
   pub ielect-left : runOf s calls .ielect ≡ s .ielect
   pub exact-left : runOf s calls .«exact_virtual_height» ≡ s .«exact_virtual_height»
-  -- (v) read by walks, as the code does where it reads, every answer (rows, cells, hours, Es rows) and the state left are these; and they are the same with forty full scans in place of each walk
+  -- (v) read by walks, as the code does where it reads, every answer (rows with their segments, cells, hours, Es rows) and the state left are these; and they are the same with forty full scans in place of each walk
   pub answers-walked : Numbers s → answersWalkOf s calls ≡ answersOf s calls
   pub state-walked : Numbers s → runWalkOf s calls ≡ runOf s calls
   pub answers-scanned : answersScanOf s calls ≡ answersOf s calls
   pub state-scanned : runScanOf s calls ≡ runOf s calls
-  -- (vi) on each profile that is read the forty reads, where the exact rule does not stand for them, are the scans', in rising order, with the cursor as counted and moved 49 places at most
+  -- (vi) on each profile that is read the forty reads, kind, number and segment, where the exact rule does not stand for them, are the scans', in rising order, with the cursor as counted and moved 49 places at most
   pub reads-well : Numbers s → Every ReadsWell (readOf s calls)
 
 -- for what `ionset` answers of any state with 1 to 5 points, and its numbers are f32 where those of that state are

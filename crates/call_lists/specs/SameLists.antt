@@ -52,7 +52,7 @@ SameEs (records es) (flat ds) = ⊥
 SameEs (records es) (records ds) = Pairwise SameRecord es ds
 
 abbrev pub SameRows : Ionogram → Ionogram → Type 0
-SameRows i j = SameAll (i .fvert) (j .fvert) × SameAll (i .hprim) (j .hprim) × SameAll (i .htrue) (j .htrue) × SameAll (i .afac) (j .afac)
+SameRows i j = SameAll (i .fvert) (j .fvert) × SameAll (i .hprim) (j .hprim) × SameAll (i .htrue) (j .htrue) × SameAll (i .afac) (j .afac) × (i .segment ≡ j .segment)
 
 -- outcome, hour and Es rows, or outcome, rows and cells, or outcome and hour
 abbrev pub SameAnswer : Answer → Answer → Type 0

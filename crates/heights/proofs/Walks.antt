@@ -14,12 +14,12 @@ use Rattle.scalar.specs.F32.{_+f_, _-f_, _*f_, _<f_, _≤f_, _>f_, _≥f_, at}
 use Rattle.scalar.specs.Literals.{f0}
 use Rattle.layers.specs.declared.IonoState.{IonoState}
 use Rattle.profile.specs.Rising.{risesFrom, risesOf}
-use Rattle.readings.specs.Scan.{readingOf, profileInterpolateOf}
+use Rattle.readings.specs.Scan.{segmentNumber, readingOf, profileInterpolateOf, profileSegmentOf}
 use Rattle.readings.specs.Cursor.{countOf}
 use Rattle.readings.specs.declared.Reading.{Reading}
 use Rattle.readings.specs.declared.Read.{Read}
 use Rattle.walk.specs.Walk.{Held, Rising, cursorBefore, scannedRead, movesOf}
-use Rattle.walk.proofs.Walks.{reads-are-scans, cursor-after, moves-bound}
+use Rattle.walk.proofs.Walks.{reads-are-scans, segment-after, cursor-after, moves-bound}
 use Rattle.heights.specs.Nodes.{xnpl, twdiv, wt, heightOf, heightAt, igAt, ibAt}
 use Rattle.heights.specs.Gethp.{cutOf, ysqOf, mupOf, hpOf, heightsBy, gethpBy, cursorBy, gethpOf, gethpScanOf}
 use Rattle.heights.specs.Walk.{readAt, cursorAfter, turnOf, ysqWalkOf, gethpReadOf}
@@ -49,13 +49,18 @@ rising htr t i h = rises-at htr 49 0 i t zero-le h
 
 -- ---- the forty reads on a profile that rises, at any height difference
 module _ (htr fnsq : List Float) (ht : Float) (held : Held htr) (rises : T (risesOf htr)) (fine : T (fits binary32 ht)) where
-  -- each of the forty readings, kind and number, with the cursor after it
+  -- each of the forty readings, kind, number and segment, with the cursor after it
   each-read : (k : ℕ) → k < 40 → readAt htr fnsq ht k ≡ scannedRead htr fnsq (heightAt (at htr 0) ht k)
   each-read k h =
       reads-are-scans htr fnsq (heightAt (at htr 0) ht) 40 held (rising htr rises) (height-fits (at htr 0) ht (held 0) fine) (reads-orderly (at htr 0) ht (held 0) fine) k h
 
   pub walk-is-scan : (k : ℕ) → k < 40 → readAt htr fnsq ht k .reading ≡ readingOf htr fnsq (heightAt (at htr 0) ht k)
   walk-is-scan k h = ap (λ (r : Read). r .reading) (each-read k h)
+
+  -- the segment of each is the count of its height
+  pub segment-counts : (k : ℕ) → k < 40 → segmentNumber (readAt htr fnsq ht k .reading) ≡ countOf htr (heightAt (at htr 0) ht k)
+  segment-counts k h =
+      segment-after htr fnsq (heightAt (at htr 0) ht) 40 held (rising htr rises) (height-fits (at htr 0) ht (held 0) fine) (reads-orderly (at htr 0) ht (held 0) fine) k h
 
   -- 0 before the first read, and after each one how many of the upper 49 heights are at or below its height
   pub cursor-starts : cursorAfter htr fnsq ht 0 ≡ 0
@@ -110,16 +115,16 @@ same-sum f g (suc n) e =
     ∙ ap (λ (x : Float). hpOf g n +f at wt n *f (mupOf (g n 0) +f mupOf x)) (e n 1 (omega arith) (omega arith))
 
 -- ---- `gethp` whole
-made : List Float → Float → Float → ℕ → Heights
-made htr ht hp cursor = record { hp = at htr 0 +f ht *f twdiv *f xnpl *f hp; ht = at htr 0 +f ht; cursor = cursor }
+made : List Float → Float → ℕ → Float → ℕ → Heights
+made htr ht segment hp cursor = record { hp = at htr 0 +f ht *f twdiv *f xnpl *f hp; ht = at htr 0 +f ht; cursor = cursor; segment = segment }
 
-by-rule : (r : Bool) (htr fnsq : List Float) (fr ht : Float) (ysq ysq' : ℕ → ℕ → Float) (cur cur' : ℕ) → hpOf ysq 20 ≡ hpOf ysq' 20 → cur ≡ cur' → heightsBy r htr fnsq fr ht ysq cur ≡ heightsBy r htr fnsq fr ht ysq' cur'
-by-rule true htr fnsq fr ht ysq ysq' cur cur' e f = refl
-by-rule false htr fnsq fr ht ysq ysq' cur cur' e f = unfold made in ap (λ (h : Float). made htr ht h cur) e ∙ ap (λ (c : ℕ). made htr ht (hpOf ysq' 20) c) f
+by-rule : (r : Bool) (htr fnsq : List Float) (fr ht : Float) (segment : ℕ) (ysq ysq' : ℕ → ℕ → Float) (cur cur' : ℕ) → hpOf ysq 20 ≡ hpOf ysq' 20 → cur ≡ cur' → heightsBy r htr fnsq fr ht segment ysq cur ≡ heightsBy r htr fnsq fr ht segment ysq' cur'
+by-rule true htr fnsq fr ht segment ysq ysq' cur cur' e f = refl
+by-rule false htr fnsq fr ht segment ysq ysq' cur cur' e f = unfold made in ap (λ (h : Float). made htr ht segment h cur) e ∙ ap (λ (c : ℕ). made htr ht segment (hpOf ysq' 20) c) f
 
 by-test : (b exact : Bool) (htr fnsq : List Float) (fr : Float) (ysq ysq' : Float → ℕ → ℕ → Float) (cur cur' : Float → ℕ) → let ht = profileInterpolateOf fnsq htr fr -f at htr 0 in hpOf (ysq ht) 20 ≡ hpOf (ysq' ht) 20 → cur ht ≡ cur' ht → gethpBy b exact htr fnsq fr ysq cur ≡ gethpBy b exact htr fnsq fr ysq' cur'
 by-test true exact htr fnsq fr ysq ysq' cur cur' e f = refl
-by-test false exact htr fnsq fr ysq ysq' cur cur' e f = let ht = profileInterpolateOf fnsq htr fr -f at htr 0 in by-rule (exact && (ht >f f0)) htr fnsq fr ht (ysq ht) (ysq' ht) (cur ht) (cur' ht) e f
+by-test false exact htr fnsq fr ysq ysq' cur cur' e f = let ht = profileInterpolateOf fnsq htr fr -f at htr 0 in by-rule (exact && (ht >f f0)) htr fnsq fr ht (profileSegmentOf fnsq htr fr) (ysq ht) (ysq' ht) (cur ht) (cur' ht) e f
 
 by-walk : (s : IonoState) (fxx : Float) → Held (s .htr) → true ≡ risesOf (s .htr) → gethpReadOf (s .«exact_virtual_height») true (s .htr) (s .fnsq) fxx ≡ gethpOf s fxx
 unfolding gethpReadOf gethpOf cursorBy

@@ -1,4 +1,4 @@
--- `gethp`: the virtual and the true height of a vertical frequency, off the density profile, with the cursor that the paper adds.
+-- `gethp`: the virtual and the true height of a vertical frequency, off the density profile, with the cursor that the paper adds and the segment of the true height: that of the search over the densities.
 -- The densities are those of forty full scans. On a rising profile the code reads them by one walk; that this is the same is proved (`walk-is-scan`). Where the state's switch is on and the reflecting height is above the lowest one,
 -- no density is read: the virtual height is the integral evaluated.
 use mathlib.Core.Bool.{Bool, true, false, _&&_}
@@ -11,7 +11,7 @@ use Rattle.scalar.specs.Scalar.{minOf}
 use Rattle.scalar.specs.Root.{sqrtOf}
 use Rattle.layers.specs.declared.IonoState.{IonoState}
 use Rattle.profile.specs.Rising.{risesOf}
-use Rattle.readings.specs.Scan.{valueOf, profileInterpolateOf, readingOf}
+use Rattle.readings.specs.Scan.{valueOf, profileInterpolateOf, profileSegmentOf, unsearched, readingOf}
 use Rattle.readings.specs.Cursor.{countOf}
 use Rattle.readings.specs.declared.Reading.{Reading}
 use Rattle.height_integral.specs.Exact.{virtualHeightExactOf}
@@ -36,20 +36,20 @@ unfoldable pub hpOf : (ℕ → ℕ → Float) → ℕ → Float
 hpOf ysq zero = f0
 hpOf ysq (suc ig) = hpOf ysq ig +f at wt ig *f (mupOf (ysq ig 0) +f mupOf (ysq ig 1))
 
--- ---- the two heights of the difference ht between the reflecting height and the lowest one: by the exact rule, with no walk, or by the sum over the densities, with its cursor
-abbrev pub heightsBy : Bool → List Float → List Float → Float → Float → (ℕ → ℕ → Float) → ℕ → Heights
-heightsBy true htr fnsq fr ht ysq cursor = record { hp = at htr 0 +f virtualHeightExactOf htr fnsq fr ht; ht = at htr 0 +f ht; cursor = 0 }
-heightsBy false htr fnsq fr ht ysq cursor =
+-- ---- the two heights of the difference ht between the reflecting height and the lowest one, found on the segment given: by the exact rule, with no walk, or by the sum over the densities, with its cursor
+abbrev pub heightsBy : Bool → List Float → List Float → Float → Float → ℕ → (ℕ → ℕ → Float) → ℕ → Heights
+heightsBy true htr fnsq fr ht segment ysq cursor = record { hp = at htr 0 +f virtualHeightExactOf htr fnsq fr ht; ht = at htr 0 +f ht; cursor = 0; segment = segment }
+heightsBy false htr fnsq fr ht segment ysq cursor =
     let hrmz = ht *f twdiv *f xnpl in
     let hp = hpOf ysq 20 in
-    record { hp = at htr 0 +f hrmz *f hp; ht = at htr 0 +f ht; cursor = cursor }
+    record { hp = at htr 0 +f hrmz *f hp; ht = at htr 0 +f ht; cursor = cursor; segment = segment }
 
 -- ---- the whole, over the densities and the cursor that a height difference gives: is fr - fnsq[0] <= 0, and the switch
 abbrev pub gethpBy : Bool → Bool → List Float → List Float → Float → (Float → ℕ → ℕ → Float) → (Float → ℕ) → Heights
-gethpBy true exact htr fnsq fr ysq cursor = record { hp = at htr 0; ht = at htr 0; cursor = 0 }
+gethpBy true exact htr fnsq fr ysq cursor = record { hp = at htr 0; ht = at htr 0; cursor = 0; segment = unsearched }
 gethpBy false exact htr fnsq fr ysq cursor =
     let ht = profileInterpolateOf fnsq htr fr -f at htr 0 in
-    heightsBy (exact && (ht >f f0)) htr fnsq fr ht (ysq ht) (cursor ht)
+    heightsBy (exact && (ht >f f0)) htr fnsq fr ht (profileSegmentOf fnsq htr fr) (ysq ht) (cursor ht)
 
 -- the cursor after the last read: the paper's count where the heights rise, and 0 where no walk runs
 unfoldable pub cursorBy : Bool → List Float → Float → ℕ

@@ -10,7 +10,7 @@ use Rattle.scalar.specs.Literals.{f0}
 use Rattle.order.specs.Units.{real}
 use Rattle.layers.specs.State.{withExact}
 use Rattle.layers.specs.declared.IonoState.{IonoState}
-use Rattle.readings.specs.Scan.{profileInterpolateOf, readingOf}
+use Rattle.readings.specs.Scan.{segmentNumber, profileInterpolateOf, profileSegmentOf, readingOf}
 use Rattle.readings.specs.Cursor.{countOf}
 use Rattle.walk.specs.Walk.{movesOf}
 use Rattle.height_integral.specs.Exact.{virtualHeightExactOf}
@@ -39,8 +39,10 @@ abbrev pub readHeight : IonoState → Float → ℕ → Float
 readHeight s fxx k = heightAt (at (s .htr) 0) (differenceOf s fxx) k
 
 pub record FortyReads (s : IonoState) (fxx : Float) : Type 0 where
-  -- each reading of the walk, kind and number, is the scan's
+  -- each reading of the walk, kind, number and segment, is the scan's
   pub scanned : (k : ℕ) → k < 40 → readAt (s .htr) (s .fnsq) (differenceOf s fxx) k .reading ≡ readingOf (s .htr) (s .fnsq) (readHeight s fxx k)
+  -- its segment is the count of its height, floor 0 and top 49 included
+  pub segments : (k : ℕ) → k < 40 → segmentNumber (readAt (s .htr) (s .fnsq) (differenceOf s fxx) k .reading) ≡ countOf (s .htr) (readHeight s fxx k)
   -- the cursor is 0 before the first read, and after each one the count of its height
   pub starts : cursorAfter (s .htr) (s .fnsq) (differenceOf s fxx) 0 ≡ 0
   pub counts : (k : ℕ) → k < 40 → cursorAfter (s .htr) (s .fnsq) (differenceOf s fxx) (suc k) ≡ countOf (s .htr) (readHeight s fxx k)
@@ -55,5 +57,5 @@ pub record FortyReads (s : IonoState) (fxx : Float) : Type 0 where
 
 -- the exact rule, on any profile: where it is used `gethp` reads no density, and where the switch is off or the difference is not above zero the switch does not matter
 pub record ExactRule (s : IonoState) (fxx : Float) : Type 0 where
-  pub used : reflects s fxx ≡ true → ruled s fxx ≡ true → gethpOf s fxx ≡ record { hp = at (s .htr) 0 +f virtualHeightExactOf (s .htr) (s .fnsq) (fxx *f fxx) (differenceOf s fxx); ht = at (s .htr) 0 +f differenceOf s fxx; cursor = 0 }
+  pub used : reflects s fxx ≡ true → ruled s fxx ≡ true → gethpOf s fxx ≡ record { hp = at (s .htr) 0 +f virtualHeightExactOf (s .htr) (s .fnsq) (fxx *f fxx) (differenceOf s fxx); ht = at (s .htr) 0 +f differenceOf s fxx; cursor = 0; segment = profileSegmentOf (s .fnsq) (s .htr) (fxx *f fxx) }
   pub unused : ruled s fxx ≡ false → gethpOf s fxx ≡ gethpOf (withExact s false) fxx

@@ -8,7 +8,7 @@ use Rattle.scalar.specs.F32.{at}
 use Rattle.same.specs.Same.{Same}
 use Rattle.layers.specs.declared.IonoState.{IonoState}
 use Rattle.profile.specs.Rising.{risesOf}
-use Rattle.readings.specs.Scan.{kindOf, valueOf, readingOf}
+use Rattle.readings.specs.Scan.{kindOf, valueOf, segmentNumber, readingOf}
 use Rattle.readings.specs.declared.Reading.{Reading}
 use Rattle.walk.specs.Walk.{Held}
 use Rattle.heights.specs.Nodes.{heightAt}
@@ -17,13 +17,13 @@ use Rattle.heights.specs.Walk.{readAt, gethpWalkOf}
 use Rattle.heights.specs.Reads.{differenceOf, readHeight}
 use Rattle.heights.specs.declared.Heights.{Heights}
 
--- the same kind and the same number
+-- the same kind, the same number and the same segment
 abbrev pub SameReading : Reading → Reading → Type 0
-SameReading r t = (kindOf r ≡ kindOf t) × Same (valueOf r) (valueOf t)
+SameReading r t = (kindOf r ≡ kindOf t) × Same (valueOf r) (valueOf t) × (segmentNumber r ≡ segmentNumber t)
 
--- the same two heights; the cursor is not asked about, since scans have none
+-- the same two heights and the same segment; the cursor is not asked about, since scans have none
 abbrev pub SameHeights : Heights → Heights → Type 0
-SameHeights h g = Same (h .hp) (g .hp) × Same (h .ht) (g .ht)
+SameHeights h g = Same (h .hp) (g .hp) × Same (h .ht) (g .ht) × (h .segment ≡ g .segment)
 
 -- the forty reads of one frequency
 abbrev pub SameReads : IonoState → Float → Type 0

@@ -10,11 +10,12 @@ ghost use Rattle.scalar.specs.Literals.{f0};
 ghost use Rattle.heights.specs.Nodes.{xt, wt, zgBy, heightOf, igAt, ibAt};
 ghost use Rattle.heights.specs.Gethp.{cutOf, mupOf, hpOf, heightsBy, gethpOf, gethpScanOf};
 ghost use Rattle.heights.specs.Bendy.{bendyOf, penOf, bendyAnswer, penAnswer};
-ghost use Rattle.heights.specs.Xlin.{xlinOf};
+ghost use Rattle.heights.specs.Xlin.{xlinFound};
 ghost use Rattle.heights.specs.Walk.{flat, walkTable, scanTable, tableBy, cursorAfter, ysqReadBy, cursorReadBy, gethpReadOf};
 use height_integral::virtual_height_exact;
 use layers::IonoState;
 use profile::rises_throughout;
+use readings::Found;
 use readings::Reading;
 use readings::profile_interpolate;
 use readings::read_by_scan;
@@ -28,6 +29,8 @@ pub struct Heights {
     pub ht: f32,
     // the walk's cursor after its last read; 0 where no walk ran
     pub cursor: usize,
+    // the segment on which the true height was found; 50 where nothing was sought
+    pub segment: u32,
 }
 
 // The positive abscissas of the Gauss rule with forty nodes; the others are their negatives.
@@ -232,8 +235,15 @@ fn quadrature(ysq: &[f32; 40], wts: &[f32; 20]) -> f32
 }
 
 // By the sum over forty densities, read by a walk or by scans. `ht` is the reflecting height less the lowest one.
-fn by_densities(htr: &[f32; 50], fnsq: &[f32; 50], rises: bool, ht: f32, fr: f32) -> Heights
-    ensures { λ r. ⌜ r ≡ heightsBy false (now (htr .entry)) (now (fnsq .entry)) fr ht (ysqReadBy rises (now (htr .entry)) (now (fnsq .entry)) ht fr) (cursorReadBy rises (now (htr .entry)) (now (fnsq .entry)) ht) ⌝ }
+fn by_densities(
+    htr: &[f32; 50],
+    fnsq: &[f32; 50],
+    rises: bool,
+    ht: f32,
+    fr: f32,
+    segment: u32,
+) -> Heights
+    ensures { λ r. ⌜ r ≡ heightsBy false (now (htr .entry)) (now (fnsq .entry)) fr ht segment (ysqReadBy rises (now (htr .entry)) (now (fnsq .entry)) ht fr) (cursorReadBy rises (now (htr .entry)) (now (fnsq .entry)) ht) ⌝ }
 {
     let h0 = htr[0];
     let hrmz = ht * 0.5 * 1.0;
@@ -246,6 +256,7 @@ fn by_densities(htr: &[f32; 50], fnsq: &[f32; 50], rises: bool, ht: f32, fr: f32
         hp: h0 + hrmz * hp,
         ht: h0 + ht,
         cursor: cursor,
+        segment,
     }
 }
 
@@ -270,9 +281,12 @@ fn gethp_read(htr: &[f32; 50], fnsq: &[f32; 50], exact: bool, rises: bool, fxx: 
             hp: h0,
             ht: h0,
             cursor: 0,
+            segment: 50,
         };
     }
-    let top = profile_interpolate(fnsq, htr, fr);
+    let found = profile_interpolate(fnsq, htr, fr);
+    let top = found.value;
+    let segment = found.segment;
     let ht = top - h0;
     if rule_used(exact, ht) {
         let rise = virtual_height_exact(htr, fnsq, fr, top);
@@ -281,9 +295,10 @@ fn gethp_read(htr: &[f32; 50], fnsq: &[f32; 50], exact: bool, rises: bool, fxx: 
             ht: h0 + ht,
             // no walk
             cursor: 0,
+            segment,
         };
     }
-    by_densities(htr, fnsq, rises, ht, fr)
+    by_densities(htr, fnsq, rises, ht, fr, segment)
 }
 
 // The heights of the vertical frequency `fxx`, densities read by a walk or by scans: `gethp` where `rises` is what the rising test says of the state's heights, for a caller that asks for many frequencies on one profile.
@@ -313,15 +328,18 @@ pub fn gethp_scan(s: IonoState, fxx: f32) -> Heights
     gethp_read(&htr, &fnsq, s.exact_virtual_height, false, fxx)
 }
 
-// The number of `yn` that goes with `x`, on the line between the neighbours of `x` in `xn`; the
-// first one where `x` is below the first of `xn`. Level and falling segments are treated as by
-// `profile_interpolate`.
-pub fn xlin(x: f32, xn: &[f32; 50], yn: &[f32; 50]) -> f32
-    ensures { λ r. ⌜ r ≡ xlinOf x (now (xn .entry)) (now (yn .entry)) ⌝ }
+// The number of `yn` that goes with `x`, on the line between the neighbours of `x` in `xn`, and the
+// segment of that line; the first one where `x` is below the first of `xn`, and then 50. Level and
+// falling segments are treated as by `profile_interpolate`.
+pub fn xlin(x: f32, xn: &[f32; 50], yn: &[f32; 50]) -> Found
+    ensures { λ r. ⌜ r ≡ xlinFound x (now (xn .entry)) (now (yn .entry)) ⌝ }
 {
     if xn[0] - x > 0.0 {
         let lowest = yn[0];
-        return lowest;
+        return Found {
+            value: lowest,
+            segment: 50,
+        };
     }
     profile_interpolate(xn, yn, x)
 }

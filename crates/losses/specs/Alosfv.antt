@@ -135,7 +135,7 @@ notBelowZeros l zero = l
 notBelowZeros l (suc n) = set (notBelowZeros l n) n (notBelowZero (at (notBelowZeros l n) n))
 
 unfoldable pub withAfac : Ionogram → List Float → Ionogram
-withAfac ion afac = record { fvert = ion .fvert; hprim = ion .hprim; htrue = ion .htrue; afac = afac }
+withAfac ion afac = record { fvert = ion .fvert; hprim = ion .hprim; htrue = ion .htrue; afac = afac; segment = ion .segment }
 
 unfoldable pub alosfvOf : IonoState → ℕ → Ionogram → List LayerMuf → Ionogram
 alosfvOf s k ion layers =

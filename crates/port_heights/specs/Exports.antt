@@ -8,11 +8,12 @@ use lib.Ieee.{binary32, ofBits}
 use Rattle.port_state.specs.Words.{floatsOf, floatsInto}
 use Rattle.port_state.specs.Ports.{Ported}
 use Rattle.port_state.specs.State.{stateWords, stateOf}
-use Rattle.readings.specs.Scan.{kindOf, valueOf, readingOf}
+use Rattle.readings.specs.Scan.{kindOf, valueOf, segmentNumber, readingOf}
 use Rattle.readings.specs.declared.Reading.{Reading}
+use Rattle.readings.specs.declared.Found.{Found}
 use Rattle.heights.specs.Gethp.{gethpOf, gethpScanOf}
 use Rattle.heights.specs.Bendy.{bendyAnswer, penAnswer, layerNumberOf, layerValuesOf}
-use Rattle.heights.specs.Xlin.{xlinOf}
+use Rattle.heights.specs.Xlin.{xlinFound}
 use Rattle.heights.specs.declared.Heights.{Heights}
 use Rattle.heights.specs.declared.LayerNumber.{LayerNumber}
 
@@ -26,24 +27,24 @@ leftBy false false out a = a
 abbrev pub onState : List ℕ → ℕ → List ℕ → Ported → Ported
 onState state n out a = leftBy (ltb (length state) stateWords) (ltb (length out) n) out a
 
--- hp, ht, cursor
+-- hp, ht, cursor, segment
 unfoldable pub heightsInto : Heights → List ℕ → List ℕ
-heightsInto h out = set (floatsInto out 0 (h .hp ∷ h .ht ∷ [])) 2 (h .cursor)
+heightsInto h out = set (set (floatsInto out 0 (h .hp ∷ h .ht ∷ [])) 2 (h .cursor)) 3 (h .segment)
 
 unfoldable pub gethpLeft : List ℕ → ℕ → List ℕ → Ported
-gethpLeft state fxx out = onState state 3 out (record { number = 0; words = heightsInto (gethpOf (stateOf state) (ofBits binary32 fxx)) out })
+gethpLeft state fxx out = onState state 4 out (record { number = 0; words = heightsInto (gethpOf (stateOf state) (ofBits binary32 fxx)) out })
 
 unfoldable pub gethpScanLeft : List ℕ → ℕ → List ℕ → Ported
-gethpScanLeft state fxx out = onState state 3 out (record { number = 0; words = heightsInto (gethpScanOf (stateOf state) (ofBits binary32 fxx)) out })
+gethpScanLeft state fxx out = onState state 4 out (record { number = 0; words = heightsInto (gethpScanOf (stateOf state) (ofBits binary32 fxx)) out })
 
--- the kind, the density
+-- the kind, the density, the segment
 unfoldable pub readingInto : Reading → List ℕ → List ℕ
-readingInto r out = set (floatsInto out 1 (valueOf r ∷ [])) 0 (kindOf r)
+readingInto r out = set (set (floatsInto out 1 (valueOf r ∷ [])) 0 (kindOf r)) 2 (segmentNumber r)
 
 unfoldable pub readingLeft : List ℕ → ℕ → List ℕ → Ported
 readingLeft state zi out =
     let s = stateOf state in
-    onState state 2 out (record { number = 0; words = readingInto (readingOf (s .htr) (s .fnsq) (ofBits binary32 zi)) out })
+    onState state 3 out (record { number = 0; words = readingInto (readingOf (s .htr) (s .fnsq) (ofBits binary32 zi)) out })
 
 -- the refusal's number, or 0 and the value's word
 abbrev pub layerLeft : LayerNumber → List ℕ → Ported
@@ -57,8 +58,12 @@ penLeft state i k f out = onState state 1 out (layerLeft (penAnswer (stateOf sta
 
 abbrev pub gridsBy : Bool → Bool → List ℕ → Ported → Ported
 gridsBy true b out a = record { number = 1; words = out }
-gridsBy false b out a = leftBy b (ltb (length out) 1) out a
+gridsBy false b out a = leftBy b (ltb (length out) 2) out a
+
+-- the value, the segment
+unfoldable pub foundInto : Found → List ℕ → List ℕ
+foundInto f out = set (floatsInto out 0 (f .value ∷ [])) 1 (f .segment)
 
 unfoldable pub xlinLeft : ℕ → List ℕ → List ℕ → List ℕ → Ported
 xlinLeft x xn yn out =
-    gridsBy (ltb (length xn) 50) (ltb (length yn) 50) out (record { number = 0; words = floatsInto out 0 (xlinOf (ofBits binary32 x) (floatsOf xn 0 50) (floatsOf yn 0 50) ∷ []) })
+    gridsBy (ltb (length xn) 50) (ltb (length yn) 50) out (record { number = 0; words = foundInto (xlinFound (ofBits binary32 x) (floatsOf xn 0 50) (floatsOf yn 0 50)) out })

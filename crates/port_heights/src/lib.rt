@@ -5,29 +5,41 @@ ghost use lib.ListN.{length};
 ghost use denote.Ref.{now};
 ghost use Rattle.port_state.specs.Words.{floatsInto};
 ghost use Rattle.heights.specs.Bendy.{layerNumberOf, layerValuesOf};
-ghost use Rattle.port_heights.specs.Exports.{heightsInto, readingInto, gethpLeft, gethpScanLeft, readingLeft, bendyLeft, penLeft, xlinLeft};
+ghost use Rattle.port_heights.specs.Exports.{heightsInto, foundInto, readingInto, gethpLeft, gethpScanLeft, readingLeft, bendyLeft, penLeft, xlinLeft};
 use heights::Heights;
 use heights::LayerNumber;
 use port_state::STATE_WORDS;
+use readings::Found;
 use readings::Reading;
 
 fn heights_into(h: Heights, out: &mut [u32])
-    requires { ⌜ (3 ≤ length (now out)) × (h .cursor ≤ 49) ⌝ }
+    requires { ⌜ (4 ≤ length (now out)) × (h .cursor ≤ 49) ⌝ }
     ensures { λ r. ⌜ now (out .exit) ≡ heightsInto h (now (out .entry)) ⌝ }
 {
     let x = [h.hp, h.ht];
     port_state::floats_into(&x, out, 0);
     let c = h.cursor;
     out[2] = c as u32;
+    out[3] = h.segment;
+}
+
+fn found_into(f: Found, out: &mut [u32])
+    requires { ⌜ 2 ≤ length (now out) ⌝ }
+    ensures { λ r. ⌜ now (out .exit) ≡ foundInto f (now (out .entry)) ⌝ }
+{
+    let x = [f.value];
+    port_state::floats_into(&x, out, 0);
+    out[1] = f.segment;
 }
 
 fn reading_into(r: Reading, out: &mut [u32])
-    requires { ⌜ 2 ≤ length (now out) ⌝ }
+    requires { ⌜ 3 ≤ length (now out) ⌝ }
     ensures { λ e. ⌜ now (out .exit) ≡ readingInto r (now (out .entry)) ⌝ }
 {
     let x = [readings::value(r)];
     port_state::floats_into(&x, out, 1);
     out[0] = readings::kind(r);
+    out[2] = readings::segment_number(r);
 }
 
 fn layer_into(a: LayerNumber, out: &mut [u32]) -> u32
@@ -44,7 +56,7 @@ fn layer_into(a: LayerNumber, out: &mut [u32]) -> u32
     }
 }
 
-// state STATE_WORDS words; out: hp, ht, cursor
+// state STATE_WORDS words; out: hp, ht, cursor, segment
 #[no_mangle]
 pub extern "C" fn port_gethp(state: &[u32], fxx: u32, out: &mut [u32]) -> u32
     ensures { λ r. ⌜ (r ≡ gethpLeft (now (state .entry)) fxx (now (out .entry)) .number) × (now (out .exit) ≡ gethpLeft (now (state .entry)) fxx (now (out .entry)) .words) ⌝ }
@@ -52,7 +64,7 @@ pub extern "C" fn port_gethp(state: &[u32], fxx: u32, out: &mut [u32]) -> u32
     if state.len() < STATE_WORDS {
         return 1;
     }
-    if out.len() < 3 {
+    if out.len() < 4 {
         return 1;
     }
     let s = port_state::state_of(state);
@@ -70,7 +82,7 @@ pub extern "C" fn port_gethp_scan(state: &[u32], fxx: u32, out: &mut [u32]) -> u
     if state.len() < STATE_WORDS {
         return 1;
     }
-    if out.len() < 3 {
+    if out.len() < 4 {
         return 1;
     }
     let s = port_state::state_of(state);
@@ -80,7 +92,7 @@ pub extern "C" fn port_gethp_scan(state: &[u32], fxx: u32, out: &mut [u32]) -> u
     0
 }
 
-// the density at the height zi, by a scan; out: the kind (floor 0, segment 1, top 2), the density
+// the density at the height zi, by a scan; out: the kind (floor 0, segment 1, top 2), the density, the segment
 #[no_mangle]
 pub extern "C" fn port_reading(state: &[u32], zi: u32, out: &mut [u32]) -> u32
     ensures { λ r. ⌜ (r ≡ readingLeft (now (state .entry)) zi (now (out .entry)) .number) × (now (out .exit) ≡ readingLeft (now (state .entry)) zi (now (out .entry)) .words) ⌝ }
@@ -88,7 +100,7 @@ pub extern "C" fn port_reading(state: &[u32], zi: u32, out: &mut [u32]) -> u32
     if state.len() < STATE_WORDS {
         return 1;
     }
-    if out.len() < 2 {
+    if out.len() < 3 {
         return 1;
     }
     let s = port_state::state_of(state);
@@ -133,7 +145,7 @@ pub extern "C" fn port_pen(state: &[u32], i: u32, k: u32, f: u32, out: &mut [u32
     layer_into(a, out)
 }
 
-// xn and yn 50 words each; out: the value
+// xn and yn 50 words each; out: the value, the segment
 #[no_mangle]
 pub extern "C" fn port_xlin(x: u32, xn: &[u32], yn: &[u32], out: &mut [u32]) -> u32
     ensures { λ r. ⌜ (r ≡ xlinLeft x (now (xn .entry)) (now (yn .entry)) (now (out .entry)) .number) × (now (out .exit) ≡ xlinLeft x (now (xn .entry)) (now (yn .entry)) (now (out .entry)) .words) ⌝ }
@@ -144,13 +156,13 @@ pub extern "C" fn port_xlin(x: u32, xn: &[u32], yn: &[u32], out: &mut [u32]) -> 
     if yn.len() < 50 {
         return 1;
     }
-    if out.len() < 1 {
+    if out.len() < 2 {
         return 1;
     }
     let at = scalar::number(x);
     let xs = port_state::floats_50(xn, 0);
     let ys = port_state::floats_50(yn, 0);
-    let v = [heights::xlin(at, &xs, &ys)];
-    port_state::floats_into(&v, out, 0);
+    let f = heights::xlin(at, &xs, &ys);
+    found_into(f, out);
     0
 }

@@ -16,32 +16,32 @@ use Rattle.port_ionogram.proofs.Rooms.{room, too-many, too-short}
 
 -- ---- the reflectrix
 
-pub fobby-answered : (ion : List ℕ) (nang : ℕ) (cells : List ℕ) → 120 ≤ length ion → nang ≤ 40 → 30 * nang ≤ length cells
+pub fobby-answered : (ion : List ℕ) (nang : ℕ) (cells : List ℕ) → 150 ≤ length ion → nang ≤ 40 → 30 * nang ≤ length cells
     → _≡_ {A = Ported} (portFobby ion nang cells) (record { number = 0; words = cellsInto cells (cellsAfter (ionogramOf ion) nang (cellsOf cells (30 * nang))) })
 unfolding portFobby fobbyOutcome
-fobby-answered ion nang cells long few h = rw (le-ltb (length ion) 120 long, room cells nang few h)
+fobby-answered ion nang cells long few h = rw (le-ltb (length ion) 150 long, room cells nang few h)
 
-pub fobby-many : (ion : List ℕ) (nang : ℕ) (cells : List ℕ) → 120 ≤ length ion → 40 < nang → portFobby ion nang cells ≡ refusedWith Refusal.Reflectrix cells
+pub fobby-many : (ion : List ℕ) (nang : ℕ) (cells : List ℕ) → 150 ≤ length ion → 40 < nang → portFobby ion nang cells ≡ refusedWith Refusal.Reflectrix cells
 unfolding portFobby fobbyOutcome
-fobby-many ion nang cells long many = rw (le-ltb (length ion) 120 long, too-many (cellsOf cells (30 * nang)) nang many)
+fobby-many ion nang cells long many = rw (le-ltb (length ion) 150 long, too-many (cellsOf cells (30 * nang)) nang many)
 
-pub fobby-short : (ion : List ℕ) (nang : ℕ) (cells : List ℕ) → 120 ≤ length ion → nang ≤ 40 → length cells < 30 * nang → portFobby ion nang cells ≡ refusedWith Refusal.Reflectrix cells
+pub fobby-short : (ion : List ℕ) (nang : ℕ) (cells : List ℕ) → 150 ≤ length ion → nang ≤ 40 → length cells < 30 * nang → portFobby ion nang cells ≡ refusedWith Refusal.Reflectrix cells
 unfolding portFobby fobbyOutcome
-fobby-short ion nang cells long few h = rw (le-ltb (length ion) 120 long, too-short cells nang few h)
+fobby-short ion nang cells long few h = rw (le-ltb (length ion) 150 long, too-short cells nang few h)
 
 -- ---- the slot sheet
 
 module _ (state : List ℕ) (k nang : ℕ) (layers cells out : List ℕ) where
-  module _ (ls : stateWords ≤ length state) (ll : 44 ≤ length layers) (lo : 120 ≤ length out) where
+  module _ (ls : stateWords ≤ length state) (ll : 44 ≤ length layers) (lo : 150 ≤ length out) where
     -- past the lengths the outcome decides
     pub sheet-refused : (r : Refusal) → sheetOn state k nang layers cells .outcome ≡ Outcome.Refused r → portSheet state k nang layers cells out ≡ refusedSheet r state cells out
     unfolding portSheet
-    sheet-refused r e = rw (le-ltb (length state) stateWords ls, le-ltb (length layers) 44 ll, le-ltb (length out) 120 lo, e)
+    sheet-refused r e = rw (le-ltb (length state) stateWords ls, le-ltb (length layers) 44 ll, le-ltb (length out) 150 lo, e)
 
     pub sheet-answered : sheetOn state k nang layers cells .outcome ≡ Outcome.Answered
         → _≡_ {A = PortedSheet} (portSheet state k nang layers cells out) (record { number = 0; state = stateInto (sheetOn state k nang layers cells .state) state; cells = cellsInto cells (sheetCellsOn state k nang cells); out = ionogramInto (sheetOn state k nang layers cells .ion) out })
     unfolding portSheet
-    sheet-answered e = rw (le-ltb (length state) stateWords ls, le-ltb (length layers) 44 ll, le-ltb (length out) 120 lo, e)
+    sheet-answered e = rw (le-ltb (length state) stateWords ls, le-ltb (length layers) 44 ll, le-ltb (length out) 150 lo, e)
 
   pub slot-above : 2 < k → sheetOn state k nang layers cells .outcome ≡ Outcome.Refused Refusal.SlotNumber
   unfolding sheetOn slotSheetWith

@@ -57,11 +57,11 @@ unfoldable pub rowsInto : IonogramAnswer → List ℕ → Ported
 rowsInto a w = rowsBy (a .outcome) (a .ion) w
 
 unfoldable pub portGenion : List ℕ → ℕ → List ℕ → Ported
-portGenion state k out = unlessShort (short state stateWords || short out 120) out (rowsInto (genionAnswer (stateOf state) k) out)
+portGenion state k out = unlessShort (short state stateWords || short out 150) out (rowsInto (genionAnswer (stateOf state) k) out)
 
 unfoldable pub portAlosfv : List ℕ → ℕ → List ℕ → List ℕ → Ported
 portAlosfv state k ion layers =
-    unlessShort (short state stateWords || short ion 120 || short layers 44) ion
+    unlessShort (short state stateWords || short ion 150 || short layers 44) ion
     (rowsInto (alosfvAnswer (stateOf state) k (ionogramOf ion) (linesOf layers)) ion)
 
 -- ---- the reflectrix: thirty cells an angle, or as many as are lent
@@ -73,7 +73,7 @@ cellsBy (Outcome.Refused r) c w = refusedWith r w
 unfoldable pub portFobby : List ℕ → ℕ → List ℕ → Ported
 portFobby ion nang cells =
     let c = cellsOf cells (30 * nang) in
-    unlessShort (short ion 120) cells (cellsBy (fobbyOutcome nang c) (cellsAfter (ionogramOf ion) nang c) cells)
+    unlessShort (short ion 150) cells (cellsBy (fobbyOutcome nang c) (cellsAfter (ionogramOf ion) nang c) cells)
 
 -- ---- the slot sheet
 
@@ -106,5 +106,5 @@ sheetCellsOn state k nang cells = sheetCellsOf (stateOf state) k nang (cellsOf c
 
 unfoldable pub portSheet : List ℕ → ℕ → ℕ → List ℕ → List ℕ → List ℕ → PortedSheet
 portSheet state k nang layers cells out =
-    sheetUnlessShort (short state stateWords || short layers 44 || short out 120) state cells out
+    sheetUnlessShort (short state stateWords || short layers 44 || short out 150) state cells out
     (sheetInto (sheetOn state k nang layers cells) (sheetCellsOn state k nang cells) state cells out)

@@ -63,7 +63,7 @@ pub extern "C" fn port_selmod(state: &[u32], out: &mut [u32]) -> u32
 }
 
 fn rows_into(a: IonogramAnswer, w: &mut [u32]) -> u32
-    requires { ⌜ 120 ≤ length (now w) ⌝ }
+    requires { ⌜ 150 ≤ length (now w) ⌝ }
     ensures { λ r. ⌜ (r ≡ rowsInto a (now (w .entry)) .number) × (now (w .exit) ≡ rowsInto a (now (w .entry)) .words) ⌝ }
 {
     let o = a.outcome;
@@ -77,7 +77,7 @@ fn rows_into(a: IonogramAnswer, w: &mut [u32]) -> u32
     }
 }
 
-// state STATE_WORDS words; out 120: fvert, hprim, htrue, afac
+// state STATE_WORDS words; out 150: fvert, hprim, htrue, afac, segment
 #[no_mangle]
 pub extern "C" fn port_genion(state: &[u32], k: u32, out: &mut [u32]) -> u32
     ensures { λ r. ⌜ (r ≡ portGenion (now (state .entry)) k (now (out .entry)) .number) × (now (out .exit) ≡ portGenion (now (state .entry)) k (now (out .entry)) .words) ⌝ }
@@ -85,7 +85,7 @@ pub extern "C" fn port_genion(state: &[u32], k: u32, out: &mut [u32]) -> u32
     if state.len() < STATE_WORDS {
         return 1;
     }
-    if out.len() < 120 {
+    if out.len() < 150 {
         return 1;
     }
     let s = port_state::state_of(state);
@@ -93,7 +93,7 @@ pub extern "C" fn port_genion(state: &[u32], k: u32, out: &mut [u32]) -> u32
     rows_into(a, out)
 }
 
-// state STATE_WORDS words, ion 120 as `port_genion` leaves them, layers 44
+// state STATE_WORDS words, ion 150 as `port_genion` leaves them, layers 44
 #[no_mangle]
 pub extern "C" fn port_alosfv(state: &[u32], k: u32, ion: &mut [u32], layers: &[u32]) -> u32
     ensures { λ r. ⌜ (r ≡ portAlosfv (now (state .entry)) k (now (ion .entry)) (now (layers .entry)) .number) × (now (ion .exit) ≡ portAlosfv (now (state .entry)) k (now (ion .entry)) (now (layers .entry)) .words) ⌝ }
@@ -101,7 +101,7 @@ pub extern "C" fn port_alosfv(state: &[u32], k: u32, ion: &mut [u32], layers: &[
     if state.len() < STATE_WORDS {
         return 1;
     }
-    if ion.len() < 120 {
+    if ion.len() < 150 {
         return 1;
     }
     if layers.len() < 44 {
@@ -124,12 +124,12 @@ fn fobby_by(ion: Ionogram, nang: usize, c: &mut [i32], cells: &mut [u32])
     port_layouts::cells_into(c, cells);
 }
 
-// ion 120 words; cells: 30 words an angle
+// ion 150 words; cells: 30 words an angle
 #[no_mangle]
 pub extern "C" fn port_fobby(ion: &[u32], nang: u32, cells: &mut [u32]) -> u32
     ensures { λ r. ⌜ (r ≡ portFobby (now (ion .entry)) nang (now (cells .entry)) .number) × (now (cells .exit) ≡ portFobby (now (ion .entry)) nang (now (cells .entry)) .words) ⌝ }
 {
-    if ion.len() < 120 {
+    if ion.len() < 150 {
         return 1;
     }
     if nang > 40 {
@@ -172,7 +172,7 @@ fn sheet_into(
     cells: &mut [u32],
     out: &mut [u32],
 )
-    requires { ⌜ (stateWords ≤ length (now state)) × (44 ≤ length (now layers)) × (120 ≤ length (now out)) × (nang ≤ 40) × (30 * nang ≤ length (now cells)) ⌝ }
+    requires { ⌜ (stateWords ≤ length (now state)) × (44 ≤ length (now layers)) × (150 ≤ length (now out)) × (nang ≤ 40) × (30 * nang ≤ length (now cells)) ⌝ }
     ensures { λ _. ⌜ (now (state .exit) ≡ stateInto (sheetOn (now (state .entry)) k nang (now (layers .entry)) (now (cells .entry)) .state) (now (state .entry)))
         × (now (cells .exit) ≡ cellsInto (now (cells .entry)) (sheetCellsOn (now (state .entry)) k nang (now (cells .entry))))
         × (now (out .exit) ≡ ionogramInto (sheetOn (now (state .entry)) k nang (now (layers .entry)) (now (cells .entry)) .ion) (now (out .entry))) ⌝ }
@@ -188,7 +188,7 @@ fn sheet_into(
     port_layouts::ionogram_into(ion, out);
 }
 
-// state STATE_WORDS words, layers 44; cells: 30 words an angle; out 120: fvert, hprim, htrue, afac
+// state STATE_WORDS words, layers 44; cells: 30 words an angle; out 150: fvert, hprim, htrue, afac, segment
 #[no_mangle]
 pub extern "C" fn port_sheet(
     state: &mut [u32],
@@ -209,7 +209,7 @@ pub extern "C" fn port_sheet(
     if layers.len() < 44 {
         return 1;
     }
-    if out.len() < 120 {
+    if out.len() < 150 {
         return 1;
     }
     if k > 2 {

@@ -4,6 +4,7 @@ use Prim.Native.Nat.{ℕ, _+_}
 use lib.IntN.{ℤ}
 use lib.ListN.{length, take, drop}
 use lib.Ieee.{Float, binary32, ofBits}
+use Rattle.port_circuit.specs.Words.{wordsOf, wordsInto}
 use Rattle.port_state.specs.Words.{word, floatsOf, floatsInto, signedOf, wordOf}
 use Rattle.layers.specs.declared.LayerMuf.{LayerMuf}
 use Rattle.reflectrix.specs.declared.Ionogram.{Ionogram}
@@ -16,13 +17,13 @@ cellsOf w n = map signedOf (take n w)
 unfoldable pub cellsInto : List ℕ → List ℤ → List ℕ
 cellsInto w c = map wordOf c ++ drop (length c) w
 
--- 120 words: fvert, hprim, htrue, afac
+-- 150 words: fvert, hprim, htrue, afac, segment
 unfoldable pub ionogramOf : List ℕ → Ionogram
-ionogramOf w = record { fvert = floatsOf w 0 30; hprim = floatsOf w 30 30; htrue = floatsOf w 60 30; afac = floatsOf w 90 30 }
+ionogramOf w = record { fvert = floatsOf w 0 30; hprim = floatsOf w 30 30; htrue = floatsOf w 60 30; afac = floatsOf w 90 30; segment = wordsOf w 120 30 }
 
--- words past the 120 stay
+-- words past the 150 stay
 unfoldable pub ionogramInto : Ionogram → List ℕ → List ℕ
-ionogramInto ion w = floatsInto (floatsInto (floatsInto (floatsInto w 0 (ion .fvert)) 30 (ion .hprim)) 60 (ion .htrue)) 90 (ion .afac)
+ionogramInto ion w = wordsInto (floatsInto (floatsInto (floatsInto (floatsInto w 0 (ion .fvert)) 30 (ion .hprim)) 60 (ion .htrue)) 90 (ion .afac)) 120 (ion .segment)
 
 abbrev pub number : List ℕ → ℕ → Float
 number w i = ofBits binary32 (word w i)

@@ -3,6 +3,7 @@ ghost use mathlib.Core.Path.{_≡_};
 ghost use Prim.Native.Nat.{_+_, _≤_};
 ghost use lib.ListN.{length};
 ghost use denote.Ref.{now};
+ghost use Rattle.port_circuit.specs.Words.{wordsOf, wordsInto};
 ghost use Rattle.port_state.specs.Words.{floatsOf, floatsInto};
 ghost use Rattle.port_layouts.specs.Layouts.{cellsOf, cellsInto, ionogramOf, ionogramInto, lineOf, linesOf};
 use layers::LayerMuf;
@@ -45,34 +46,54 @@ fn floats_30_into(x: [f32; 30], w: &mut [u32], from: usize)
     port_state::floats_into(&x, w, from);
 }
 
+fn words_30(w: &[u32], from: usize) -> [u32; 30]
+    requires { ⌜ from + 30 ≤ length (now w) ⌝ }
+    ensures { λ r. ⌜ r ≡ wordsOf (now (w .entry)) from 30 ⌝ }
+{
+    let mut x = [0u32; 30];
+    port_circuit::words_of(w, from, &mut x);
+    x
+}
+
+fn words_30_into(x: [u32; 30], w: &mut [u32], from: usize)
+    requires { ⌜ from + 30 ≤ length (now w) ⌝ }
+    ensures { λ _. ⌜ now (w .exit) ≡ wordsInto (now (w .entry)) from x ⌝ }
+{
+    port_circuit::words_into(&x, w, from);
+}
+
 pub fn ionogram_of(w: &[u32]) -> Ionogram
-    requires { ⌜ 120 ≤ length (now w) ⌝ }
+    requires { ⌜ 150 ≤ length (now w) ⌝ }
     ensures { λ r. ⌜ r ≡ ionogramOf (now (w .entry)) ⌝ }
 {
     let fvert = floats_30(w, 0);
     let hprim = floats_30(w, 30);
     let htrue = floats_30(w, 60);
     let afac = floats_30(w, 90);
+    let segment = words_30(w, 120);
     Ionogram {
         fvert,
         hprim,
         htrue,
         afac,
+        segment,
     }
 }
 
 pub fn ionogram_into(ion: Ionogram, w: &mut [u32])
-    requires { ⌜ 120 ≤ length (now w) ⌝ }
+    requires { ⌜ 150 ≤ length (now w) ⌝ }
     ensures { λ _. ⌜ now (w .exit) ≡ ionogramInto ion (now (w .entry)) ⌝ }
 {
     let fvert = ion.fvert;
     let hprim = ion.hprim;
     let htrue = ion.htrue;
     let afac = ion.afac;
+    let segment = ion.segment;
     floats_30_into(fvert, w, 0);
     floats_30_into(hprim, w, 30);
     floats_30_into(htrue, w, 60);
     floats_30_into(afac, w, 90);
+    words_30_into(segment, w, 120);
 }
 
 fn line_of(w: &[u32], i: usize) -> LayerMuf

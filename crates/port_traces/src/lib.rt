@@ -97,7 +97,7 @@ fn trace_into(t: TraceAnswer, khz: &mut [u32], height: &mut [u32]) -> u32
     }
 }
 
-// rows: fvert and hprim of thirty rows, 60 words, of which an ionogram's 120 begin; khz and height: 30 words each.
+// rows: fvert and hprim of thirty rows, 60 words, with which an ionogram's 150 begin; khz and height: 30 words each.
 #[no_mangle]
 pub extern "C" fn port_trace(rows: &[u32], khz: &mut [u32], height: &mut [u32]) -> u32
     ensures { λ r. ⌜ r ≡ portTrace (now (rows .entry)) (now (khz .entry)) (now (height .entry)) .number ⌝ }

@@ -38,7 +38,7 @@ climbOf htr zi ih = climbFrom htr zi (49 - ih) ih
 
 -- the reading where the cursor stops
 abbrev pub stoppedBy : Bool → List Float → List Float → Float → ℕ → Reading
-stoppedBy true htr fnsq zi ih = Segment (interpolated (at htr ih) (at htr (ih + 1)) (at fnsq ih) (at fnsq (ih + 1)) zi)
+stoppedBy true htr fnsq zi ih = Segment (interpolated (at htr ih) (at htr (ih + 1)) (at fnsq ih) (at fnsq (ih + 1)) zi) ih
 stoppedBy false htr fnsq zi ih = Top (at fnsq 49)
 
 abbrev pub stoppedAt : List Float → List Float → Float → ℕ → Reading

@@ -2,7 +2,7 @@
 // heights rise, on from the segment at which the last read stopped.
 ghost use mathlib.Core.Path.{_≡_};
 ghost use denote.Ref.{now};
-ghost use Rattle.readings.specs.Scan.{segmentOf, heldOf, hitValue, scanOf, valueOf, kindOf, profileInterpolateOf, readingOf};
+ghost use Rattle.readings.specs.Scan.{segmentOf, heldOf, hitValue, scanOf, valueOf, kindOf, segmentNumber, foundOf, readingOf};
 ghost use Rattle.readings.specs.Cursor.{climbOf, readOnOf};
 
 // What one segment has for a probe.
@@ -59,10 +59,11 @@ pub fn hit_value(h: Hit) -> f32
     }
 }
 
-// A density read, with its number: at or below the floor, on a segment, or above all of them.
+// A density read, with its number: at or below the floor, on a segment, whose own number stands
+// beside it, or above all of them.
 pub enum Reading {
     Floor(f32),
-    Segment(f32),
+    Segment(f32, u32),
     Top(f32),
 }
 
@@ -71,7 +72,7 @@ pub fn value(r: Reading) -> f32
 {
     match r {
         Reading::Floor(v) => v,
-        Reading::Segment(v) => v,
+        Reading::Segment(v, _) => v,
         Reading::Top(v) => v,
     }
 }
@@ -81,8 +82,19 @@ pub fn kind(r: Reading) -> u32
 {
     match r {
         Reading::Floor(_) => 0,
-        Reading::Segment(_) => 1,
+        Reading::Segment(_, _) => 1,
         Reading::Top(_) => 2,
+    }
+}
+
+// The segment of a reading, from 0: the lower of its two nodes' numbers.
+pub fn segment_number(r: Reading) -> u32
+    ensures { λ n. ⌜ n ≡ segmentNumber r ⌝ }
+{
+    match r {
+        Reading::Floor(_) => 0,
+        Reading::Segment(_, n) => n,
+        Reading::Top(_) => 49,
     }
 }
 
@@ -93,7 +105,7 @@ pub fn scan(from: &[f32; 50], to: &[f32; 50], probe: f32) -> Reading
     for ih in 0..49 {
         let next = ih + 1;
         match segment(from[ih], from[next], to[ih], to[next], probe) {
-            Hit::At(v) => return Reading::Segment(v),
+            Hit::At(v) => return Reading::Segment(v, ih as u32),
             Hit::Miss => {}
         }
     }
@@ -101,10 +113,20 @@ pub fn scan(from: &[f32; 50], to: &[f32; 50], probe: f32) -> Reading
     Reading::Top(top)
 }
 
-pub fn profile_interpolate(from: &[f32; 50], to: &[f32; 50], probe: f32) -> f32
-    ensures { λ r. ⌜ r ≡ profileInterpolateOf (now (from .entry)) (now (to .entry)) probe ⌝ }
+// A number found by a search, and the segment that it was found on.
+pub struct Found {
+    pub value: f32,
+    pub segment: u32,
+}
+
+pub fn profile_interpolate(from: &[f32; 50], to: &[f32; 50], probe: f32) -> Found
+    ensures { λ r. ⌜ r ≡ foundOf (now (from .entry)) (now (to .entry)) probe ⌝ }
 {
-    value(scan(from, to, probe))
+    let r = scan(from, to, probe);
+    Found {
+        value: value(r),
+        segment: segment_number(r),
+    }
 }
 
 // The density at the height `zi`, by a full scan.
@@ -156,7 +178,7 @@ pub fn read_on(htr: &[f32; 50], fnsq: &[f32; 50], zi: f32, ih: usize) -> Read
         let next = on + 1;
         let line = fnsq[on] + (zi - htr[on]) * (fnsq[next] - fnsq[on]) / (htr[next] - htr[on]);
         return Read {
-            reading: Reading::Segment(line),
+            reading: Reading::Segment(line, on as u32),
             cursor: on,
         };
     }

@@ -24,9 +24,11 @@ pub struct Ionogram {
     pub htrue: [f32; 30],
     // the factor of its deviative loss
     pub afac: [f32; 30],
+    // the segment of the profile on which its true height was found; 50 where nothing was sought
+    pub segment: [u32; 30],
 }
 
-// Every number +0: what stands beside a refusal.
+// Every number 0: what stands beside a refusal.
 pub fn no_rows() -> Ionogram
     ensures { λ r. ⌜ r ≡ noRows ⌝ }
 {
@@ -35,6 +37,7 @@ pub fn no_rows() -> Ionogram
         hprim: [0.0; 30],
         htrue: [0.0; 30],
         afac: [0.0; 30],
+        segment: [0; 30],
     }
 }
 

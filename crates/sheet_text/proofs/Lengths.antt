@@ -1,4 +1,4 @@
--- A sheet, of at most three slots, has at most 3,633 bytes: a row has at most 39, two digits, four numbers of nine bytes and the line feed.
+-- A sheet, of at most three slots, has at most 5,523 bytes: a row has at most 60, two digits, four numbers of nine bytes, a number of at most 20 digits after its space, whatever the segment is, and the line feed.
 use mathlib.Core.List.{List, [], _∷_}
 use Prim.Native.Nat.{ℕ, _+_, _≤_, _<_}
 use native.Mathlib.Omega.{arith}
@@ -38,17 +38,17 @@ row-fields : (ion : Ionogram) (i : ℕ) → AtMost (rowFields ion i) 36
 unfolding rowFields
 row-fields ion i = bits (at (ion .fvert) i) then bits (at (ion .htrue) i) then bits (at (ion .hprim) i) then bits (at (ion .afac) i)
 
-row : (ion : Ionogram) (i : ℕ) → i < 30 → AtMost (rowLine ion i) 39
+row : (ion : Ionogram) (i : ℕ) → i < 30 → AtMost (rowLine ion i) 60
 unfolding rowLine
-row ion i h = digits-below 1 (i + 1) (omega arith) then row-fields ion i then line-feed
+row ion i h = digits-below 1 (i + 1) (omega arith) then row-fields ion i then field (getD (ion .segment) i 0) then line-feed
 
-slot : (ion : Ionogram) (k : ℕ) → k < 3 → AtMost (slotText ion k) 1177
+slot : (ion : Ionogram) (k : ℕ) → k < 3 → AtMost (slotText ion k) 1807
 unfolding slotText slotLine
-slot ion k h = (word slotWord then digits-below 0 k (omega arith) then line-feed) then times (rowLine ion) 39 30 (row ion)
+slot ion k h = (word slotWord then digits-below 0 k (omega arith) then line-feed) then times (rowLine ion) 60 30 (row ion)
 
-pub answered-most : (s : Sheet) → s .slots ≤ 3 → AtMost (answeredText s) 3633
+pub answered-most : (s : Sheet) → s .slots ≤ 3 → AtMost (answeredText s) 5523
 unfolding answeredText
 answered-most s h =
-    let slots = times (slotAt (s .rows)) 1177 (s .slots) (λ k l. slot (getD (s .rows) k noIonogram) k (omega arith)) in
+    let slots = times (slotAt (s .rows)) 1807 (s .slots) (λ k l. slot (getD (s .rows) k noIonogram) k (omega arith)) in
     let t = muf-line (s .hour) then call-line (s .hour) then slots in
     record { most = omega (arith, t .most) }

@@ -49,8 +49,9 @@ callLine h = callWord ++ (figureText (figureOf (h .allmuf)) ++ (lineFeed ∷ [])
 unfoldable pub rowFields : Ionogram → ℕ → List ℕ
 rowFields ion i = bitsField (at (ion .fvert) i) ++ (bitsField (at (ion .htrue) i) ++ (bitsField (at (ion .hprim) i) ++ bitsField (at (ion .afac) i)))
 
+-- last in its row: the segment of the true height, in decimal
 unfoldable pub rowLine : Ionogram → ℕ → List ℕ
-rowLine ion i = decimalOf (i + 1) ++ (rowFields ion i ++ (lineFeed ∷ []))
+rowLine ion i = decimalOf (i + 1) ++ (rowFields ion i ++ (fieldOf (getD (ion .segment) i 0) ++ (lineFeed ∷ [])))
 
 unfoldable pub slotLine : ℕ → List ℕ
 slotLine k = slotWord ++ (decimalOf k ++ (lineFeed ∷ []))
@@ -60,7 +61,7 @@ slotText ion k = slotLine k ++ joined (rowLine ion) 30
 
 -- past the end, where no code reads
 abbrev pub noIonogram : Ionogram
-noIonogram = record { fvert = []; hprim = []; htrue = []; afac = [] }
+noIonogram = record { fvert = []; hprim = []; htrue = []; afac = []; segment = [] }
 
 abbrev pub slotAt : List Ionogram → ℕ → List ℕ
 slotAt rows k = slotText (getD rows k noIonogram) k

@@ -74,7 +74,8 @@ fn put_row(out: &mut [u8], at: usize, ion: Ionogram, i: usize) -> usize
     let n = i + 1;
     let a = lines::put_decimal(out, at, n as u64);
     let b = put_numbers(out, a, ion, i);
-    lines::put_byte(out, b, b'\n')
+    let c = lines::put_field(out, b, ion.segment[i] as u64);
+    lines::put_byte(out, c, b'\n')
 }
 
 fn put_rows(out: &mut [u8], at: usize, ion: Ionogram) -> usize

@@ -1,4 +1,4 @@
--- A row takes from `gethp` its two heights only: two ways of finding heights that agree on a state give it the same rows.
+-- A row takes from `gethp` its two heights and its segment only: two ways of finding heights that agree on a state give it the same rows.
 use mathlib.Core.Bool.{Bool, true, false}
 use mathlib.Core.List.{List}
 use mathlib.Core.Path.{_≡_, refl}
@@ -13,7 +13,7 @@ use Rattle.heights.proofs.Finders.{Agree, scans-agree}
 use Rattle.sounding.specs.Genion.{rowsOf, virtualBy, rowsBy, rowsWith, fvertAt, genionWith, genionOf}
 
 -- rows by two functions that agree at every frequency
-pub rows-agree : (row other : Float → Float) → ((f : Float) → row f ≡ other f) → (fv : List Float) (first : ℕ) (out : List Float) (n : ℕ) → rowsOf row fv first out n ≡ rowsOf other fv first out n
+pub rows-agree : {A : Type 0} (row other : Float → A) → ((f : Float) → row f ≡ other f) → (fv : List Float) (first : ℕ) (out : List A) (n : ℕ) → rowsOf row fv first out n ≡ rowsOf other fv first out n
 unfolding rowsOf
 rows-agree row other e fv first out zero = refl
 rows-agree row other e fv first out (suc n) = rw (rows-agree row other e fv first out n, e (at fv (first + n)))
@@ -25,7 +25,7 @@ module _ (find other : Finder) (s : IonoState) (agree : Agree find other s) wher
 
   by-shape : (b : Bool) (k : ℕ) (fv : List Float) → rowsBy b find s k fv ≡ rowsBy b other s k fv
   by-shape true k fv =
-      rw (rows-agree (λ f. find s f .hp) (λ f. other s f .hp) (λ f. agree f .0) fv 0 _ 30, rows-agree (λ f. find s f .ht) (λ f. other s f .ht) (λ f. agree f .1) fv 0 _ 30)
+      rw (rows-agree (λ f. find s f .hp) (λ f. other s f .hp) (λ f. agree f .0) fv 0 _ 30, rows-agree (λ f. find s f .ht) (λ f. other s f .ht) (λ f. agree f .1) fv 0 _ 30, rows-agree (λ f. find s f .segment) (λ f. other s f .segment) (λ f. agree f .2) fv 0 _ 30)
   by-shape false k fv =
       rw (rows-agree _ _ (virtual-agrees (at (s .fi) (3 * k + 1) >f f0) k) fv 10 _ 20)
 

@@ -132,7 +132,7 @@ fn differing_densities(a: [f32; 50], b: [f32; 50]) -> u64 {
     n
 }
 
-// 1 where any of the four numbers of row i differ.
+// 1 where any of the five numbers of row i differ.
 fn row_differs(a: Ionogram, b: Ionogram, i: usize) -> u64
     requires { ⌜ i < 30 ⌝ }
     ensures { λ r. ⌜ r ≤ 1 ⌝ }
@@ -147,6 +147,9 @@ fn row_differs(a: Ionogram, b: Ionogram, i: usize) -> u64
         return 1;
     }
     if !same(a.afac[i], b.afac[i]) {
+        return 1;
+    }
+    if a.segment[i] != b.segment[i] {
         return 1;
     }
     0

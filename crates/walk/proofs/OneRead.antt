@@ -14,7 +14,8 @@ use Rattle.scalar.specs.F32.{_-f_, at}
 use Rattle.scalar.specs.Literals.{f0}
 use Rattle.order.proofs.Tests.{nought-is, sub-lt, sub-le, sameInf, le-real, lt-real}
 use Rattle.order.proofs.Chains.{lt→le, le-lt, lt-le, lt-not-le, not-le-lt}
-use Rattle.readings.specs.Scan.{interpolated, hitIf, risingBy, segmentBy, segmentOf, orOn, scanFrom, readingBy, readingOf}
+use borrow.Author.Tests.{ltb-false}
+use Rattle.readings.specs.Scan.{segmentNumber, interpolated, hitIf, risingBy, segmentBy, segmentOf, orOn, scanFrom, readingBy, readingOf}
 use Rattle.readings.specs.Cursor.{countOf, stoppedBy, stoppedAt, readOnBy, readOnOf}
 use Rattle.readings.specs.declared.Hit.{Hit}
 use Rattle.readings.specs.declared.Hit.the-variants.{At, Miss}
@@ -83,16 +84,16 @@ scan-reads htr fnsq z c H F r s (suc n) i e h = elim (eq-or-lt-of-le h) [ inl x 
     inside : i < 49
     inside = omega arith
 
-    here : i ≡ c → orOn (segmentOf (at htr i) (at htr (i + 1)) (at fnsq i) (at fnsq (i + 1)) z) (scanFrom htr fnsq z n (i + 1)) ≡ stoppedAt htr fnsq z c
+    here : i ≡ c → orOn (segmentOf (at htr i) (at htr (i + 1)) (at fnsq i) (at fnsq (i + 1)) z) i (scanFrom htr fnsq z n (i + 1)) ≡ stoppedAt htr fnsq z c
     here x =
-        ap (λ (o : Hit). orOn o (scanFrom htr fnsq z n (i + 1)))
+        ap (λ (o : Hit). orOn o i (scanFrom htr fnsq z n (i + 1)))
         (held (at htr i) (at htr (i + 1)) (at fnsq i) (at fnsq (i + 1)) z (H i) (H (i + 1)) F (r i inside) (subst (λ (k : ℕ). T (not (le (at htr (k + 1)) z))) (sym x) (s .stop (le-trans (le-of-eq (ap suc (sym x))) inside))))
         ∙ ap (λ (b : Bool). stoppedBy b htr fnsq z i) (sym (is-true (ltb i 49) (lt→ltb i 49 inside)))
         ∙ ap (stoppedAt htr fnsq z) x
 
-    on : i < c → scanFrom htr fnsq z n (i + 1) ≡ stoppedAt htr fnsq z c → orOn (segmentOf (at htr i) (at htr (i + 1)) (at fnsq i) (at fnsq (i + 1)) z) (scanFrom htr fnsq z n (i + 1)) ≡ stoppedAt htr fnsq z c
+    on : i < c → scanFrom htr fnsq z n (i + 1) ≡ stoppedAt htr fnsq z c → orOn (segmentOf (at htr i) (at htr (i + 1)) (at fnsq i) (at fnsq (i + 1)) z) i (scanFrom htr fnsq z n (i + 1)) ≡ stoppedAt htr fnsq z c
     on l more =
-        ap (λ (o : Hit). orOn o (scanFrom htr fnsq z n (i + 1)))
+        ap (λ (o : Hit). orOn o i (scanFrom htr fnsq z n (i + 1)))
         (missed (at htr i) (at htr (i + 1)) (at fnsq i) (at fnsq (i + 1)) z (H i) (H (i + 1)) F (r i inside) (s .past i zero-le l))
         ∙ more
 
@@ -129,3 +130,22 @@ read-is-scan htr fnsq z i H F r h = go (le (z -f at htr 0) f0) (λ t. floor-none
     go false f =
         ap (λ (k : ℕ). mk (stoppedAt htr fnsq z k) k) (climb-finds htr z (countOf htr z) s (49 - i) i (left (countOf htr z) h (s .upto)) h)
         ∙ ap (λ (o : Reading). mk o (countOf htr z)) (sym (scan-reads htr fnsq z (countOf htr z) H F r s 49 0 refl zero-le))
+
+-- the segment of a reading is where the cursor stops: the count of its height
+pub segment-counts : (htr fnsq : List Float) (z : Float) → Held htr → T (fits binary32 z) → Rising htr → segmentNumber (readingOf htr fnsq z) ≡ countOf htr z
+unfolding readingOf segmentNumber
+segment-counts htr fnsq z H F r = go (le (z -f at htr 0) f0) (λ t. floor-none htr z H F r t)
+  where
+    s : Stops htr z 49 0 (countOf htr z)
+    s = count-stops htr z H F r
+
+    stopped : (c : ℕ) → c ≤ 0 + 49 → (b : Bool) → ltb c 49 ≡ b → segmentNumber (stoppedBy b htr fnsq z c) ≡ c
+    stopped c h true e = refl
+    stopped c h false e = let k = ltb-false c 49 e in omega arith
+
+    none : (c : ℕ) → c ≤ 0 → 0 ≡ c
+    none c h = omega arith
+
+    go : (b : Bool) → (T b → countOf htr z ≤ 0) → segmentNumber (readingBy b htr fnsq z) ≡ countOf htr z
+    go true f = none (countOf htr z) (f tt)
+    go false f = ap segmentNumber (scan-reads htr fnsq z (countOf htr z) H F r s 49 0 refl zero-le) ∙ stopped (countOf htr z) (s .upto) (ltb (countOf htr z) 49) refl

@@ -67,7 +67,7 @@ const ANGLES: usize = 34;
 
 fn our_gethp(h: &Hourly) {
     for f in &h.rows.fvert {
-        let mut out = [0; 3];
+        let mut out = [0; 4];
         ours::port_gethp(&h.profile_words, f.to_bits(), &mut out);
         black_box(out);
     }

@@ -75,8 +75,8 @@ fn main() {
         let k = ours[KS] as usize;
         let ours = routed::side::sheet(&state, k, 34, &ours[KS + 1..]);
         let rust = voacap::side::sheet(&state, k, 34, &rust[KS + 1..]);
-        rows.numbers(&ours.1[..90], &rust.1[..90]);
-        losses.numbers(&ours.1[90..], &rust.1[90..]);
+        rows.numbers(&ours.1[..LOSSES], &rust.1[..LOSSES]);
+        losses.numbers(&ours.1[LOSSES..SEGMENT], &rust.1[LOSSES..SEGMENT]);
         cells.whole(&ours.2, &rust.2);
     }
     for histogram in [mufs, rows, losses, cells] {

@@ -6,21 +6,22 @@ use crate::{ours, predict, states};
 
 type Gethp = fn(&[u32], u32, &mut [u32]) -> u32;
 
-/// Both heights and the cursor: by the exact rule or not; by the walk where
-/// the heights rise, or always by scans.
+/// Both heights, the cursor and the segment: by the exact rule or not; by the walk where
+/// the heights
+/// rise, or always by scans.
 fn heights_read(r: &mut Random, exact: bool, walks: bool, ours: Gethp) -> Call {
     let state = states::any(r);
     let state = states::switched(r, state, exact);
     let fxx = states::frequency(r, &state);
-    let (given, out) = (resized(r, &state), room(r, 3));
-    let wanted = long_enough(&[(&given, STATE), (&out, 3)]).map(|()| {
-        let mut w = side::gethp(&state, fxx, walks && rises(&state)).to_vec();
-        w.push(if walks {
+    let (given, out) = (resized(r, &state), room(r, 4));
+    let wanted = long_enough(&[(&given, STATE), (&out, 4)]).map(|()| {
+        let [hp, ht, segment] = side::gethp(&state, fxx, walks && rises(&state));
+        let cursor = if walks {
             predict::cursor(&state, fxx)
         } else {
             0
-        });
-        w
+        };
+        vec![hp, ht, cursor, segment]
     });
     let fxx = fxx.to_bits();
     let lists = vec![("state", given.clone()), ("fxx", vec![fxx])];
@@ -35,7 +36,8 @@ pub fn gethp_scan<const EXACT: bool>(r: &mut Random) -> Call {
     heights_read(r, EXACT, false, ours::port_gethp_scan)
 }
 
-/// Rust's walk against Rust's scans, by bits.
+/// Rust's walk against Rust's scans, by bits: a frequency's heights, and a
+/// density read with its segment.
 pub fn rust_walk(r: &mut Random) -> Call {
     let mut state = states::any(r);
     while !rises(&state) {
@@ -44,31 +46,39 @@ pub fn rust_walk(r: &mut Random) -> Call {
     // With the switch on it has no walk where the exact rule runs.
     state[EXACT] = 0;
     let fxx = states::frequency(r, &state);
-    let walked = side::gethp(&state, fxx, true).to_vec();
-    let lists = vec![("state", state.to_vec()), ("fxx", vec![fxx.to_bits()])];
-    let scanned = Ok(side::gethp(&state, fxx, false).to_vec());
-    answering(lists, all_floats, vec![MARK; 2], scanned, |out| {
+    let zi = states::height(r, &state);
+    let both = |h: [u32; 3], d: [u32; 2]| vec![h[0], h[1], d[0], h[2], d[1]];
+    let walked = both(side::gethp(&state, fxx, true), side::walked(&state, zi));
+    let scanned = both(side::gethp(&state, fxx, false), side::reading(&state, zi));
+    let lists = vec![
+        ("state", state.to_vec()),
+        ("fxx, zi", vec![fxx.to_bits(), zi.to_bits()]),
+    ];
+    answering(lists, |i| i < 3, vec![MARK; 5], Ok(scanned), |out| {
         out.copy_from_slice(&walked);
         0
     })
 }
 
-/// The kind and the density, whose NaN is the one pattern.
+/// The kind, the density, whose NaN is the one pattern, and the segment: the
+/// index that the routed Rust notes, and the first that holds the read.
 pub fn reading(r: &mut Random) -> Call {
     let mut state = states::any(r);
     if r.once_in(3) {
         states::bend_heights(r, &mut state);
     }
     let zi = states::height(r, &state);
-    let (given, out) = (resized(r, &state), room(r, 2));
-    let wanted = long_enough(&[(&given, STATE), (&out, 2)]).map(|()| {
-        let density = side::reading(&state, zi);
+    let (given, out) = (resized(r, &state), room(r, 3));
+    let wanted = long_enough(&[(&given, STATE), (&out, 3)]).map(|()| {
+        let [density, noted] = side::reading(&state, zi);
+        let (kind, segment) = predict::kind(&state, zi);
+        assert_eq!(noted, segment, "the Rust's segment is not the paper's");
         let one_nan = if float::is_nan(density) {
             float::NAN
         } else {
             density
         };
-        vec![predict::kind(&state, zi), one_nan]
+        vec![kind, one_nan, segment]
     });
     let zi = zi.to_bits();
     let lists = vec![("state", given.clone()), ("zi", vec![zi])];
@@ -114,15 +124,15 @@ pub fn xlin(r: &mut Random) -> Call {
         _ => r.between(0.0, 1.0) * (xs[49] - xs[0]) + xs[0],
     };
     let (xn, yn) = (resized(r, &bits(&xs)), resized(r, &bits(&ys)));
-    let out = room(r, 1);
-    let wanted =
-        long_enough(&[(&xn, 50), (&yn, 50), (&out, 1)]).map(|()| vec![side::xlin(x, &xs, &ys)]);
+    let out = room(r, 2);
+    let wanted = long_enough(&[(&xn, 50), (&yn, 50), (&out, 2)])
+        .map(|()| side::xlin(x, &xs, &ys).to_vec());
     let lists = vec![
         ("x", vec![x.to_bits()]),
         ("xn", xn.clone()),
         ("yn", yn.clone()),
     ];
-    answering(lists, all_floats, out, wanted, |out| {
+    answering(lists, |i| i < 1, out, wanted, |out| {
         ours::port_xlin(x.to_bits(), &xn, &yn, out)
     })
 }

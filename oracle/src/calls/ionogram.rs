@@ -84,7 +84,7 @@ pub fn genion<const EXACT: bool>(r: &mut Random) -> Call {
         .and_then(|()| owner::answers(&state, k))
         .map(|()| side::genion(&state, k as usize));
     let lists = vec![("state", given.clone()), ("k", vec![k])];
-    answering(lists, all_floats, out, wanted, |out| {
+    answering(lists, row_floats, out, wanted, |out| {
         ours::port_genion(&given, k, out)
     })
 }
@@ -119,7 +119,7 @@ pub fn alosfv(r: &mut Random) -> Call {
         ("rows", ion.clone()),
         ("layers", lines.clone()),
     ];
-    answering(lists, all_floats, ion, wanted, |ion| {
+    answering(lists, row_floats, ion, wanted, |ion| {
         ours::port_alosfv(&given, k, ion, &lines)
     })
 }
@@ -153,7 +153,7 @@ pub fn sheet<const EXACT: bool>(r: &mut Random) -> Call {
         answer,
         wanted: refusal(&wanted),
         lent: vec![
-            Lent::new("rows", out, &out_before, part(|w| &w.1), all_floats),
+            Lent::new("rows", out, &out_before, part(|w| &w.1), row_floats),
             Lent::new("cells", cells, &cells_before, part(|w| &w.2), no_floats),
             Lent::new("state", got, &given, part(|w| &w.0), state_floats),
         ],

@@ -12,4 +12,4 @@ pub heights-into-spec : {M : Type 1} → statement M
 heights-into-spec =
     tie.close
     (tie.spec (λ c. search needs) (λ c κs. search needs) (λ c. search needs) (λ c. search needs) (λ c. search needs)
-    returns)
+    (λ c. search needs) returns)

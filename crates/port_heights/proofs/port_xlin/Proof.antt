@@ -20,10 +20,10 @@ returns-3 c = rw (le-ltb _ _ (c .before .before .if1 .left), le-ltb _ _ (c .befo
 
 returns-4 : tie.Need-returns-4
 unfolding xlinLeft
-returns-4 c = rw (le-ltb _ _ (c .before .before .before .before .before .before .before .before .before .before .before .before .before .if1 .left), le-ltb _ _ (c .before .before .before .before .before .before .before .before .before .before .before .before .if2 .left), le-ltb _ _ (c .before .before .before .before .before .before .before .before .before .before .before .if3 .left), ← c .before .before .before .before .before .before .before .before .before .before .number .ensures, ← c .before .before .before .before .before .before .before .before .before .floats-50 .ensures, ← c .before .before .before .before .before .before .before .before .floats-502 .ensures, ← c .before .before .before .before .before .xlin .ensures) (refl, c .before .before .floats-into .ensures)
+returns-4 c = rw (le-ltb _ _ (c .before .before .before .before .before .before .before .before .before .before .before .before .if1 .left), le-ltb _ _ (c .before .before .before .before .before .before .before .before .before .before .before .if2 .left), le-ltb _ _ (c .before .before .before .before .before .before .before .before .before .before .if3 .left), ← c .before .before .before .before .before .before .before .before .before .number .ensures, ← c .before .before .before .before .before .before .before .before .floats-50 .ensures, ← c .before .before .before .before .before .before .before .floats-502 .ensures) (refl, rw (c .before .before .before .before .xlin .ensures) at (c .before .before .found-into .ensures))
 
 pub port-xlin-spec : {M : Type 1} → statement M
 port-xlin-spec =
     tie.close
     (tie.spec returns returns-2 returns-3 (λ c κs. search needs) (λ c κs. search needs) (λ c κs. search needs)
-    (λ c κs. search needs) (λ c. search needs) (λ c κs. search needs) (λ c. search needs) returns-4)
+    (λ c κs. search needs) (λ c κs. search needs) (λ c. search needs) returns-4)

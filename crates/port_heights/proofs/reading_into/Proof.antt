@@ -6,10 +6,10 @@ use Rattle.port_heights.proofs.reading_into.Tie as tie
 
 returns : tie.Need-returns
 unfolding readingInto
-returns c = rw (← c .before .before .before .before .before .before .value .ensures, ← c .before .before .before .floats-into .ensures, ← c .kind .ensures)
+returns c = rw (← c .before .before .before .before .before .before .before .value .ensures, ← c .before .before .before .before .floats-into .ensures, ← c .before .kind .ensures, ← c .segment-number .ensures)
 
 pub reading-into-spec : {M : Type 1} → statement M
 reading-into-spec =
     tie.close
     (tie.spec (λ c κs. search needs) (λ c. search needs) (λ c κs. search needs) (λ c κs. search needs)
-    (λ c. search needs) (λ c. search needs) returns)
+    (λ c. search needs) (λ c κs. search needs) (λ c. search needs) (λ c. search needs) returns)

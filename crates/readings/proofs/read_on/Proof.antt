@@ -23,4 +23,4 @@ read-on-spec =
     (tie.spec (λ c. search needs) (λ c. search needs) returns (λ c κs. search needs) (λ c. search needs)
     (λ c. search needs) (λ c. search needs) (λ c. search needs) (λ c. search needs) (λ c. search needs)
     (λ c. search needs) (λ c. search needs) (λ c. search needs) (λ c. search needs) (λ c. search needs)
-    (λ c. search needs) (λ c. search needs) returns-2 (λ c. search needs) returns-3)
+    (λ c. search needs) (λ c. search needs) (λ c. search needs) returns-2 (λ c. search needs) returns-3)

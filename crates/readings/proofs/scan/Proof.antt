@@ -12,7 +12,7 @@ use Rattle.readings.specs.declared.Reading.the-variants.{Top}
 use Rattle.readings.proofs.scan.Statement.{statement}
 use Rattle.readings.proofs.scan.Tie as tie
 
-one-more : (from to : List Float) (probe : Float) (ih : ℕ) → ih < 49 → scanFrom from to probe (49 - ih) ih ≡ orOn (segmentOf (at from ih) (at from (ih + 1)) (at to ih) (at to (ih + 1)) probe) (scanFrom from to probe (49 - (ih + 1)) (ih + 1))
+one-more : (from to : List Float) (probe : Float) (ih : ℕ) → ih < 49 → scanFrom from to probe (49 - ih) ih ≡ orOn (segmentOf (at from ih) (at from (ih + 1)) (at to ih) (at to (ih + 1)) probe) ih (scanFrom from to probe (49 - (ih + 1)) (ih + 1))
 unfolding scanFrom
 one-more from to probe ih h = let e : 49 - ih ≡ suc (49 - (ih + 1)) = omega arith in rw e
 
@@ -51,5 +51,5 @@ scan-spec =
     tie.close
     (tie.spec Inv-loop μ-loop loop-holds (λ c. omega arith) (λ c. omega arith) (λ c. omega arith) (λ c. omega arith)
     (λ c. omega arith) (λ c. omega arith) (λ c. omega arith) (λ c. omega arith) (λ c. omega arith)
-    (λ c κs. search needs) (λ c. search needs) returns (λ c. search needs) (λ c. omega arith) (λ c. omega arith)
+    (λ c κs. search needs) (λ c. search needs) (λ c. omega arith) returns (λ c. search needs) (λ c. omega arith) (λ c. omega arith)
     loop-again (λ c. omega arith) returns-2)

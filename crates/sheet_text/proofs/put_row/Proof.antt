@@ -1,4 +1,4 @@
--- The number, the fields and the line feed are put one after the other.
+-- The number, the fields, the segment and the line feed are put one after the other.
 use borrow.Author.Needs.{needs}
 use Rattle.lines.proofs.Placing.{clip-then}
 use Rattle.sheet_text.specs.SheetText.{rowLine}
@@ -12,5 +12,5 @@ returns c = search clip-then
 pub put-row-spec : {M : Type 1} → statement M
 put-row-spec =
     tie.close
-    (tie.spec (λ c. search needs) (λ c κs. search needs) (λ c κs. search needs) (λ c κs. search needs)
-    (λ c. search needs) returns)
+    (tie.spec (λ c. search needs) (λ c κs. search needs) (λ c κs. search needs) (λ c. search needs) (λ c. search needs)
+    (λ c. search needs) (λ c κs. search needs) (λ c κs. search needs) (λ c. search needs) returns)

@@ -1,4 +1,4 @@
--- After i turns the first i rows of both columns are done.
+-- After i turns the first i rows of the three columns are done.
 use mathlib.Core.Path.{_≡_, refl, ap, _∙_}
 use mathlib.Core.List.{List}
 use Prim.Native.Nat.{ℕ, _≤_, _+_, _-_}
@@ -16,19 +16,20 @@ use Rattle.sounding.specs.Genion.{rowsOf}
 use Rattle.sounding.proofs.rows.by_profile.Statement.{statement}
 use Rattle.sounding.proofs.rows.by_profile.Tie as tie
 
-one-turn : (row : Float → Float) (fv : List Float) (n : ℕ) (l : List Float) (h : Float) → l ≡ rowsOf row fv 0 (replicate 30 f0) n → h ≡ row (at fv n) → set l n h ≡ rowsOf row fv 0 (replicate 30 f0) (n + 1)
+one-turn : {A : Type 0} (row : Float → A) (fv : List Float) (out : List A) (n : ℕ) (l : List A) (h : A) → l ≡ rowsOf row fv 0 out n → h ≡ row (at fv n) → set l n h ≡ rowsOf row fv 0 out (n + 1)
 unfolding rowsOf
-one-turn row fv n l h el eh = rw (add-one n, zero-add n, el, eh)
+one-turn row fv out n l h el eh = rw (add-one n, zero-add n, el, eh)
 
 abbrev Inv-loop : tie.InvT-loop
-Inv-loop s rises fv hprim₀ htrue₀ i₀ hprim htrue i = (i ≤ 30) × (hprim ≡ rowsOf (λ f. gethpOf s f .hp) fv 0 (replicate 30 f0) i) × (htrue ≡ rowsOf (λ f. gethpOf s f .ht) fv 0 (replicate 30 f0) i)
+Inv-loop s rises fv hprim₀ htrue₀ segment₀ i₀ hprim htrue segment i =
+    (i ≤ 30) × (hprim ≡ rowsOf (λ f. gethpOf s f .hp) fv 0 (replicate 30 f0) i) × (htrue ≡ rowsOf (λ f. gethpOf s f .ht) fv 0 (replicate 30 f0) i) × (segment ≡ rowsOf (λ f. gethpOf s f .segment) fv 0 (replicate 30 0) i)
 
 abbrev μ-loop : tie.MeasureT-loop
-μ-loop s rises fv hprim₀ htrue₀ i₀ hprim htrue i = 30 - i
+μ-loop s rises fv hprim₀ htrue₀ segment₀ i₀ hprim htrue segment i = 30 - i
 
 loop-holds : tie.Need-loop-holds Inv-loop μ-loop
 unfolding rowsOf
-loop-holds c = (omega arith, refl, refl)
+loop-holds c = (omega arith, refl, refl, refl)
 
 gethp-rising-requires : tie.Need-gethp-rising-requires Inv-loop μ-loop
 gethp-rising-requires c κs = tt
@@ -40,17 +41,17 @@ loop-again c =
     let a = q .args in
     let g = q .good .0 .1 .1 .1 .1 .1 .1 .1 .0 in
     let e = c .gethp-rising .ensures ∙ gethp-read-so (a .rises) (a .s) _ (field-held (a .s .htr) (g .0) (g .1 .1)) (q .pre) in
-    (omega arith, one-turn _ _ (l .i) _ _ (l .inv .1) (ap (λ h. h .hp) e), one-turn _ _ (l .i) _ _ (l .inv .2) (ap (λ h. h .ht) e))
+    (omega arith, one-turn _ _ _ (l .i) _ _ (l .inv .1) (ap (λ h. h .hp) e), one-turn _ _ _ (l .i) _ _ (l .inv .2) (ap (λ h. h .ht) e), one-turn _ _ _ (l .i) _ _ (l .inv .3) (ap (λ h. h .segment) e))
 
 returns : tie.Need-returns Inv-loop μ-loop
 returns c =
     let l = c .before .loop in
     let e = le-antisymm (l .inv .0) (c .loop-test .left) in
-    (l .inv .1 ∙ ap (rowsOf _ _ _ _) e, l .inv .2 ∙ ap (rowsOf _ _ _ _) e)
+    (l .inv .1 ∙ ap (rowsOf _ _ _ _) e, l .inv .2 ∙ ap (rowsOf _ _ _ _) e, l .inv .3 ∙ ap (rowsOf _ _ _ _) e)
 
 pub by-profile-spec : {M : Type 1} → statement M
 by-profile-spec =
     tie.close
     (tie.spec Inv-loop μ-loop loop-holds (λ c. omega arith) (λ c. omega arith) gethp-rising-requires
     (λ c. omega arith) (λ c. omega arith) (λ c. omega arith) (λ c. omega arith) (λ c. omega arith) (λ c. omega arith)
-    loop-again returns)
+    (λ c. omega arith) (λ c. omega arith) loop-again returns)

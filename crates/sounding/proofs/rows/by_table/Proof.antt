@@ -4,10 +4,10 @@ use Rattle.sounding.proofs.rows.by_table.Statement.{statement}
 use Rattle.sounding.proofs.rows.by_table.Tie as tie
 
 returns : tie.Need-returns
-returns c = rw (← c .before .before .before .before .true-rows .ensures, c .before .before .if1 .taken, ← c .before .virtual-rows-by-profile .ensures, ← c .make .ensures)
+returns c = rw (← c .before .before .before .before .before .before .true-rows .ensures .0, ← c .before .before .before .before .before .before .true-rows .ensures .1, c .before .before .if1 .taken, ← c .before .virtual-rows-by-profile .ensures, ← c .make .ensures)
 
 returns-2 : tie.Need-returns-2
-returns-2 c = rw (← c .before .before .before .before .true-rows .ensures, c .before .before .if1 .left, ← c .before .virtual-rows-by-parabola .ensures, ← c .make2 .ensures)
+returns-2 c = rw (← c .before .before .before .before .before .before .true-rows .ensures .0, ← c .before .before .before .before .before .before .true-rows .ensures .1, c .before .before .if1 .left, ← c .before .virtual-rows-by-parabola .ensures, ← c .make2 .ensures)
 
 pub by-table-spec : {M : Type 1} → statement M
 by-table-spec =

@@ -6,7 +6,7 @@ use Rattle.sounding.proofs.rows.rows.Tie as tie
 
 returns : tie.Need-returns
 unfolding rowsWith
-returns c = rw (← c .before .before .before .before .before .profile-only .ensures, c .before .before .before .before .if1 .taken, ← c .before .before .before .by-profile .ensures .0, ← c .before .before .before .by-profile .ensures .1, ← c .make .ensures)
+returns c = rw (← c .before .before .before .before .before .before .profile-only .ensures, c .before .before .before .before .before .if1 .taken, ← c .before .before .before .before .by-profile .ensures .0, ← c .before .before .before .before .by-profile .ensures .1, ← c .before .before .before .before .by-profile .ensures .2, ← c .make .ensures)
 
 returns-2 : tie.Need-returns-2
 unfolding rowsWith

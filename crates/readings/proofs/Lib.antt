@@ -1,0 +1,2 @@
+-- The first segment that holds the probe.
+pub mod Segments
