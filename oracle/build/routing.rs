@@ -1,10 +1,11 @@
 //! The one edit of the Rust's text: elementary functions, minimum and maximum
 //! become calls of ours, and each hop count is noted down as it is made, as is
-//! the segment at which a search stands. The edit is undone again and must give
-//! the original back, letter for letter.
+//! the segment at which a search stands, and at each height of a profile which
+//! shapes were worked out and their values. The edit is undone again and must
+//! give the original back, letter for letter.
 
 /// What is replaced, and by what.
-const EDITS: [(&str, &str); 19] = [
+const EDITS: [(&str, &str); 26] = [
     (".exp()", ".routed_exp()"),
     (".ln()", ".routed_ln()"),
     (".sin()", ".routed_sin()"),
@@ -54,6 +55,17 @@ const EDITS: [(&str, &str); 19] = [
     (
         "ion.htrue[..10].copy_from_slice(&HTE);",
         "ion.htrue[..10].copy_from_slice(crate::routing::fixed(&HTE));",
+    ),
+    // the shapes that `lecden` works out at a height, and their five values
+    ("fnd = fce", "fnd = crate::routing::worked(0, fce)"),
+    ("fne = fce", "fne = crate::routing::worked(1, fce)"),
+    ("fnval = fup", "fnval = crate::routing::worked(2, fup)"),
+    ("fn1 = s1", "fn1 = crate::routing::worked(3, s1)"),
+    ("fn1 = fc1", "fn1 = crate::routing::worked(3, fc1)"),
+    ("fn2 = fc2", "fn2 = crate::routing::worked(4, fc2)"),
+    (
+        "s.fnsq[ih] = fnd",
+        "s.fnsq[ih] = crate::routing::shapes([fnd, fne, fnval, fn1, fn2])",
     ),
 ];
 

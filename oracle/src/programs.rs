@@ -3,6 +3,7 @@
 
 use crate::circuit::{self, Circuit};
 use crate::float;
+use crate::marks;
 use crate::predict;
 use crate::routed::side;
 use crate::voacap::output::figure;
@@ -40,7 +41,7 @@ pub fn chain(file: &[u8]) -> String {
     }))
 }
 
-/// The circuit MUF and the rows of each slot.
+/// The circuit MUF, and the rows and marks of each slot.
 pub fn sheet(file: &[u8]) -> String {
     or_refused(circuit::read(file).and_then(|(circuit, _)| sheet_of(&circuit)))
 }
@@ -56,6 +57,7 @@ fn sheet_of(circuit: &Circuit) -> Result<String, u32> {
     for k in 0..state[KFX] as usize {
         let (_, rows, _) = side::sheet(&state, k, nang, &hour[KS + 1..]);
         text += &slot_lines(k, &rows);
+        text += &mark_lines(&side::marks(&state, k));
     }
     Ok(text)
 }
@@ -105,6 +107,12 @@ fn slot_lines(k: usize, rows: &[u32]) -> String {
         format!("{} {} {}\n", i + 1, fields.join(" "), rows[SEGMENT + i])
     };
     format!("slot {k}\n") + &(0..30).map(line).collect::<String>()
+}
+
+/// Number and shape of each height.
+fn mark_lines(marks: &[u32]) -> String {
+    let line = |(i, m): (usize, &u32)| format!("{} {}\n", i + 1, marks::name(*m));
+    marks.iter().enumerate().map(line).collect()
 }
 
 #[cfg(test)]

@@ -3,9 +3,10 @@
 
 include!(concat!(env!("OUT_DIR"), "/routed.rs"));
 
-/// The segments noted of the last scan, true height and ionogram.
+/// The segments noted of the last scan, true height and ionogram, and the shapes
+/// of the last profile.
 mod noted {
-    pub use crate::routing::{last_found, last_rows, last_tried};
+    pub use crate::routing::{last_found, last_rows, last_tried, take_shapes};
 }
 
 #[path = "side.rs"]

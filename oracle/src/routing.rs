@@ -1,6 +1,8 @@
 //! Where the routed modules' calls go.
 
+use crate::marks::Shapes;
 use crate::ours;
+use crate::words::MARKS;
 use std::cell::{Cell, RefCell};
 
 /// The six elementary functions.
@@ -96,6 +98,40 @@ thread_local! {
     static TRIED: Cell<u32> = const { Cell::new(0) };
     static FOUND: Cell<u32> = const { Cell::new(0) };
     static ROWS: Cell<[u32; 30]> = const { Cell::new([0; 30]) };
+}
+
+thread_local! {
+    static WORKED: Cell<[bool; 5]> = const { Cell::new([false; 5]) };
+    static SHAPES: RefCell<Vec<Shapes>> = const { RefCell::new(Vec::new()) };
+}
+
+/// Notes that a shape is worked out at a height.
+pub fn worked(shape: usize, x: f32) -> f32 {
+    let mut worked = WORKED.get();
+    worked[shape] = true;
+    WORKED.set(worked);
+    x
+}
+
+/// Notes the five values there; the first is the one whose maximum is taken.
+pub fn shapes(values: [f32; 5]) -> f32 {
+    let noted = Shapes {
+        worked: WORKED.replace([false; 5]),
+        values,
+    };
+    SHAPES.with(|s| {
+        let mut s = s.borrow_mut();
+        if s.len() == MARKS {
+            s.clear();
+        }
+        s.push(noted);
+    });
+    values[0]
+}
+
+/// The shapes at the heights of the last profile, none where it made none.
+pub fn take_shapes() -> Vec<Shapes> {
+    SHAPES.with(|s| std::mem::take(&mut *s.borrow_mut()))
 }
 
 /// Where a true height stands if nothing was sought.

@@ -6,6 +6,7 @@ use super::ionosphere::{EsParams, LayerParams};
 use super::muf::{IonoState, LayerMuf, MufHour};
 use super::{ionogram, muf, noted, sigdis};
 use crate::owner;
+use crate::marks::Shapes;
 use crate::words::*;
 
 /// The deciles as `f2d` has them.
@@ -322,6 +323,24 @@ pub fn alosfv(state: &State, k: usize, rows: &[u32], layers: &[u32]) -> Vec<u32>
     let mut ion = rows_of(rows);
     ionogram::alosfv(&state_of(state), k, &mut ion, &layers_of(layers));
     row_words(&ion, &rows[SEGMENT..ROWS])
+}
+
+/// The shapes that `lecden` has at slot k's heights, with the densities; none
+/// where it makes no profile.
+pub fn shapes(state: &State, k: usize) -> Vec<(Shapes, f32)> {
+    noted::take_shapes();
+    let mut s = state_of(state);
+    muf::lecden(&mut s, k);
+    noted::take_shapes().into_iter().zip(s.fnsq).collect()
+}
+
+/// The marks of slot k's heights; of no shape where there is no profile.
+pub fn marks(state: &State, k: usize) -> Vec<u32> {
+    let shapes = shapes(state, k);
+    if shapes.is_empty() {
+        return vec![0; MARKS];
+    }
+    shapes.iter().map(|(s, density)| s.mark(*density)).collect()
 }
 
 /// `lecden`, `genion`, `fobby`, `alosfv` in turn: state, rows, cells.

@@ -3,7 +3,7 @@
 
 include!(concat!(env!("OUT_DIR"), "/voacap.rs"));
 
-/// No segment is noted here.
+/// No segment and no shape is noted here.
 mod noted {
     pub fn last_tried() -> u32 {
         0
@@ -13,6 +13,9 @@ mod noted {
     }
     pub fn last_rows() -> [u32; 30] {
         [0; 30]
+    }
+    pub fn take_shapes() -> Vec<crate::marks::Shapes> {
+        Vec::new()
     }
 }
 

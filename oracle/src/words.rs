@@ -38,6 +38,10 @@ pub const KS: usize = 9;
 pub const DECILES: usize = 576;
 /// Thirty rows: fvert, hprim, htrue, afac, segment, one after the other.
 pub const ROWS: usize = 150;
+/// The marks of fifty heights.
+pub const MARKS: usize = 50;
+/// What a slot sheet answers: rows, then marks.
+pub const SHEET: usize = ROWS + MARKS;
 /// Where the true heights begin.
 pub const TRUE: usize = 60;
 /// Where the loss factors begin, and the segments, which are no floats.

@@ -17,7 +17,8 @@ use Rattle.refusal.specs.declared.Refusal.{Refusal}
 use Rattle.refusal.specs.declared.Outcome.{Outcome}
 use Rattle.layers.specs.declared.IonoState.{IonoState}
 use Rattle.layers.specs.declared.LayerMuf.{LayerMuf}
-use Rattle.profile.specs.Lecden.{slotAt, lecdenOf}
+use Rattle.profile.specs.Lecden.{slotAt, suppliedOf, lecdenOf}
+use Rattle.shapes.specs.Marks.{marksOf}
 use Rattle.profile.specs.declared.Slot.{Slot}
 use Rattle.heights.specs.Gethp.{Finder, gethpOf}
 use Rattle.heights.specs.declared.Heights.{Heights}
@@ -189,16 +190,22 @@ muf-picked (records es) s f2d clat clck c e = done-picked s (takenRowsBy (ltb (l
 
 -- ---- the slot sheet
 
-sheet-seen : (a b : Bool) (find : Finder) (s t : IonoState) (k nang : ℕ) (layers : List LayerMuf) (cells : List ℤ) → AgreesOn find t → (a ≡ true → b ≡ true → Alike (lecdenOf t k) (lecdenOf s k) k)
-    → (sheetBy a b find t k layers .outcome ≡ sheetBy a b gethpOf s k layers .outcome) × (sheetBy a b find t k layers .ion ≡ sheetBy a b gethpOf s k layers .ion) × (cellsBy a b find t k nang cells ≡ cellsBy a b gethpOf s k nang cells)
-sheet-seen true true find s t k nang layers cells agree alike =
+-- the marks read of a state whether its profile is supplied, and the slot as it stands
+marks-same : (s t : IonoState) (k : ℕ) → Common s t → slotAt t k ≡ slotAt s k → marksOf t k ≡ marksOf s k
+unfolding marksOf suppliedOf slotAt
+marks-same s t k g e = rw (g .ielect-common, e)
+
+sheet-seen : (a b : Bool) (find : Finder) (s t : IonoState) (k nang : ℕ) (layers : List LayerMuf) (cells : List ℤ) → AgreesOn find t → Common s t → (a ≡ true → b ≡ true → slotAt t k ≡ slotAt s k)
+    → (sheetBy a b find t k layers .outcome ≡ sheetBy a b gethpOf s k layers .outcome) × (sheetBy a b find t k layers .ion ≡ sheetBy a b gethpOf s k layers .ion) × (sheetBy a b find t k layers .marks ≡ sheetBy a b gethpOf s k layers .marks) × (cellsBy a b find t k nang cells ≡ cellsBy a b gethpOf s k nang cells)
+sheet-seen true true find s t k nang layers cells agree c same =
     let u = lecdenOf t k in
     let v = lecdenOf s k in
-    let a = alike refl refl in
+    let e = same refl refl in
+    let a = lecden-alike s t k c e in
     let g = genion-same find gethpOf u v k a (found-alike find s t k agree a) in
-    (refl, alosfv-same u v k a (genionWith find u k) layers ∙ ap (λ (ion : Ionogram). alosfvOf v k ion layers) g, ap (λ (ion : Ionogram). anglesInto ion cells nang) g)
-sheet-seen true false find s t k nang layers cells agree alike = (refl, refl, refl)
-sheet-seen false b find s t k nang layers cells agree alike = (refl, refl, refl)
+    (refl, alosfv-same u v k a (genionWith find u k) layers ∙ ap (λ (ion : Ionogram). alosfvOf v k ion layers) g, marks-same s t k c e, ap (λ (ion : Ionogram). anglesInto ion cells nang) g)
+sheet-seen true false find s t k nang layers cells agree c same = (refl, refl, refl, refl)
+sheet-seen false b find s t k nang layers cells agree c same = (refl, refl, refl, refl)
 
 sheet-left : (a b : Bool) (find : Finder) (s t : IonoState) (k : ℕ) (layers : List LayerMuf) → sheetBy a b find t k layers .state ≡ preparedIf (isAnswered (sheetBy a b gethpOf s k layers .outcome)) t k
 sheet-left true true find s t k layers = refl
@@ -234,8 +241,8 @@ same-answer (aMuf es f2d clat clck c) find s t agree g fresh =
 same-answer (aSheet k nang layers cells) find s t agree g fresh =
     let a = leb k 2 in
     let b = roomFor nang cells in
-    let h = sheet-seen a b find s t k nang layers cells agree (λ ha hb. lecden-alike s t k g (fresh k (ap (λ (x : Bool). pickIf x k) (sheet-answered a b s k layers ∙ both-true a b ha hb)))) in
-    rw (h .0, h .1, h .2)
+    let h = sheet-seen a b find s t k nang layers cells agree g (λ ha hb. fresh k (ap (λ (x : Bool). pickIf x k) (sheet-answered a b s k layers ∙ both-true a b ha hb))) in
+    rw (h .0, h .1, h .2, h .3)
 same-answer (aNominal points f2m3 es km gcd gcdkm) find s t agree g fresh = refl
 
 same-left : (c : Call) (find : Finder) (s t : IonoState) → AgreesOn find t → Common s t → FreshFor s t c → afterWith find t c ≡ preparedIf (prepares s c) t (slotOf s c)

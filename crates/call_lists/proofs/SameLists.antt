@@ -46,7 +46,7 @@ rows-self i = (all-self (i .fvert), all-self (i .hprim), all-self (i .htrue), al
 
 answer-self : (a : Answer) → SameAnswer a a
 answer-self (ofMuf o h es) = (refl, hour-self h, es-self es)
-answer-self (ofSheet o i cs) = (refl, rows-self i, refl)
+answer-self (ofSheet o i m cs) = (refl, rows-self i, refl, refl)
 answer-self (ofNominal o h) = (refl, hour-self h)
 
 slot-self : (p : Slot) → SameSlot p p

@@ -20,6 +20,7 @@ use Rattle.muf.specs.Curmuf.{inDomain, flatWith, rewrittenBy}
 use Rattle.muf.specs.declared.MufHour.{MufHour}
 use Rattle.muf.specs.declared.AnswerAndRow.{AnswerAndRow}
 use Rattle.muf_records.specs.Records.{recordsAnswerWith, recordsBy}
+use Rattle.shapes.specs.declared.HeightMark.{HeightMark}
 use Rattle.slot_sheet.specs.Sheet.{slotSheetWith, sheetCellsWith}
 use Rattle.nominal.specs.Nommuf.{nommufOf}
 use Rattle.nominal.specs.declared.NominalAnswer.{NominalAnswer}
@@ -48,15 +49,15 @@ pub data Call : Type 0 where
   -- any points, F2M3s and Es rows, any count, any path: none of it is the state's
   aNominal : List LayerParams → List Float → List EsParams → ℕ → Float → Float → Call
 
--- all that a call gives back but the state: its outcome, its hour and its Es rows, or its rows and its cells, or its hour
+-- all that a call gives back but the state: its outcome, its hour and its Es rows, or its rows, its marks and its cells, or its hour
 pub data Answer : Type 0 where
   ofMuf : Outcome → MufHour → EsRows → Answer
-  ofSheet : Outcome → Ionogram → List ℤ → Answer
+  ofSheet : Outcome → Ionogram → List HeightMark → List ℤ → Answer
   ofNominal : Outcome → MufHour → Answer
 
 unfoldable pub answerWith : Finder → IonoState → Call → Answer
 answerWith find s (aMuf es f2d clat clck c) = let d = mufWith find s es f2d clat clck c in ofMuf (d .answer .outcome) (d .answer .hour) (esAfter es (d .rewrites) (d .ksx) (d .lower))
-answerWith find s (aSheet k nang layers cells) = let r = slotSheetWith find s k nang layers cells in ofSheet (r .outcome) (r .ion) (sheetCellsWith find s k nang cells)
+answerWith find s (aSheet k nang layers cells) = let r = slotSheetWith find s k nang layers cells in ofSheet (r .outcome) (r .ion) (r .marks) (sheetCellsWith find s k nang cells)
 answerWith find s (aNominal points f2m3 es km gcd gcdkm) = let r = nommufOf points f2m3 es km gcd gcdkm in ofNominal (r .outcome) (r .hour)
 
 abbrev pub answerOf : IonoState → Call → Answer
@@ -79,7 +80,7 @@ isAnswered (Outcome.Refused r) = false
 
 abbrev pub outcomeOf : Answer → Outcome
 outcomeOf (ofMuf o hour es) = o
-outcomeOf (ofSheet o ion cells) = o
+outcomeOf (ofSheet o ion marks cells) = o
 outcomeOf (ofNominal o hour) = o
 
 unfoldable pub answered : IonoState → Call → Bool

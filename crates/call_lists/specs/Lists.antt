@@ -135,7 +135,7 @@ pub record Numbers (s : IonoState) : Type 0 where
 -- ---- the claim
 
 pub record ListOfCalls (s : IonoState) (calls : List Call) : Type 0 where
-  -- (i) every answer, refusals included, its Es rows and its cells are those of the call alone
+  -- (i) every answer, refusals included, its Es rows, its marks and its cells are those of the call alone
   pub answers-alone : answersOf s calls ≡ map (answerOf s) calls
   -- (ii) each slot, its nine layer numbers and `fsecv[k]`, is what its own call alone leaves, or as it was; also at or above kfx
   pub slots-left : (k : ℕ) → k < 3 → slotAt (runOf s calls) k ≡ slotAt (alone s (own s calls k)) k
@@ -153,7 +153,7 @@ pub record ListOfCalls (s : IonoState) (calls : List Call) : Type 0 where
   pub iedp-left : runOf s calls .iedp ≡ s .iedp
   pub ielect-left : runOf s calls .ielect ≡ s .ielect
   pub exact-left : runOf s calls .«exact_virtual_height» ≡ s .«exact_virtual_height»
-  -- (v) read by walks, as the code does where it reads, every answer (rows with their segments, cells, hours, Es rows) and the state left are these; and they are the same with forty full scans in place of each walk
+  -- (v) read by walks, as the code does where it reads, every answer (rows with their segments, marks, cells, hours, Es rows) and the state left are these; and they are the same with forty full scans in place of each walk
   pub answers-walked : Numbers s → answersWalkOf s calls ≡ answersOf s calls
   pub state-walked : Numbers s → runWalkOf s calls ≡ runOf s calls
   pub answers-scanned : answersScanOf s calls ≡ answersOf s calls

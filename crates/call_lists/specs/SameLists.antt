@@ -54,16 +54,16 @@ SameEs (records es) (records ds) = Pairwise SameRecord es ds
 abbrev pub SameRows : Ionogram → Ionogram → Type 0
 SameRows i j = SameAll (i .fvert) (j .fvert) × SameAll (i .hprim) (j .hprim) × SameAll (i .htrue) (j .htrue) × SameAll (i .afac) (j .afac) × (i .segment ≡ j .segment)
 
--- outcome, hour and Es rows, or outcome, rows and cells, or outcome and hour
+-- outcome, hour and Es rows, or outcome, rows, marks and cells, or outcome and hour
 abbrev pub SameAnswer : Answer → Answer → Type 0
 SameAnswer (ofMuf o h es) (ofMuf p g ds) = (o ≡ p) × SameHour h g × SameEs es ds
-SameAnswer (ofMuf o h es) (ofSheet p j ds) = ⊥
+SameAnswer (ofMuf o h es) (ofSheet p j n ds) = ⊥
 SameAnswer (ofMuf o h es) (ofNominal p g) = ⊥
-SameAnswer (ofSheet o i cs) (ofMuf p g ds) = ⊥
-SameAnswer (ofSheet o i cs) (ofSheet p j ds) = (o ≡ p) × SameRows i j × (cs ≡ ds)
-SameAnswer (ofSheet o i cs) (ofNominal p g) = ⊥
+SameAnswer (ofSheet o i m cs) (ofMuf p g ds) = ⊥
+SameAnswer (ofSheet o i m cs) (ofSheet p j n ds) = (o ≡ p) × SameRows i j × (m ≡ n) × (cs ≡ ds)
+SameAnswer (ofSheet o i m cs) (ofNominal p g) = ⊥
 SameAnswer (ofNominal o h) (ofMuf p g ds) = ⊥
-SameAnswer (ofNominal o h) (ofSheet p j ds) = ⊥
+SameAnswer (ofNominal o h) (ofSheet p j n ds) = ⊥
 SameAnswer (ofNominal o h) (ofNominal p g) = (o ≡ p) × SameHour h g
 
 abbrev pub slotNumbers : Slot → List Float

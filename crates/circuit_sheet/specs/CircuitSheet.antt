@@ -25,9 +25,10 @@ use Rattle.muf.specs.declared.MufHour.{MufHour}
 use Rattle.muf.specs.declared.MufAnswer.{MufAnswer}
 use Rattle.reflectrix.specs.Angles.{sangOf}
 use Rattle.reflectrix.specs.declared.Scan.{Scan}
-use Rattle.reflectrix.specs.declared.Ionogram.{Ionogram}
 use Rattle.reflectrix.specs.Rows.{noRows}
+use Rattle.shapes.specs.Marks.{unmarked}
 use Rattle.slot_sheet.specs.Sheet.{slotSheetOf}
+use Rattle.circuit_sheet.specs.declared.SlotRows.{SlotRows}
 use Rattle.circuit_sheet.specs.declared.Sheet.{Sheet}
 
 abbrev pub Circuit : Type 0
@@ -84,16 +85,20 @@ mufOf c s =
     (take (c .km) (columnOf (c .points) 14))
     (pathOf c)
 
--- The rows of a slot below kfx; each sheet has its own cells, thirty for each of 40 angles, so that none is refused.
-abbrev pub slotRowsBy : Bool → IonoState → ℕ → ℕ → List LayerMuf → Ionogram
-slotRowsBy true s k nang lines = slotSheetOf s k nang lines (replicate 1200 (pos 0)) .ion
-slotRowsBy false s k nang lines = noRows
+-- a slot that is not there
+abbrev pub noSlot : SlotRows
+noSlot = record { ion = noRows; marks = unmarked }
 
-unfoldable pub slotRowsOf : IonoState → ℕ → ℕ → List LayerMuf → Ionogram
+-- The rows and marks of a slot below kfx; each sheet has its own cells, thirty for each of 40 angles, so that none is refused.
+abbrev pub slotRowsBy : Bool → IonoState → ℕ → ℕ → List LayerMuf → SlotRows
+slotRowsBy true s k nang lines = let a = slotSheetOf s k nang lines (replicate 1200 (pos 0)) in record { ion = a .ion; marks = a .marks }
+slotRowsBy false s k nang lines = noSlot
+
+unfoldable pub slotRowsOf : IonoState → ℕ → ℕ → List LayerMuf → SlotRows
 slotRowsOf s k nang lines = slotRowsBy (ltb k (s .kfx)) s k nang lines
 
 unfoldable pub refusedOf : Refusal → Sheet
-refusedOf r = record { outcome = Outcome.Refused r; hour = zeroHour; slots = 0; rows = noRows ∷ noRows ∷ noRows ∷ [] }
+refusedOf r = record { outcome = Outcome.Refused r; hour = zeroHour; slots = 0; rows = noSlot ∷ noSlot ∷ noSlot ∷ [] }
 
 -- every sheet is given the MUF's four lines, and the state that `ionset` left, not the MUF's
 unfoldable pub answeredOf : IonoState → ℕ → MufHour → Sheet

@@ -1,7 +1,7 @@
-// The sheet of a circuit file: the hour's MUF, and the thirty rows of each slot.
+// The sheet of a circuit file: the hour's MUF, and the thirty rows and fifty marks of each slot.
 ghost use mathlib.Core.Path.{_≡_};
 ghost use Prim.Native.Nat.{_+_, _<_, _≤_};
-ghost use Rattle.circuit_sheet.specs.CircuitSheet.{threeAt, layersAt, paramsOf, esOf, columnOf, shapedOf, slotsOf, pathOf, mufOf, slotRowsOf, refusedOf, answeredOf, scannedOf, circuitSheetOf, sheetOf};
+ghost use Rattle.circuit_sheet.specs.CircuitSheet.{threeAt, layersAt, paramsOf, esOf, columnOf, shapedOf, slotsOf, pathOf, mufOf, noSlot, slotRowsOf, refusedOf, answeredOf, scannedOf, circuitSheetOf, sheetOf};
 use layers::IonoState;
 use layers::LayerMuf;
 use layers::LayerParams;
@@ -11,13 +11,21 @@ use reflectrix::Ionogram;
 use reflectrix::Scan;
 use refusal::Outcome;
 use refusal::Refusal;
+use shapes::HeightMark;
 
-// Beside a refusal there is no slot, and every number is +0; so are the rows of a slot that is not there.
+// What the sheet has of a slot: its ionogram, and the marks of its fifty heights.
+pub struct SlotRows {
+    pub ion: Ionogram,
+    pub marks: [HeightMark; 50],
+}
+
+// Beside a refusal there is no slot, and every number is +0; so are the rows of a slot that is not there,
+// and it has no marks.
 pub struct Sheet {
     pub outcome: Outcome,
     pub hour: MufHour,
     pub slots: usize,
-    pub rows: [Ionogram; 3],
+    pub rows: [SlotRows; 3],
 }
 
 fn three_at(words: &[u32; 75], i: usize, j: usize) -> [f32; 3]
@@ -127,16 +135,27 @@ fn circuit_muf(c: circuit::Circuit, s: IonoState) -> MufAnswer
     muf::curmuf(s, &mut es[..numbers], &f2d, &clat[..km], &clck[..km], path)
 }
 
-// The rows of slot k, with cells of its own.
-fn slot_rows(s: IonoState, k: usize, nang: usize, lines: [LayerMuf; 4]) -> Ionogram
+fn no_slot() -> SlotRows
+    ensures { λ r. ⌜ r ≡ noSlot ⌝ }
+{
+    SlotRows {
+        ion: reflectrix::no_rows(),
+        marks: shapes::no_marks(),
+    }
+}
+
+// The rows and marks of slot k, with cells of its own.
+fn slot_rows(s: IonoState, k: usize, nang: usize, lines: [LayerMuf; 4]) -> SlotRows
     ensures { λ r. ⌜ r ≡ slotRowsOf s k nang lines ⌝ }
 {
     if k < s.kfx {
         let mut cells = [0i32; 1200];
         let a = slot_sheet::slot_sheet(s, k, nang, lines, &mut cells);
-        return a.ion;
+        let ion = a.ion;
+        let marks = a.marks;
+        return SlotRows { ion, marks };
     }
-    reflectrix::no_rows()
+    no_slot()
 }
 
 fn refused(r: Refusal) -> Sheet
@@ -144,7 +163,7 @@ fn refused(r: Refusal) -> Sheet
 {
     let m = muf::refused(layers::zero_state(), r);
     let hour = m.hour;
-    let none = reflectrix::no_rows();
+    let none = no_slot();
     Sheet {
         outcome: Outcome::Refused(r),
         hour,

@@ -10,7 +10,7 @@ use Rattle.reflectrix.specs.Fobby.{fobbyOutcome, cellsAfter}
 use Rattle.slot_sheet.specs.Sheet.{slotSheetWith}
 use Rattle.port_state.specs.State.{stateWords, stateInto}
 use Rattle.port_state.specs.Ports.{Ported, refusedWith}
-use Rattle.port_layouts.specs.Layouts.{cellsOf, cellsInto, ionogramOf, ionogramInto}
+use Rattle.port_layouts.specs.Layouts.{cellsOf, cellsInto, ionogramOf, ionogramInto, marksInto}
 use Rattle.port_ionogram.specs.Exports.{PortedSheet, portFobby, refusedSheet, sheetOn, sheetCellsOn, portSheet}
 use Rattle.port_ionogram.proofs.Rooms.{room, too-many, too-short}
 
@@ -32,16 +32,16 @@ fobby-short ion nang cells long few h = rw (le-ltb (length ion) 150 long, too-sh
 -- ---- the slot sheet
 
 module _ (state : List ℕ) (k nang : ℕ) (layers cells out : List ℕ) where
-  module _ (ls : stateWords ≤ length state) (ll : 44 ≤ length layers) (lo : 150 ≤ length out) where
+  module _ (ls : stateWords ≤ length state) (ll : 44 ≤ length layers) (lo : 200 ≤ length out) where
     -- past the lengths the outcome decides
     pub sheet-refused : (r : Refusal) → sheetOn state k nang layers cells .outcome ≡ Outcome.Refused r → portSheet state k nang layers cells out ≡ refusedSheet r state cells out
     unfolding portSheet
-    sheet-refused r e = rw (le-ltb (length state) stateWords ls, le-ltb (length layers) 44 ll, le-ltb (length out) 150 lo, e)
+    sheet-refused r e = rw (le-ltb (length state) stateWords ls, le-ltb (length layers) 44 ll, le-ltb (length out) 200 lo, e)
 
     pub sheet-answered : sheetOn state k nang layers cells .outcome ≡ Outcome.Answered
-        → _≡_ {A = PortedSheet} (portSheet state k nang layers cells out) (record { number = 0; state = stateInto (sheetOn state k nang layers cells .state) state; cells = cellsInto cells (sheetCellsOn state k nang cells); out = ionogramInto (sheetOn state k nang layers cells .ion) out })
+        → _≡_ {A = PortedSheet} (portSheet state k nang layers cells out) (record { number = 0; state = stateInto (sheetOn state k nang layers cells .state) state; cells = cellsInto cells (sheetCellsOn state k nang cells); out = marksInto (sheetOn state k nang layers cells .marks) (ionogramInto (sheetOn state k nang layers cells .ion) out) 150 })
     unfolding portSheet
-    sheet-answered e = rw (le-ltb (length state) stateWords ls, le-ltb (length layers) 44 ll, le-ltb (length out) 150 lo, e)
+    sheet-answered e = rw (le-ltb (length state) stateWords ls, le-ltb (length layers) 44 ll, le-ltb (length out) 200 lo, e)
 
   pub slot-above : 2 < k → sheetOn state k nang layers cells .outcome ≡ Outcome.Refused Refusal.SlotNumber
   unfolding sheetOn slotSheetWith

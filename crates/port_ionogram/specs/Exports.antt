@@ -21,7 +21,7 @@ use Rattle.sounding.specs.Genion.{genionAnswer}
 use Rattle.losses.specs.Alosfv.{alosfvAnswer}
 use Rattle.slot_sheet.specs.Sheet.{slotSheetOf, sheetCellsOf}
 use Rattle.slot_sheet.specs.declared.SlotSheet.{SlotSheet}
-use Rattle.port_layouts.specs.Layouts.{cellsOf, cellsInto, ionogramOf, ionogramInto, linesOf}
+use Rattle.port_layouts.specs.Layouts.{cellsOf, cellsInto, ionogramOf, ionogramInto, marksInto, linesOf}
 
 -- has the slice fewer words than its layout
 abbrev pub short : List ℕ → ℕ → Bool
@@ -75,7 +75,7 @@ portFobby ion nang cells =
     let c = cellsOf cells (30 * nang) in
     unlessShort (short ion 150) cells (cellsBy (fobbyOutcome nang c) (cellsAfter (ionogramOf ion) nang c) cells)
 
--- ---- the slot sheet
+-- ---- the slot sheet: 150 words of rows, then the numbers of the fifty marks
 
 pub record PortedSheet : Type 0 where
   pub number : ℕ
@@ -87,7 +87,7 @@ abbrev pub refusedSheet : Refusal → List ℕ → List ℕ → List ℕ → Por
 refusedSheet r state cells out = record { number = numberOf r; state = state; cells = cells; out = out }
 
 abbrev pub sheetBy : Outcome → SlotSheet → List ℤ → List ℕ → List ℕ → List ℕ → PortedSheet
-sheetBy Outcome.Answered a c state cells out = record { number = 0; state = stateInto (a .state) state; cells = cellsInto cells c; out = ionogramInto (a .ion) out }
+sheetBy Outcome.Answered a c state cells out = record { number = 0; state = stateInto (a .state) state; cells = cellsInto cells c; out = marksInto (a .marks) (ionogramInto (a .ion) out) 150 }
 sheetBy (Outcome.Refused r) a c state cells out = refusedSheet r state cells out
 
 abbrev pub sheetInto : SlotSheet → List ℤ → List ℕ → List ℕ → List ℕ → PortedSheet
@@ -106,5 +106,5 @@ sheetCellsOn state k nang cells = sheetCellsOf (stateOf state) k nang (cellsOf c
 
 unfoldable pub portSheet : List ℕ → ℕ → ℕ → List ℕ → List ℕ → List ℕ → PortedSheet
 portSheet state k nang layers cells out =
-    sheetUnlessShort (short state stateWords || short layers 44 || short out 150) state cells out
+    sheetUnlessShort (short state stateWords || short layers 44 || short out 200) state cells out
     (sheetInto (sheetOn state k nang layers cells) (sheetCellsOn state k nang cells) state cells out)

@@ -7,7 +7,7 @@ ghost use Rattle.reflectrix.specs.Angles.{scanValue};
 ghost use Rattle.reflectrix.specs.Fobby.{cellsAfter};
 ghost use Rattle.slot_sheet.specs.Sheet.{slotSheetOf, sheetCellsOf};
 ghost use Rattle.port_state.specs.State.{stateWords, stateInto};
-ghost use Rattle.port_layouts.specs.Layouts.{cellsOf, cellsInto, ionogramInto};
+ghost use Rattle.port_layouts.specs.Layouts.{cellsOf, cellsInto, ionogramInto, marksInto};
 ghost use Rattle.port_ionogram.specs.Exports.{scanInto, rowsInto, portSang, portSelmod, portGenion, portFobby, portAlosfv, sheetOn, sheetCellsOn, portSheet};
 use layers::IonoState;
 use layers::LayerMuf;
@@ -16,6 +16,7 @@ use reflectrix::Ionogram;
 use reflectrix::IonogramAnswer;
 use reflectrix::Scan;
 use refusal::Outcome;
+use shapes::HeightMark;
 use slot_sheet::SlotSheet;
 
 fn scan_into(a: Scan, out: &mut [u32]) -> u32
@@ -164,6 +165,14 @@ fn sheet_by(
     a
 }
 
+fn marked_into(ion: Ionogram, marks: [HeightMark; 50], out: &mut [u32])
+    requires { ⌜ 200 ≤ length (now out) ⌝ }
+    ensures { λ _. ⌜ now (out .exit) ≡ marksInto marks (ionogramInto ion (now (out .entry))) 150 ⌝ }
+{
+    port_layouts::ionogram_into(ion, out);
+    port_layouts::marks_into(marks, out, 150);
+}
+
 fn sheet_into(
     state: &mut [u32],
     k: usize,
@@ -172,10 +181,10 @@ fn sheet_into(
     cells: &mut [u32],
     out: &mut [u32],
 )
-    requires { ⌜ (stateWords ≤ length (now state)) × (44 ≤ length (now layers)) × (150 ≤ length (now out)) × (nang ≤ 40) × (30 * nang ≤ length (now cells)) ⌝ }
+    requires { ⌜ (stateWords ≤ length (now state)) × (44 ≤ length (now layers)) × (200 ≤ length (now out)) × (nang ≤ 40) × (30 * nang ≤ length (now cells)) ⌝ }
     ensures { λ _. ⌜ (now (state .exit) ≡ stateInto (sheetOn (now (state .entry)) k nang (now (layers .entry)) (now (cells .entry)) .state) (now (state .entry)))
         × (now (cells .exit) ≡ cellsInto (now (cells .entry)) (sheetCellsOn (now (state .entry)) k nang (now (cells .entry))))
-        × (now (out .exit) ≡ ionogramInto (sheetOn (now (state .entry)) k nang (now (layers .entry)) (now (cells .entry)) .ion) (now (out .entry))) ⌝ }
+        × (now (out .exit) ≡ marksInto (sheetOn (now (state .entry)) k nang (now (layers .entry)) (now (cells .entry)) .marks) (ionogramInto (sheetOn (now (state .entry)) k nang (now (layers .entry)) (now (cells .entry)) .ion) (now (out .entry))) 150) ⌝ }
 {
     let s = port_state::state_of(state);
     let lines = port_layouts::lines_of(layers);
@@ -184,11 +193,13 @@ fn sheet_into(
     let a = sheet_by(s, k, nang, lines, &mut c[..count], cells);
     let t = a.state;
     let ion = a.ion;
+    let marks = a.marks;
     port_state::state_into(t, state);
-    port_layouts::ionogram_into(ion, out);
+    marked_into(ion, marks, out);
 }
 
-// state STATE_WORDS words, layers 44; cells: 30 words an angle; out 150: fvert, hprim, htrue, afac, segment
+// state STATE_WORDS words, layers 44; cells: 30 words an angle; out 200: fvert, hprim, htrue,
+// afac, segment, the marks' numbers
 #[no_mangle]
 pub extern "C" fn port_sheet(
     state: &mut [u32],
@@ -209,7 +220,7 @@ pub extern "C" fn port_sheet(
     if layers.len() < 44 {
         return 1;
     }
-    if out.len() < 150 {
+    if out.len() < 200 {
         return 1;
     }
     if k > 2 {

@@ -1,4 +1,4 @@
--- What the exports read from words and write there: reflectrix cells, the thirty rows, the four layer lines.
+-- What the exports read from words and write there: reflectrix cells, the thirty rows, the fifty marks, the four layer lines.
 use mathlib.Core.List.{List, [], _∷_, _++_, map}
 use Prim.Native.Nat.{ℕ, _+_}
 use lib.IntN.{ℤ}
@@ -8,6 +8,8 @@ use Rattle.port_circuit.specs.Words.{wordsOf, wordsInto}
 use Rattle.port_state.specs.Words.{word, floatsOf, floatsInto, signedOf, wordOf}
 use Rattle.layers.specs.declared.LayerMuf.{LayerMuf}
 use Rattle.reflectrix.specs.declared.Ionogram.{Ionogram}
+use Rattle.shapes.specs.Mark.{numberOf}
+use Rattle.shapes.specs.declared.HeightMark.{HeightMark}
 
 -- the first n words as cells
 unfoldable pub cellsOf : List ℕ → ℕ → List ℤ
@@ -24,6 +26,13 @@ ionogramOf w = record { fvert = floatsOf w 0 30; hprim = floatsOf w 30 30; htrue
 -- words past the 150 stay
 unfoldable pub ionogramInto : Ionogram → List ℕ → List ℕ
 ionogramInto ion w = wordsInto (floatsInto (floatsInto (floatsInto (floatsInto w 0 (ion .fvert)) 30 (ion .hprim)) 60 (ion .htrue)) 90 (ion .afac)) 120 (ion .segment)
+
+abbrev pub markNumber : HeightMark → ℕ
+markNumber h = numberOf (h .mark)
+
+-- the numbers of the marks, from word `from` on
+unfoldable pub marksInto : List HeightMark → List ℕ → ℕ → List ℕ
+marksInto marks w from = wordsInto w from (map markNumber marks)
 
 abbrev pub number : List ℕ → ℕ → Float
 number w i = ofBits binary32 (word w i)

@@ -1,2 +1,2 @@
--- Rows, layer lines and reflectrix cells as words.
+-- Rows, marks, layer lines and reflectrix cells as words.
 pub mod Layouts

@@ -1,13 +1,15 @@
-// Cells, rows and layer lines as words.
+// Cells, rows, marks and layer lines as words.
 ghost use mathlib.Core.Path.{_≡_};
+ghost use mathlib.Core.List.{map};
 ghost use Prim.Native.Nat.{_+_, _≤_};
 ghost use lib.ListN.{length};
 ghost use denote.Ref.{now};
 ghost use Rattle.port_circuit.specs.Words.{wordsOf, wordsInto};
 ghost use Rattle.port_state.specs.Words.{floatsOf, floatsInto};
-ghost use Rattle.port_layouts.specs.Layouts.{cellsOf, cellsInto, ionogramOf, ionogramInto, lineOf, linesOf};
+ghost use Rattle.port_layouts.specs.Layouts.{cellsOf, cellsInto, ionogramOf, ionogramInto, markNumber, marksInto, lineOf, linesOf};
 use layers::LayerMuf;
 use reflectrix::Ionogram;
+use shapes::HeightMark;
 
 // As many cells as are lent.
 pub fn cells_of(w: &[u32], c: &mut [i32])
@@ -94,6 +96,35 @@ pub fn ionogram_into(ion: Ionogram, w: &mut [u32])
     floats_30_into(htrue, w, 60);
     floats_30_into(afac, w, 90);
     words_30_into(segment, w, 120);
+}
+
+fn words_50_into(x: [u32; 50], w: &mut [u32], from: usize)
+    requires { ⌜ from + 50 ≤ length (now w) ⌝ }
+    ensures { λ _. ⌜ now (w .exit) ≡ wordsInto (now (w .entry)) from x ⌝ }
+{
+    port_circuit::words_into(&x, w, from);
+}
+
+fn mark_numbers(marks: [HeightMark; 50]) -> [u32; 50]
+    ensures { λ r. ⌜ r ≡ map markNumber marks ⌝ }
+{
+    let mut n = [0u32; 50];
+    for i in 0..50 {
+        let h = marks[i];
+        let m = h.mark;
+        let v = shapes::number(m);
+        n[i] = v;
+    }
+    n
+}
+
+// The numbers of the marks, from word `from` on.
+pub fn marks_into(marks: [HeightMark; 50], w: &mut [u32], from: usize)
+    requires { ⌜ from + 50 ≤ length (now w) ⌝ }
+    ensures { λ _. ⌜ now (w .exit) ≡ marksInto marks (now (w .entry)) from ⌝ }
+{
+    let numbers = mark_numbers(marks);
+    words_50_into(numbers, w, from);
 }
 
 fn line_of(w: &[u32], i: usize) -> LayerMuf

@@ -13,6 +13,8 @@ use Rattle.profile.specs.Grid.{heightsOf}
 use Rattle.profile.specs.Density.{densityOf}
 use Rattle.profile.specs.Lecden.{slotAt, tailOf, curvesOf}
 use Rattle.profile.specs.declared.Slot.{Slot}
+use Rattle.profile.specs.declared.Curves.{Curves}
+use Rattle.profile.specs.declared.Drawn.{Drawn}
 
 abbrev pub preparedOf : Slot → Slot
 preparedOf p = reshapedOf p (f1Of p (valleyOf p))
@@ -20,8 +22,15 @@ preparedOf p = reshapedOf p (f1Of p (valleyOf p))
 abbrev pub htrOf : Slot → List Float
 htrOf p = heightsOf (preparedOf p) (tailOf (preparedOf p) .hex)
 
+-- all that the five shapes use: F1's is the shape that the reshaping chose, not one of the slot that it left
+abbrev pub curvesFor : Slot → Curves
+curvesFor p = curvesOf (preparedOf p) (valleyOf p) (f1Of p (valleyOf p)) (tailOf (preparedOf p))
+
 abbrev pub fnsqOf : Slot → List Float
-fnsqOf p = map (densityOf (curvesOf (preparedOf p) (valleyOf p) (f1Of p (valleyOf p)) (tailOf (preparedOf p)))) (htrOf p)
+fnsqOf p = map (densityOf (curvesFor p)) (htrOf p)
+
+abbrev pub drawnOf : Slot → Drawn
+drawnOf p = record { slot = preparedOf p; curves = curvesFor p; htr = htrOf p }
 
 -- the tables' lengths, as every state of the code has them
 pub record Shaped (s : IonoState) : Type 0 where

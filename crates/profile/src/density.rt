@@ -67,7 +67,7 @@ fn f2_layer(c: Curves, h: f32) -> f32
     0.0
 }
 
-fn candidates(c: Curves, h: f32) -> Candidates
+pub fn candidates(c: Curves, h: f32) -> Candidates
     ensures { λ r. ⌜ r ≡ candidatesOf c h ⌝ }
 {
     let fnd = tail_density(c, h);
@@ -84,7 +84,7 @@ fn candidates(c: Curves, h: f32) -> Candidates
     }
 }
 
-fn largest(c: Candidates) -> f32
+pub fn largest(c: Candidates) -> f32
     ensures { λ r. ⌜ r ≡ largestOf c ⌝ }
 {
     scalar::max(

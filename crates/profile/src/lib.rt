@@ -5,6 +5,7 @@ ghost use Prim.Native.Nat.{_<_};
 ghost use Rattle.profile.specs.Rising.{risesOf};
 ghost use Rattle.profile.specs.Density.{densityOf};
 ghost use Rattle.profile.specs.Lecden.{slotAt, slotWritten, tailOf, curvesOf, suppliedOf, lecdenOf, lecdenAnswer};
+ghost use Rattle.profile.specs.Prepared.{drawnOf};
 use layers::IonoState;
 use layers::Owner;
 use layers::StateAnswer;
@@ -12,7 +13,7 @@ use layers::owners;
 use refusal::Outcome;
 use refusal::Refusal;
 
-mod density;
+pub mod density;
 mod f1;
 mod grid;
 
@@ -87,6 +88,14 @@ pub struct Curves {
     pub fc2: f32,
     pub hi2: f32,
     pub yi2: f32,
+}
+
+// A slot's shapes, ready to be read at its heights: the slot reshaped, all that the shapes use, and
+// the fifty heights.
+pub struct Drawn {
+    pub slot: Slot,
+    pub curves: Curves,
+    pub htr: [f32; 50],
 }
 
 // The density of each shape at one height.
@@ -186,6 +195,23 @@ fn curves_of(s: Slot, v: Valley, f: F1Shape, t: Tail) -> Curves
     }
 }
 
+// Of a slot as `lecden` finds it: what is drawn of the slot that it leaves may be another F1.
+pub fn draw(p: Slot) -> Drawn
+    ensures { λ r. ⌜ r ≡ drawnOf p ⌝ }
+{
+    let v = f1::valley(p);
+    let f = f1::reshape(p, v);
+    let q = f1::reshaped(p, f);
+    let t = tail_of(q);
+    let htr = grid::heights(q, t.hex);
+    let curves = curves_of(q, v, f, t);
+    Drawn {
+        slot: q,
+        curves,
+        htr,
+    }
+}
+
 fn densities(c: Curves, htr: [f32; 50]) -> [f32; 50]
     ensures { λ r. ⌜ r ≡ map (densityOf c) htr ⌝ }
 {
@@ -197,7 +223,8 @@ fn densities(c: Curves, htr: [f32; 50]) -> [f32; 50]
     fnsq
 }
 
-fn supplied(s: IonoState) -> bool
+// Whether the profile came from outside.
+pub fn supplied(s: IonoState) -> bool
     ensures { λ r. ⌜ r ≡ suppliedOf s ⌝ }
 {
     s.ielect
@@ -212,12 +239,11 @@ pub fn lecden_slot(s: IonoState, k: usize) -> IonoState
         return s;
     }
     let p = slot_at(s, k);
-    let v = f1::valley(p);
-    let f = f1::reshape(p, v);
-    let q = f1::reshaped(p, f);
-    let t = tail_of(q);
-    let htr = grid::heights(q, t.hex);
-    let fnsq = densities(curves_of(q, v, f, t), htr);
+    let d = draw(p);
+    let q = d.slot;
+    let curves = d.curves;
+    let htr = d.htr;
+    let fnsq = densities(curves, htr);
     let rises = rises_throughout(&htr);
     let mut r = write_slot(s, k, q);
     r.htr = htr;

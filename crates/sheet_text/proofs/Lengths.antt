@@ -1,4 +1,4 @@
--- A sheet, of at most three slots, has at most 5,523 bytes: a row has at most 60, two digits, four numbers of nine bytes, a number of at most 20 digits after its space, whatever the segment is, and the line feed.
+-- A sheet, of at most three slots, has at most 7,773 bytes: a row has at most 60, two digits, four numbers of nine bytes, a number of at most 20 digits after its space, whatever the segment is, and the line feed; a slot's marks have at most 750.
 use mathlib.Core.List.{List, [], _∷_}
 use Prim.Native.Nat.{ℕ, _+_, _≤_, _<_}
 use native.Mathlib.Omega.{arith}
@@ -13,7 +13,9 @@ use Rattle.scalar.specs.F32.{at}
 use Rattle.muf.specs.declared.MufHour.{MufHour}
 use Rattle.reflectrix.specs.declared.Ionogram.{Ionogram}
 use Rattle.circuit_sheet.specs.declared.Sheet.{Sheet}
-use Rattle.sheet_text.specs.SheetText.{bitsField, mufWord, callWord, slotWord, mufFields, natural, mufLine, callLine, rowFields, rowLine, slotLine, slotText, noIonogram, slotAt, answeredText}
+use Rattle.circuit_sheet.specs.declared.SlotRows.{SlotRows}
+use Rattle.mark_text.proofs.Lengths.{marks-most}
+use Rattle.sheet_text.specs.SheetText.{bitsField, mufWord, callWord, slotWord, mufFields, natural, mufLine, callLine, rowFields, rowLine, slotLine, slotText, nothing, slotAt, answeredText}
 
 bits : (x : Float) → AtMost (bitsField x) 9
 unfolding bitsField
@@ -42,13 +44,14 @@ row : (ion : Ionogram) (i : ℕ) → i < 30 → AtMost (rowLine ion i) 60
 unfolding rowLine
 row ion i h = digits-below 1 (i + 1) (omega arith) then row-fields ion i then field (getD (ion .segment) i 0) then line-feed
 
-slot : (ion : Ionogram) (k : ℕ) → k < 3 → AtMost (slotText ion k) 1807
+slot : (rows : SlotRows) (k : ℕ) → k < 3 → AtMost (slotText rows k) 2557
 unfolding slotText slotLine
-slot ion k h = (word slotWord then digits-below 0 k (omega arith) then line-feed) then times (rowLine ion) 60 30 (row ion)
+slot rows k h =
+    (word slotWord then digits-below 0 k (omega arith) then line-feed) then times (rowLine (rows .ion)) 60 30 (row (rows .ion)) then marks-most (rows .marks)
 
-pub answered-most : (s : Sheet) → s .slots ≤ 3 → AtMost (answeredText s) 5523
+pub answered-most : (s : Sheet) → s .slots ≤ 3 → AtMost (answeredText s) 7773
 unfolding answeredText
 answered-most s h =
-    let slots = times (slotAt (s .rows)) 1807 (s .slots) (λ k l. slot (getD (s .rows) k noIonogram) k (omega arith)) in
+    let slots = times (slotAt (s .rows)) 2557 (s .slots) (λ k l. slot (getD (s .rows) k nothing) k (omega arith)) in
     let t = muf-line (s .hour) then call-line (s .hour) then slots in
     record { most = omega (arith, t .most) }

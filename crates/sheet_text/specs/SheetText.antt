@@ -1,4 +1,4 @@
--- What `sheet` prints: the lines of `muf` and `call`, then for each slot its number and thirty rows; of a refused file only the refusal.
+-- What `sheet` prints: the lines of `muf` and `call`, then for each slot its number, thirty rows and fifty marks; of a refused file only the refusal.
 use mathlib.Core.List.{List, [], _∷_, _++_}
 use Prim.Native.Nat.{ℕ, _+_}
 use lib.IntN.{ℤ, pos, negsuc}
@@ -10,9 +10,11 @@ use Rattle.scalar.specs.F32.{at}
 use Rattle.muf.specs.declared.MufHour.{MufHour}
 use Rattle.reflectrix.specs.declared.Ionogram.{Ionogram}
 use Rattle.circuit_sheet.specs.declared.Sheet.{Sheet}
+use Rattle.circuit_sheet.specs.declared.SlotRows.{SlotRows}
 use Rattle.circuit_sheet.specs.CircuitSheet.{sheetOf}
 use Rattle.figures.specs.Figure.{figureOf}
 use Rattle.figure_text.specs.FigureText.{figureText}
+use Rattle.mark_text.specs.MarkText.{marksText}
 
 -- one space, then the eight digits of a number's bits; those of NaN are 7fc00000
 unfoldable pub bitsField : Float → List ℕ
@@ -56,15 +58,15 @@ rowLine ion i = decimalOf (i + 1) ++ (rowFields ion i ++ (fieldOf (getD (ion .se
 unfoldable pub slotLine : ℕ → List ℕ
 slotLine k = slotWord ++ (decimalOf k ++ (lineFeed ∷ []))
 
-unfoldable pub slotText : Ionogram → ℕ → List ℕ
-slotText ion k = slotLine k ++ joined (rowLine ion) 30
+unfoldable pub slotText : SlotRows → ℕ → List ℕ
+slotText rows k = slotLine k ++ (joined (rowLine (rows .ion)) 30 ++ marksText (rows .marks))
 
 -- past the end, where no code reads
-abbrev pub noIonogram : Ionogram
-noIonogram = record { fvert = []; hprim = []; htrue = []; afac = []; segment = [] }
+abbrev pub nothing : SlotRows
+nothing = record { ion = record { fvert = []; hprim = []; htrue = []; afac = []; segment = [] }; marks = [] }
 
-abbrev pub slotAt : List Ionogram → ℕ → List ℕ
-slotAt rows k = slotText (getD rows k noIonogram) k
+abbrev pub slotAt : List SlotRows → ℕ → List ℕ
+slotAt rows k = slotText (getD rows k nothing) k
 
 unfoldable pub answeredText : Sheet → List ℕ
 answeredText s = mufLine (s .hour) ++ (callLine (s .hour) ++ joined (slotAt (s .rows)) (s .slots))

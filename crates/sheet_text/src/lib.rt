@@ -6,6 +6,7 @@ ghost use Rattle.io.specs.Counts.{Counts};
 ghost use Rattle.lines.specs.Text.{joined, Clipped, Put};
 ghost use Rattle.sheet_text.specs.SheetText.{bitsField, natural, mufFields, mufLine, callLine, rowFields, rowLine, slotLine, slotText, slotAt, answeredText, sheetText};
 use circuit_sheet::Sheet;
+use circuit_sheet::SlotRows;
 use muf::MufHour;
 use reflectrix::Ionogram;
 use refusal::Outcome;
@@ -96,21 +97,25 @@ fn put_slot_number(out: &mut [u8], at: usize, k: usize) -> usize
     lines::put_byte(out, b, b'\n')
 }
 
-fn put_slot(out: &mut [u8], at: usize, ion: Ionogram, k: usize) -> usize
-    ensures { λ e. ⌜ Clipped (slotText ion k) (now (out .entry)) at (now (out .exit)) e ⌝ }
+// A slot's number, its rows, then the marks of its heights.
+fn put_slot(out: &mut [u8], at: usize, rows: SlotRows, k: usize) -> usize
+    ensures { λ e. ⌜ Clipped (slotText rows k) (now (out .entry)) at (now (out .exit)) e ⌝ }
 {
+    let ion = rows.ion;
+    let marks = rows.marks;
     let a = put_slot_number(out, at, k);
-    put_rows(out, a, ion)
+    let b = put_rows(out, a, ion);
+    mark_text::put_marks(out, b, marks)
 }
 
-fn put_slots(out: &mut [u8], at: usize, rows: [Ionogram; 3], slots: usize) -> usize
+fn put_slots(out: &mut [u8], at: usize, rows: [SlotRows; 3], slots: usize) -> usize
     requires { ⌜ slots ≤ 3 ⌝ }
     ensures { λ e. ⌜ Clipped (joined (slotAt rows) slots) (now (out .entry)) at (now (out .exit)) e ⌝ }
 {
     let mut e = at;
     for k in 0..slots {
-        let ion = rows[k];
-        e = put_slot(out, e, ion, k);
+        let slot = rows[k];
+        e = put_slot(out, e, slot, k);
     }
     e
 }

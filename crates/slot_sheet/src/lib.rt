@@ -1,4 +1,5 @@
-// The slot sheet: a slot's profile, its ionogram, its reflectrix and its loss factors in one call.
+// The slot sheet: a slot's profile, its ionogram, its reflectrix and its loss factors in one call,
+// and which shape made each density of the profile.
 ghost use mathlib.Core.Path.{_≡_};
 ghost use Rattle.slot_sheet.specs.Sheet.{refusedSheet, slotSheetOf, sheetCellsOf};
 use layers::IonoState;
@@ -6,13 +7,16 @@ use layers::LayerMuf;
 use reflectrix::Ionogram;
 use refusal::Outcome;
 use refusal::Refusal;
+use shapes::HeightMark;
 
-// The ionogram of a slot, and the state as `lecden` of the slot left it. Beside a refusal every
-// number of the ionogram is +0, and the state is as it came.
+// The ionogram of a slot, the marks of its fifty heights, and the state as `lecden` of the slot left
+// it. Beside a refusal every number of the ionogram is +0, no height is marked, and the state is as
+// it came.
 pub struct SlotSheet {
     pub outcome: Outcome,
     pub state: IonoState,
     pub ion: Ionogram,
+    pub marks: [HeightMark; 50],
 }
 
 fn refused(s: IonoState, r: Refusal) -> SlotSheet
@@ -22,6 +26,7 @@ fn refused(s: IonoState, r: Refusal) -> SlotSheet
         outcome: Outcome::Refused(r),
         state: s,
         ion: reflectrix::no_rows(),
+        marks: shapes::no_marks(),
     }
 }
 
@@ -45,6 +50,7 @@ pub fn slot_sheet(
     if cells.len() < 30 * nang {
         return refused(s, Refusal::Reflectrix);
     }
+    let marks = shapes::marks_slot(s, k);
     let t = profile::lecden_slot(s, k);
     let ion = sounding::genion_slot(t, k);
     let outcome = reflectrix::fobby(ion, nang, cells);
@@ -53,5 +59,6 @@ pub fn slot_sheet(
         outcome,
         state: t,
         ion,
+        marks,
     }
 }

@@ -99,7 +99,7 @@ fn rust_muf(h: &Hourly) {
 
 fn our_sheet(h: &Hourly) {
     let mut state = h.words;
-    let (mut cells, mut out) = ([0; CELLS * ANGLES], [0; ROWS]);
+    let (mut cells, mut out) = ([0; CELLS * ANGLES], [0; SHEET]);
     let nang = ANGLES as u32;
     ours::port_sheet(
         &mut state,

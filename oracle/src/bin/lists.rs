@@ -56,7 +56,7 @@ impl Call {
                 layers,
                 lent,
             } => {
-                let (mut cells, mut out) = (vec![MARK; *lent], vec![MARK; ROWS]);
+                let (mut cells, mut out) = (vec![MARK; *lent], vec![MARK; SHEET]);
                 let answer = ours::port_sheet(&mut state, *k, *nang, layers, &mut cells, &mut out);
                 (answer, [cells, out].concat())
             }

@@ -140,11 +140,14 @@ pub fn sheet<const EXACT: bool>(r: &mut Random) -> Call {
         meet_rows(r, &mut layers, &rows);
     }
     let (given, lines) = (resized(r, &state), resized(r, &layers));
-    let (mut cells, mut out) = (lent_cells(r, nang), room(r, ROWS));
-    let wanted = long_enough(&[(&given, STATE), (&lines, LAYERS), (&out, ROWS)])
+    let (mut cells, mut out) = (lent_cells(r, nang), room(r, SHEET));
+    let wanted = long_enough(&[(&given, STATE), (&lines, LAYERS), (&out, SHEET)])
         .and_then(|()| predict::slot(&[k]))
         .and_then(|()| predict::cells(nang, cells.len()))
-        .map(|()| side::sheet(&state, k as usize, nang as usize, &layers));
+        .map(|()| {
+            let (after, rows, cells) = side::sheet(&state, k as usize, nang as usize, &layers);
+            (after, [rows, side::marks(&state, k as usize)].concat(), cells)
+        });
     let (cells_before, out_before) = (cells.clone(), out.clone());
     let mut got = given.clone();
     let answer = ours::port_sheet(&mut got, k, nang, &lines, &mut cells, &mut out);
@@ -153,7 +156,7 @@ pub fn sheet<const EXACT: bool>(r: &mut Random) -> Call {
         answer,
         wanted: refusal(&wanted),
         lent: vec![
-            Lent::new("rows", out, &out_before, part(|w| &w.1), row_floats),
+            Lent::new("rows, marks", out, &out_before, part(|w| &w.1), row_floats),
             Lent::new("cells", cells, &cells_before, part(|w| &w.2), no_floats),
             Lent::new("state", got, &given, part(|w| &w.0), state_floats),
         ],

@@ -1,4 +1,4 @@
--- The line and the rows are put one after the other.
+-- The line, the rows and the marks are put one after the other.
 use borrow.Author.Needs.{needs}
 use Rattle.lines.proofs.Placing.{clip-then}
 use Rattle.sheet_text.specs.SheetText.{slotText}
@@ -10,4 +10,5 @@ unfolding slotText
 returns c = search clip-then
 
 pub put-slot-spec : {M : Type 1} → statement M
-put-slot-spec = tie.close (tie.spec (λ c κs. search needs) (λ c κs. search needs) (λ c. search needs) returns)
+put-slot-spec = 
+    tie.close (tie.spec (λ c κs. search needs) (λ c κs. search needs) (λ c κs. search needs) (λ c. search needs) returns)

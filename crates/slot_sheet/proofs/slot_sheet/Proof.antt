@@ -14,6 +14,8 @@ use Rattle.layers.specs.declared.LayerMuf.{LayerMuf}
 use Rattle.profile.specs.Lecden.{lecdenOf}
 use Rattle.sounding.specs.Genion.{genionOf}
 use Rattle.losses.specs.Alosfv.{alosfvOf}
+use Rattle.shapes.specs.Marks.{marksOf}
+use Rattle.shapes.specs.declared.HeightMark.{HeightMark}
 use Rattle.reflectrix.specs.declared.Ionogram.{Ionogram}
 use Rattle.slot_sheet.specs.declared.SlotSheet.{SlotSheet}
 use Rattle.reflectrix.specs.Fobby.{roomFor, cellsAfter, fobbyOutcome}
@@ -22,11 +24,11 @@ use Rattle.slot_sheet.proofs.slot_sheet.Statement.{statement}
 use Rattle.slot_sheet.proofs.slot_sheet.Tie as tie
 
 -- the four in turn, where nothing is refused
-in-turn : (s : IonoState) (k nang : ℕ) (layers : List LayerMuf) (cells : List ℤ) (o : Outcome) (t : IonoState) (ion losses : Ionogram) (after : List ℤ)
-    → leb k 2 ≡ true → leb nang 40 ≡ true → leb (30 * nang) (length cells) ≡ true → t ≡ lecdenOf s k → ion ≡ genionOf t k → o ≡ fobbyOutcome nang cells → after ≡ cellsAfter ion nang cells → losses ≡ alosfvOf t k ion layers
-    → (_≡_ {A = SlotSheet} (record { outcome = o; state = t; ion = losses }) (slotSheetOf s k nang layers cells)) × (after ≡ sheetCellsOf s k nang cells)
+in-turn : (s : IonoState) (k nang : ℕ) (layers : List LayerMuf) (cells : List ℤ) (o : Outcome) (t : IonoState) (ion losses : Ionogram) (marks : List HeightMark) (after : List ℤ)
+    → leb k 2 ≡ true → leb nang 40 ≡ true → leb (30 * nang) (length cells) ≡ true → t ≡ lecdenOf s k → ion ≡ genionOf t k → o ≡ fobbyOutcome nang cells → after ≡ cellsAfter ion nang cells → losses ≡ alosfvOf t k ion layers → marks ≡ marksOf s k
+    → (_≡_ {A = SlotSheet} (record { outcome = o; state = t; ion = losses; marks = marks }) (slotSheetOf s k nang layers cells)) × (after ≡ sheetCellsOf s k nang cells)
 unfolding slotSheetWith sheetCellsWith roomFor cellsAfter fobbyOutcome
-in-turn s k nang layers cells o t ion losses after slot few room et ei eo ea el = (rw (eo, el, ei, et, slot, few, room), rw (ea, ei, et, slot, few, room))
+in-turn s k nang layers cells o t ion losses marks after slot few room et ei eo ea el em = (rw (eo, el, em, ei, et, slot, few, room), rw (ea, ei, et, slot, few, room))
 
 returns : tie.Need-returns
 unfolding slotSheetWith sheetCellsWith
@@ -52,19 +54,20 @@ returns-3 c =
 returns-4 : tie.Need-returns-4
 returns-4 c =
     let reflectrix = c .before .before .fobby .ensures in
-    in-turn _ _ _ _ _ _ _ _ _ _
-    (le-leb _ _ (c .before .before .before .before .before .before .before .before .if1 .left))
-    (le-leb _ _ (c .before .before .before .before .before .before .before .if2 .left))
-    (le-leb _ _ (c .before .before .before .before .before .before .if3 .left))
+    in-turn _ _ _ _ _ _ _ _ _ _ _
+    (le-leb _ _ (c .before .before .before .before .before .before .before .before .before .if1 .left))
+    (le-leb _ _ (c .before .before .before .before .before .before .before .before .if2 .left))
+    (le-leb _ _ (c .before .before .before .before .before .before .before .if3 .left))
     (c .before .before .before .before .before .lecden-slot .ensures)
     (c .before .before .before .before .genion-slot .ensures)
     (reflectrix .0)
     (reflectrix .1)
     (c .alosfv-slot .ensures)
+    (c .before .before .before .before .before .before .marks-slot .ensures)
 
 pub slot-sheet-spec : {M : Type 1} → statement M
 slot-sheet-spec =
     tie.close
     (tie.spec (λ c κs. search needs) returns (λ c κs. search needs) returns-2 (λ c. search needs)
     (λ c κs. search needs) returns-3 (λ c κs. search needs) (λ c κs. search needs) (λ c κs. search needs)
-    (λ c κs. search needs) (λ c. search needs) returns-4)
+    (λ c κs. search needs) (λ c κs. search needs) (λ c. search needs) returns-4)

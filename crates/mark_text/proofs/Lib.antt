@@ -1,0 +1,2 @@
+-- How long the lines are.
+pub mod Lengths

@@ -1,0 +1,2 @@
+-- What `sheet` prints of a slot's marks.
+pub mod MarkText

@@ -1,0 +1,3 @@
+-- What the marks say.
+mod NotBelow
+pub mod Rule
