@@ -20,29 +20,24 @@ use Rattle.order.specs.Units.{real, key, rounded}
 use Rattle.order.proofs.Keys.{lt-key, overflow-pos}
 use Rattle.order.proofs.Sums.{round-as, round-key, rounded-mono, finite-real}
 use Rattle.order.proofs.Tests.{nought-is, nought-key, le→keys, le-real, lt→keys, lt-real}
-use Rattle.waves.specs.SinCos.{sinOf, cosOf}
 use Rattle.arcs.specs.Atan.{atanBits, atanOf}
 use Rattle.waves.specs.Answers.{sinAnswer, cosAnswer}
-use Rattle.waves.specs.declared.Answer.{Answer}
 use Rattle.arcs.proofs.Within.{atan-within}
 use Rattle.constants.specs.Constants.{D2R, PIO2, RZ}
 use Rattle.hops.specs.Geometry.{hopRatioOf, hopsBy, hopsOf, psiOf, delOf}
 use Rattle.hops.specs.declared.Hops.{Hops}
+use Rattle.angles.specs.Angles.{Small, SinAnswers, CosAnswers, NeverRefused13}
 use Rattle.angles.proofs.Keys.{Above, UpTo, From, Between, quotient, product, product-from, difference, finite-of, key-range}
 
 abbrev F : Float → Type 0
 F x = T (fits binary32 x)
 
--- neither below -4 nor above 4; NaN is neither
-abbrev pub Small : Float → Type 0
-Small x = ((x <f negf f4) ≡ false) × ((x >f f4) ≡ false)
-
 -- and then sine and cosine answer
-pub sin-answers : (x : Float) → Small x → sinAnswer x ≡ Answer.Value (sinOf x)
+pub sin-answers : SinAnswers
 unfolding sinAnswer
 sin-answers x h = rw (h .0, h .1)
 
-pub cos-answers : (x : Float) → Small x → cosAnswer x ≡ Answer.Value (cosOf x)
+pub cos-answers : CosAnswers
 unfolding cosAnswer
 cos-answers x h = rw (h .0, h .1)
 
@@ -347,15 +342,8 @@ gcd-up-to gcd p e = domain gcd f6·3 p (es-constants .4) (es-constants .5) e
 
 -- ---- all of them, on the domain
 
--- For a path of gcd radians and gcdkm kilometres and a least angle of amind: every argument of sin and cos in `hopRatioOf`, `hopGeometryOf`, `roundOf` and the Es section's ray. h is any height, x the hop count that it gives.
-pub record AllSmall (gcd gcdkm amind : Float) : Type 0 where
-  pub least : Small (maxOf amind f0 *f D2R)
-  pub hop : (h x : Float) (split : Bool) → hopsOf gcdkm amind h ≡ Hops.Count x → Small (psiOf gcdkm x split)
-  pub takeoff : (h x cpsi spsi hp : Float) (split : Bool) → hopsOf gcdkm amind h ≡ Hops.Count x → Small (delOf (psiOf gcdkm x split) cpsi spsi hp)
-  pub es : (h x : Float) → hopsOf gcdkm amind h ≡ Hops.Count x → Small (f0·5 *f gcd /f x)
-
 -- The domain of refusal 9, whatever the state, the Es rows and the lists.
-pub never-refused-13 : (gcd gcdkm amind : Float) → F gcd → F gcdkm → F amind → (f0 ≤f gcd && gcd ≤f f6·3) ≡ true → (f0 ≤f gcdkm && gcdkm ≤f f40100) ≡ true → (amind >f f90) ≡ false → AllSmall gcd gcdkm amind
+pub never-refused-13 : NeverRefused13
 never-refused-13 gcd gcdkm amind p q r a b c =
     let km = gcdkm-up-to gcdkm q b in
     record {

@@ -8,12 +8,10 @@ use lib.Ieee.{Float, ofBits, round, lt, neg, mul}
 use lib.Ieee.Fits.{and-l, and-r}
 use Rattle.scalar.specs.F32.{_*f_, _<f_, _>f_, negf, at}
 use Rattle.scalar.specs.Literals.{f4}
-use Rattle.waves.specs.SinCos.{cosOf}
-use Rattle.waves.specs.Answers.{cosAnswer}
-use Rattle.waves.specs.declared.Answer.{Answer}
 use Rattle.constants.specs.Constants.{D2R}
 use Rattle.reflectrix.specs.Angles.{ANG}
-use Rattle.angles.proofs.Angles.{Small, cos-answers}
+use Rattle.angles.specs.Angles.{Small, FobbySmall, FobbyAnswers}
+use Rattle.angles.proofs.Angles.{cos-answers}
 
 -- an angle of the list in radians, as in `rcosdOf`
 abbrev radians : List Float → ℕ → Float
@@ -46,8 +44,8 @@ unfolding all-small small ANG ofBits round lt neg mul
 forty = tt
 
 -- cos in `fobby`, at every angle of the scan
-pub fobby-small : (ia : ℕ) → Small (at ANG ia *f D2R)
+pub fobby-small : FobbySmall
 fobby-small ia = each-small ANG forty ia
 
-pub fobby-answers : (ia : ℕ) → cosAnswer (at ANG ia *f D2R) ≡ Answer.Value (cosOf (at ANG ia *f D2R))
+pub fobby-answers : FobbyAnswers
 fobby-answers ia = cos-answers (at ANG ia *f D2R) (fobby-small ia)

@@ -23,6 +23,7 @@ use Rattle.order.specs.Units.{keyOf}
 use Rattle.order.proofs.Keys.{le-key}
 use Rattle.order.proofs.Sums.{sized-key, neg-value}
 use Rattle.arcs.specs.Atan.{atanMag, atanBits, atanOf}
+use Rattle.arcs.specs.Special.{AtanWithin}
 use Rattle.arcs.proofs.Reduce.{case}
 use Rattle.arcs.proofs.AtanBits.{small-bits, mid-bits, big-bits, nan-bits, angle-big}
 use Rattle.arcs.proofs.AtanMost.{atan-most, pattern-most}
@@ -82,6 +83,6 @@ bits-law b =
     big l h = subst (λ (c : ℕ). Within (ofBits binary32 c)) (sym (big-bits b l h)) (bits-within (b / 2 ^ 31 * 2 ^ 31 + 0x3fc9_0fdb) (mid-rest (b / 2 ^ 31) 0x3fc9_0fdb (le-refl 0x3fc9_0fdb)))
 
 -- `atanOf x` is NaN, or within the f32 nearest to half pi of 0
-pub atan-within : (x : Float) → (isNan (atanOf x) ≡ true) ⊎ ((negf f1·570796326 ≤f atanOf x ≡ true) × (atanOf x ≤f f1·570796326 ≡ true))
+pub atan-within : AtanWithin
 unfolding atanOf
 atan-within x = bits-law (toBits binary32 x)

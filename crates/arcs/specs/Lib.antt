@@ -1,3 +1,4 @@
--- asin and atan as whole-number definitions.
+-- asin and atan as whole-number definitions, and their special values.
 pub mod Atan
 pub mod Asin
+pub mod Special

@@ -1,47 +1,32 @@
--- The literal form for sine and cosine: two fractions, a partial sum and the partial sum with the next term, that enclose every later partial sum. Definitions only.
-use Prim.Native.Nat.{ℕ, _+_, _*_, _≤_, _<_}
-use mathlib.Core.Bool.{cond, Bool·beq}
-use lib.Ieee.{Float, nan, inf, fin, up, down}
-use Rattle.series.specs.Series.{Sums, sums, Ksin, Kcos}
-use Rattle.exact.specs.Unit.{steps, ulp, unity}
+-- Two fractions that enclose the sine or the cosine of n / d: a partial sum, and the one with the next term.
+-- The partial sum up to number k is num (class a) less num (class b), over full d k (crate `series`): a and b are 1 and 3 for the sine, 0 and 2 for the cosine.
+use Prim.Native.Nat.{ℕ, suc, _+_, _*_, _^_, _≤_, _<_}
+use Rattle.series.specs.Series.{full, num, class, Later}
+use Rattle.exact.specs.Unit.{unity}
 
--- (plus - minus) / den of s is at most that of s'; and with the next term added to both, s' is at most s
-abbrev pub Below : Sums → Sums → Type 0
-Below s s' = s .plus * s' .den + s .den * s' .minus ≤ s .den * s' .plus + s .minus * s' .den
+-- the partial sum up to number j is at most the one up to number k
+abbrev pub NotAbove : (a b n d j k : ℕ) → Type 0
+NotAbove a b n d j k = num (class a) n d j * full d k + num (class b) n d k * full d j ≤ num (class a) n d k * full d j + num (class b) n d j * full d k
 
-abbrev pub Above : Sums → Sums → Type 0
-Above s s' = s .den * (s' .plus + s' .next) + s .minus * s' .den ≤ s .den * s' .minus + (s .plus + s .next) * s' .den
-
--- all partial sums after the one of 2 j terms lie between the two fractions at j; the one with an odd number of terms is never the smaller of its pair, since `next` is not negative
-abbrev pub Nested : (K : ℕ → ℕ) (n d a b j : ℕ) → Type 0
-Nested K n d a b j = (i : ℕ) → j ≤ i → Below (sums K n d a b j) (sums K n d a b i) × Above (sums K n d a b j) (sums K n d a b i)
-
--- and their distance, next / den, falls below every 1 / N: so the fractions name one number
-abbrev pub Narrow : (K : ℕ → ℕ) (n d a b : ℕ) → Type 0
-Narrow K n d a b = (N : ℕ) → (i : ℕ) × (N * sums K n d a b i .next ≤ sums K n d a b i .den)
+-- all later partial sums lie between the one up to number j and the one up to number j + 1
+abbrev pub Nested : (a b n d j : ℕ) → Type 0
+Nested a b n d j = (k : ℕ) → suc j ≤ k → NotAbove a b n d j k × NotAbove a b n d k (suc j)
 
 -- p / c less q / c is less than u / m from r / m less t / m
 pub record Less (m r t u p q c : ℕ) : Type 0 where
   pub low : r * c + m * q < m * p + (t + u) * c
   pub high : m * p + t * c < m * q + (r + u) * c
 
--- both fractions are less than one ulp from r
-abbrev pub TwoFractions : (K : ℕ → ℕ) (n d a b j r t u : ℕ) → Type 0
-TwoFractions K n d a b j r t u =
-    let s = sums K n d a b j in
-    Nested K n d a b j × Less unity r t u (s .plus) (s .minus) (s .den) × Less unity r t u (s .plus + s .next) (s .minus) (s .den)
+-- both fractions are less than u from r - t, in the units of `unity`
+abbrev pub TwoFractions : (a b n d j r t u : ℕ) → Type 0
+TwoFractions a b n d j r t u =
+    Nested a b n d j
+    × Less unity r t u (num (class a) n d j) (num (class b) n d j) (full d j)
+    × Less unity r t u (num (class a) n d (suc j)) (num (class b) n d (suc j)) (full d (suc j))
 
--- for finite x and r; what else r may be says `NearSin`
-abbrev pub LiteralSin : Float → Float → Type 0
-LiteralSin (fin s m e) (fin t n f) = TwoFractions Ksin (m * up e) (down e) (m * up e) (down e) 9 (16 * cond (Bool·beq s t) (steps (fin t n f)) 0) (16 * cond (Bool·beq s t) 0 (steps (fin t n f))) (16 * ulp (fin t n f))
-LiteralSin (fin s m e) nan = Unit {0}
-LiteralSin (fin s m e) (inf t) = Unit {0}
-LiteralSin nan r = Unit {0}
-LiteralSin (inf s) r = Unit {0}
-
-abbrev pub LiteralCos : Float → Float → Type 0
-LiteralCos (fin s m e) (fin t n f) = TwoFractions Kcos (m * up e) (down e) 1 1 9 (16 * cond t 0 (steps (fin t n f))) (16 * cond t (steps (fin t n f)) 0) (16 * ulp (fin t n f))
-LiteralCos (fin s m e) nan = Unit {0}
-LiteralCos (fin s m e) (inf t) = Unit {0}
-LiteralCos nan r = Unit {0}
-LiteralCos (inf s) r = Unit {0}
+-- ---- what is claimed of them: up to 4 they are nested, from 4 i on for the sine and from 4 i + 3 on for the cosine, and narrow, so they name one number
+pub record OneWave : Type 0 where
+  pub sine-nested : (n d i : ℕ) → 0 < d → n ≤ 4 * d → 1 ≤ i → Nested 1 3 n d (4 * i)
+  pub cosine-nested : (n d i : ℕ) → 0 < d → n ≤ 4 * d → Nested 0 2 n d (4 * i + 3)
+  -- the two are at most the term of number k = j + 1 apart, which falls below every 1 / N
+  pub narrow : (n d N : ℕ) → 0 < d → Later (λ k. N * n ^ k ≤ full d k)

@@ -1,4 +1,3 @@
--- What "near the exact value" means: the unit in the last place, near, and enclosures by fractions.
+-- The unit in the last place, and enclosures by fractions.
 pub mod Unit
-pub mod Near
 pub mod Enclosure

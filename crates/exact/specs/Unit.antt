@@ -1,5 +1,5 @@
 -- The size of a finite float and the unit of its last place, both as whole numbers of 2 ^ -149. Definitions only.
-use Prim.Native.Nat.{ℕ, _+_, _-_, _*_, _/_, _^_}
+use Prim.Native.Nat.{ℕ, _-_, _*_, _/_, _^_}
 use lib.Ieee.{Float, nan, inf, fin, up, down, size}
 
 -- |x| in units of 2 ^ -149, which for an f32 is a whole number
@@ -12,13 +12,6 @@ steps (fin s m e) = m * up e * 2 ^ 149 / down e
 abbrev pub ulp : Float → ℕ
 ulp x = 2 ^ (size (steps x) - 24)
 
--- |r| - 15/16 ulp (0 where that is negative) and |r| + 15/16 ulp, in units of 2 ^ -149 / 16
-abbrev pub before : Float → ℕ
-before r = 16 * steps r - 15 * ulp r
-
-abbrev pub behind : Float → ℕ
-behind r = 16 * steps r + 15 * ulp r
-
--- so many of those units are 1
+-- units of 2 ^ -149 / 16, so many of which are 1
 abbrev pub unity : ℕ
 unity = 16 * 2 ^ 149

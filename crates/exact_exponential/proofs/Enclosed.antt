@@ -1,65 +1,22 @@
--- The terms of the power series fall below every fraction, since from twice the argument on each is at most half the one before; so from some number of terms on a partial sum and the same with its last term once more are both less than one unit in the last place from `expOf x`.
-use mathlib.Core.Path.{_≡_, ap, ap₂, _∙_, subst, subst₂}
+-- The terms of the power series fall below every fraction (`small` of `series`), so from some number of terms on a partial sum and the same with its last term once more are both less than one unit in the last place from `expOf x`.
+use mathlib.Core.Path.{_≡_, ap, subst, subst₂}
 use mathlib.Core.Bool.{true, false}
 use Prim.Native.Nat.{ℕ, zero, suc, _+_, _-_, _*_, _^_, _≤_, _<_}
-use native.Mathlib.Nat.{le-trans, le-of-eq, le-refl, le-dest, add-zero, add-suc, mul-comm, mul-le-mul, mul-le-mul-left, mul-le-mul-right, mul-pos, le-of-mul-le-mul-right, pow-suc}
+use native.Mathlib.Nat.{le-trans, le-of-eq, le-refl, le-dest, mul-comm, mul-le-mul-left, mul-le-mul-right, mul-pos, pow-suc}
 use native.Mathlib.Omega.{arith}
-use lib.Dec.{T}
 use lib.Pow.{pow-pos}
-use lib.Ieee.{Float, nan, inf, fin, binary32, up, down, size, fits}
+use lib.Ieee.{Float, nan, inf, fin, up, down, size}
 use lib.Ieee.Fits.{down-pos}
 use Rattle.series.specs.Series.{full, num, one, Close}
 use Rattle.series.proofs.Addition.{full-pos, exp-over}
 use Rattle.series.proofs.Weighted.{grows, above}
+use Rattle.series.proofs.Falling.{small}
 use Rattle.exponential.specs.Exp.{expOf}
 use Rattle.exact.specs.Unit.{steps, ulp}
-use Rattle.exact.specs.Near.{NearExp}
-use Rattle.exact_exponential.specs.Enclosure.{NearerThan, upperSum, Inside, Enclosed, EnclosedBelow, EnclosedExp, OneNumber, Rising}
-use Rattle.exact_exponential.proofs.Terms.{full-1, num-1}
+use Rattle.exact_exponential.specs.Exp.{NearExp}
+use Rattle.exact_exponential.specs.Enclosure.{NearerThan, upperSum, Inside, Enclosed, EnclosedBelow, EnclosedExp, ExpEnclosed, ExpOneNumber, ExpRises}
+use Rattle.exponential_bounds.proofs.Terms.{full-1, num-1}
 use Rattle.exact_exponential.proofs.ExpTheorem.{exp-near}
-
-below-power : (k : ℕ) → k ≤ 2 ^ k
-below-power zero = omega arith
-below-power (suc k) = omega (arith, below-power k, pow-suc 2 k, pow-pos k)
-
--- ---- the terms get small
-module _ (n d M : ℕ) (D : 0 < d) where
-  abbrev A : ℕ
-  A = 2 * n
-
-  abbrev C : ℕ
-  C = M * n ^ A
-
-  halved : (k : ℕ) → A ≤ k → 2 * n ≤ d * suc k
-  halved k h = le-trans (le-trans h (omega arith)) (mul-le-mul-right (suc k) D)
-
-  halving : (o : ℕ) → M * n ^ (A + o) * 2 ^ o ≤ C * full d (A + o)
-  unfolding full
-  halving zero = rw add-zero (start (M * n ^ A) (full d A) (full-pos d A D))
-    where
-      start : (x f : ℕ) → 0 < f → x * 2 ^ 0 ≤ x * f
-      start x f p = mul-le-mul-left x p
-  halving (suc o) =
-      rw add-suc (go (n ^ (A + o)) (n ^ suc (A + o)) (2 ^ o) (2 ^ suc o) (full d (A + o)) (d * suc (A + o)) (pow-suc n (A + o)) (pow-suc 2 o) (halved (A + o) (omega arith)) (halving o))
-    where
-      go : (p p' t t' f c : ℕ) → p' ≡ p * n → t' ≡ t * 2 → 2 * n ≤ c → M * p * t ≤ C * f → M * p' * t' ≤ C * (f * c)
-      go p p' t t' f c e g h k =
-          le-trans (le-of-eq (ap₂ (λ (x y : ℕ). M * x * y) e g ∙ turn M p n t)) (le-trans (mul-le-mul k h) (le-of-eq (turn' C f c)))
-        where
-          turn : (M p n t : ℕ) → M * (p * n) * (t * 2) ≡ M * p * t * (2 * n)
-          turn M p n t = omega arith
-
-          turn' : (C f c : ℕ) → C * f * c ≡ C * (f * c)
-          turn' C f c = omega arith
-
-  small-at : (o : ℕ) → C ≤ o → M * n ^ (A + o) ≤ full d (A + o)
-  small-at o h = le-of-mul-le-mul-right {k = 2 ^ o} (le-trans (halving o) (le-trans (mul-le-mul-right (full d (A + o)) (le-trans h (below-power o))) (le-of-eq (mul-comm (2 ^ o) (full d (A + o)))))) (pow-pos o)
-
-  small : (k : ℕ) → A + C ≤ k → (2 * n ≤ d * suc k) × (M * n ^ k ≤ full d k)
-  small k h =
-      let a : A ≤ k = omega arith in
-      let o = le-dest a in
-      (halved k a, subst (λ (j : ℕ). M * n ^ j ≤ full d j) (o .1) (small-at (o .0) (omega (arith, o .1))))
 
 -- ---- nested
 1≤1 : (j : ℕ) → one j ≤ 1
@@ -87,11 +44,11 @@ falling n d k h = go (num one n d k) (full d k) (d * suc k) (n ^ k) (n ^ suc k) 
     go x f c p p' e g = omega (arith, mul-le-mul-right f g, ap (λ (y : ℕ). y * f) e)
 
 -- the enclosures name one number
-pub exp-one-number : (n d : ℕ) → 0 < d → OneNumber n d
+pub exp-one-number : ExpOneNumber
 exp-one-number n d D = record { rising = rising n d; falling = falling n d; narrow = λ M. (2 * n + M * n ^ (2 * n), small n d M D) }
 
 -- and rise with the argument
-pub exp-rises : (a h d : ℕ) → 0 < d → Rising a h d
+pub exp-rises : ExpRises
 exp-rises a h d D k = subst₂ (λ (x y : ℕ). num one a d k * x * full d (k + 1) ≤ num one (a + h) d (k + 1) * (full d k * y)) (num-1 h d) (full-1 d) (exp-over a h d D k 1)
 
 -- ---- from 15/16 of a unit to less than one
@@ -206,5 +163,5 @@ by-case (fin true m e) (inf t) h = h
 by-case nan r h = h
 by-case (inf s) r h = h
 
-pub exp-enclosed : (x : Float) → T (fits binary32 x) → EnclosedExp x (expOf x)
+pub exp-enclosed : ExpEnclosed
 exp-enclosed x F = by-case x (expOf x) (exp-near x F)

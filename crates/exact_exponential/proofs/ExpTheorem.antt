@@ -4,10 +4,10 @@ use mathlib.Core.Bool.{Bool, true, false, true≢false, false≢true}
 use Prim.Native.Nat.{ℕ, _+_, _-_, _*_, _/_, _%_, _^_, _≤_, _<_}
 use native.Mathlib.Nat.{le-trans, le-of-eq, le-refl, lt-of-lt-of-le, mul-assoc, mul-comm, mul-right-comm, mul-le-mul, mul-le-mul-left, mul-le-mul-right, le-of-mul-le-mul-right, eq-of-mul-eq-mul-right, div-le-of-le-mul}
 use native.Mathlib.Omega.{arith}
-use lib.Dec.{T, leb, lit<, lit≤}
+use lib.Dec.{leb, lit<, lit≤}
 use lib.Pow.{pow-pos, pow-mono, pow-add}
 use borrow.Author.Tests.{le-leb, lt-leb}
-use lib.Ieee.{Float, nan, inf, fin, binary32, up, down, size, ofBits, toBits, fits}
+use lib.Ieee.{Float, nan, inf, fin, binary32, up, down, size, ofBits, toBits}
 use lib.Ieee.Fits.{down-pos}
 use lib.Ieee.Bits.{ofBits-toBits, toBits-lt}
 use lib.Ieee.Exact.{HasValue}
@@ -21,11 +21,11 @@ use Rattle.exponential.specs.Tables.{ln2}
 use Rattle.exponential.specs.Exp.{powerOf, rounded, lowered, grown, shrunk, expBits, expOf}
 use Rattle.exponential.proofs.ExpCases.{at-nan, at-tiny, at-top, at-plus, at-bottom, at-minus, lowered-normal, lowered-subnormal, scaled-ge, below-plus, below-minus}
 use Rattle.exact.specs.Unit.{steps}
-use Rattle.exact.specs.Near.{NearExp}
+use Rattle.exact_exponential.specs.Exp.{NearExp, ExpNear}
 use Rattle.exact.proofs.Unit.{steps-is}
-use Rattle.exact_exponential.proofs.ExpPower.{power-ge, power-le, power-under}
-use Rattle.exact_exponential.proofs.ExpNear.{Sums, Recs, near-up, near-down, near-sub}
-use Rattle.exact_exponential.proofs.ExpEnds.{past-top, past-bottom, tiny-up, tiny-down, last, last-enc}
+use Rattle.exponential_bounds.proofs.ExpPower.{power-ge, power-le, power-under}
+use Rattle.exponential_bounds.proofs.ExpNear.{Sums, Recs, near-up, near-down, near-sub}
+use Rattle.exponential_bounds.proofs.ExpEnds.{past-top, past-bottom, tiny-up, tiny-down, last, last-enc}
 use Rattle.exact_exponential.proofs.Special.{nan-bits, a-nan, an-inf, minus-inf, a-zero}
 
 -- ---- from values to nearness. x is n / d
@@ -296,5 +296,5 @@ expOf-is : (x : Float) → expOf x ≡ ofBits binary32 (expBits (toBits binary32
 unfolding expOf
 expOf-is x = refl
 
-pub exp-near : (x : Float) → T (fits binary32 x) → NearExp x (expOf x)
+pub exp-near : ExpNear
 exp-near x F = subst₂ (λ (y z : Float). NearExp y z) (ofBits-toBits binary32 x F) (sym (expOf-is x)) (near-bits (toBits binary32 x) (toBits-lt binary32 x F))

@@ -4,7 +4,7 @@ use mathlib.Core.Bool.{Bool, true, false, cond, true≢false, false≢true}
 use Prim.Native.Nat.{ℕ, zero, suc, _+_, _-_, _*_, _/_, _%_, _^_, _≤_, _<_}
 use native.Mathlib.Nat.{not-le-of-lt, le-trans, le-of-eq, le-of-lt, le-refl, lt-of-lt-of-le, one-mul, mul-assoc, mul-comm, mul-left-comm, mul-le-mul-right, mul-pos, eq-of-mul-eq-mul-right}
 use native.Mathlib.Omega.{arith}
-use lib.Dec.{T, leb, lit<, lit≤}
+use lib.Dec.{leb, lit<, lit≤}
 use lib.IntN.{pos, negsuc}
 use lib.Pow.{pow-pos, pow-add}
 use lib.Count.{leadingZeros}
@@ -22,11 +22,12 @@ use Rattle.fixed.proofs.Values.{value-normal, subnormal, packed-value, ulp-ge}
 use Rattle.exponential.specs.Tables.{ln2}
 use Rattle.exponential.specs.Ln.{restOf, above, below, lnBits, lnOf}
 use Rattle.exponential.proofs.LnCases.{ln-zero, ln-none, ln-inf, ln-1, ln-up, ln-down, ln-deep, shifted}
-use Rattle.exact.specs.Near.{ExpLe, ExpGe, PowLe, PowGe, lower, upper, NearLn}
+use Rattle.series.specs.Series.{ExpLe, ExpGe}
+use Rattle.exact_exponential.specs.Ln.{PowLe, PowGe, lower, upper, NearLn, LnNear}
 use Rattle.exact.proofs.Unit.{steps-is}
 use Rattle.exact_exponential.proofs.Special.{nan-bits, a-nan, an-inf, minus-inf, a-zero, minus-zero, one-is}
-use Rattle.exact_exponential.proofs.Exponents.{lower-le, upper-ge, same-le, same-ge}
-use Rattle.exact_exponential.proofs.LnSum.{Good, good-up, good-down}
+use Rattle.exponential_bounds.proofs.Exponents.{lower-le, upper-ge, same-le, same-ge}
+use Rattle.exponential_bounds.proofs.LnSum.{Good, good-up, good-down}
 
 -- ---- an exponent of either sign
 module _ (a b d X D : ℕ) where
@@ -296,5 +297,5 @@ lnOf-is : (x : Float) → lnOf x ≡ ofBits binary32 (lnBits (toBits binary32 x)
 unfolding lnOf
 lnOf-is x = refl
 
-pub ln-near : (x : Float) → T (fits binary32 x) → NearLn x (lnOf x)
+pub ln-near : LnNear
 ln-near x F = subst₂ (λ (y z : Float). NearLn y z) (ofBits-toBits binary32 x F) (sym (lnOf-is x)) (near-bits (toBits binary32 x) (toBits-lt binary32 x F))

@@ -1,11 +1,13 @@
--- e ^ x enclosed by two fractions: a partial sum of the power series at x, and the same with its last term once more, which is more than all later terms together. Definitions only.
+-- e ^ x enclosed by two fractions: a partial sum of the power series at x, and the same with its last term once more, which is more than all later terms together.
 -- With x = n / d the terms up to number N come to num one n d N / full d N, and the last of them is n ^ N / full d N (crate `series`).
 use Prim.Native.Nat.{ℕ, suc, _+_, _*_, _^_, _≤_, _<_}
 use mathlib.Core.Bool.{true, false}
-use lib.Ieee.{Float, nan, inf, fin, up, down}
+use lib.Dec.{T}
+use lib.Ieee.{Float, nan, inf, fin, binary32, up, down, fits}
 use Rattle.series.specs.Series.{full, num, one}
 use Rattle.exact.specs.Unit.{steps, ulp}
-use Rattle.exact.specs.Near.{NearExp}
+use Rattle.exponential.specs.Exp.{expOf}
+use Rattle.exact_exponential.specs.Exp.{NearExp}
 
 -- a / b is less than u / 2 ^ 149 from v / 2 ^ 149
 pub record NearerThan (v u a b : ℕ) : Type 0 where
@@ -53,3 +55,13 @@ pub record OneNumber (n d : ℕ) : Type 0 where
 -- The series rises with its argument: e ^ ((a + h) / d) is at least 1 + h / d times e ^ (a / d). So where e ^ l ≤ x ≤ e ^ r, the logarithm of x lies between l and r.
 abbrev pub Rising : (a h d : ℕ) → Type 0
 Rising a h d = (k : ℕ) → num one a d k * (d + h) * full d (k + 1) ≤ num one (a + h) d (k + 1) * (full d k * d)
+
+-- ---- the theorems
+abbrev pub ExpEnclosed : Type 0
+ExpEnclosed = (x : Float) → T (fits binary32 x) → EnclosedExp x (expOf x)
+
+abbrev pub ExpOneNumber : Type 0
+ExpOneNumber = (n d : ℕ) → 0 < d → OneNumber n d
+
+abbrev pub ExpRises : Type 0
+ExpRises = (a h d : ℕ) → 0 < d → Rising a h d

@@ -1,2 +1,4 @@
--- exp enclosed by two fractions.
+-- How near exp and ln are to the exact values, and the two fractions that enclose exp.
+pub mod Exp
+pub mod Ln
 pub mod Enclosure

@@ -1,10 +1,11 @@
 -- The decimal literals of `nommuf` that no other function has, by name: `f0·2085` is the f32 that the Rust writes `0.2085`. The
--- table at the end says which decimal each one is written for, and `proofs/Coefficients.antt` proves that each is the f32
--- nearest to its decimal.
-use mathlib.Core.List.{List, [], _∷_}
+-- table at the end says which decimal each one is written for, and below it stands that each is the f32 nearest to
+-- its decimal.
+use mathlib.Core.List.{List, [], _∷_, map}
+use mathlib.Core.Path.{_≡_}
 use lib.Ieee.{Float, binary32, ofBits}
 use Rattle.scalar.specs.F32.{negf}
-use Rattle.scalar.specs.Literals.{Literal, is}
+use Rattle.scalar.specs.Literals.{Literal, is, decimal}
 
 abbrev pub f0·000000004368460907 : Float
 f0·000000004368460907 = ofBits binary32 0x31961963
@@ -98,3 +99,7 @@ coefficients =
     is f4·871 4871 3 ∷
     is f225 225 0 ∷
     []
+
+-- each is the f32 nearest to its decimal
+abbrev pub CoefficientsNearest : Type 0
+CoefficientsNearest = map (λ (l : Literal). l .value) coefficients ≡ map (λ (l : Literal). decimal (l .digits) (l .places)) coefficients

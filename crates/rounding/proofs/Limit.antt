@@ -13,10 +13,11 @@ use lib.Ieee.Exact.{HasValue, units-val}
 use lib.Ieee.Order.{drop, kept, round-mono}
 use lib.Ieee.Scale.{grid, overflow, round-val}
 use Rattle.rounding.specs.TiesToEven.{gap, limit}
+use Rattle.rounding.specs.Laws.{LimitBinary32}
 use Rattle.rounding.proofs.Cells.{grid-nearest}
 
 -- the number that the standard names
-pub limit-binary32 : limit binary32 ≡ 2 ^ 128 - 2 ^ 103
+pub limit-binary32 : LimitBinary32
 limit-binary32 = refl
 
 -- the largest finite value in units, (2 ^ prec - 1) * 2 ^ last, and half a step there

@@ -14,7 +14,8 @@ use lib.Ieee.Fits.{two, two-le-pos, kept-lt, down-pos}
 use lib.Ieee.Exact.{HasValue}
 use lib.Ieee.Order.{drop, kept}
 use lib.Ieee.Scale.{grid}
-use Rattle.rounding.specs.TiesToEven.{gap, off, limit, Nearest, TiesToEven}
+use Rattle.rounding.specs.TiesToEven.{gap, off, limit, Nearest}
+use Rattle.rounding.specs.Laws.{OnlyRound}
 use Rattle.rounding.proofs.Cells.{Out, Cmp, cmp, outside, steps-ge, regroup}
 use Rattle.rounding.proofs.Limit.{round-value}
 use Rattle.rounding.proofs.Units.{on-grid, in-units, units-of, dist, own-dist, patternOf, bits-of, same-value}
@@ -190,7 +191,7 @@ only f s a c C (fin t m e) (fin u n d) v p q =
             (ap (λ (x : ℕ). x % 2) (bits-of f u n d (q' * 2 ^ j) w ∙ ap (λ (x : ℕ). patternOf f u x) (o .1)) ∙ odd-bits f u (o .0) (drop (prec f) (a * L) c) (o .2) (o .3) (o .4)))
 
 -- what meets `TiesToEven` is `round`
-pub only-round : (f : Format) (s : Bool) (a c : ℕ) (r : Float) → 0 < c → TiesToEven f s a c r → r ≡ round f s a c
+pub only-round : OnlyRound
 only-round f s a c r C h = go (ltb a (limit f * c)) (ltb→lt a (limit f * c)) (nltb→le a (limit f * c))
   where
     go : (b : Bool) → (T b → a < limit f * c) → (T (not b) → limit f * c ≤ a) → r ≡ round f s a c

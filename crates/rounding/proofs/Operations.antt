@@ -3,15 +3,15 @@ use mathlib.Core.Path.{sym, subst}
 use mathlib.Core.Bool.{Bool, true, false, not, _&&_, Bool·beq, cond}
 use Prim.Native.Nat.{ℕ, suc, _+_, _-_, _*_}
 use native.Mathlib.Nat.{mul-pos, zero-lt-suc}
-use lib.IntN.{ℤ, pos, negsuc, natAbs}
+use lib.IntN.{pos, negsuc}
 use lib.Dec.{ltb}
-use lib.Ieee.{Float, fin, Format, unlike, up, down, round, neg, add, sub, mul, div, ofInt}
+use lib.Ieee.{Float, unlike, up, down, round, neg, add, sub, mul, div, ofInt}
 use lib.Ieee.Fits.{up-pos, down-pos}
-use Rattle.rounding.specs.TiesToEven.{TiesToEven, sumSize, sumSign, isMinus}
+use Rattle.rounding.specs.TiesToEven.{TiesToEven}
+use Rattle.rounding.specs.Laws.{AddRounds, SubRounds, MulRounds, DivRounds, OfIntRounds}
 use Rattle.rounding.proofs.TiesToEven.{round-ties-to-even}
 
-pub add-rounds : (f : Format) (s : Bool) (m : ℕ) (e : ℤ) (t : Bool) (n : ℕ) (d : ℤ)
-    → TiesToEven f (sumSign s (m * up e * down d) t (n * up d * down e)) (sumSize s (m * up e * down d) t (n * up d * down e)) (down e * down d) (add f (fin s m e) (fin t n d))
+pub add-rounds : AddRounds
 unfolding add
 add-rounds f s m e t n d = go (Bool·beq s t) (ltb a b)
   where
@@ -30,23 +30,22 @@ add-rounds f s m e t n d = go (Bool·beq s t) (ltb a b)
     go false false = round-ties-to-even f (s && ltb b a) (a - b) c (mul-pos (down-pos e) (down-pos d))
 
 -- x - y is x + -y
-pub sub-rounds : (f : Format) (s : Bool) (m : ℕ) (e : ℤ) (t : Bool) (n : ℕ) (d : ℤ)
-    → TiesToEven f (sumSign s (m * up e * down d) (not t) (n * up d * down e)) (sumSize s (m * up e * down d) (not t) (n * up d * down e)) (down e * down d) (sub f (fin s m e) (fin t n d))
+pub sub-rounds : SubRounds
 unfolding sub neg
 sub-rounds f s m e t n d = add-rounds f s m e (not t) n d
 
-pub mul-rounds : (f : Format) (s : Bool) (m : ℕ) (e : ℤ) (t : Bool) (n : ℕ) (d : ℤ) → TiesToEven f (unlike s t) (m * up e * (n * up d)) (down e * down d) (mul f (fin s m e) (fin t n d))
+pub mul-rounds : MulRounds
 unfolding mul
 mul-rounds f s m e t n d = round-ties-to-even f (unlike s t) (m * up e * (n * up d)) (down e * down d) (mul-pos (down-pos e) (down-pos d))
 
-pub div-rounds : (f : Format) (s : Bool) (m : ℕ) (e : ℤ) (t : Bool) (n : ℕ) (d : ℤ) → TiesToEven f (unlike s t) (m * up e * down d) (suc n * up d * down e) (div f (fin s m e) (fin t (suc n) d))
+pub div-rounds : DivRounds
 unfolding div
 div-rounds f s m e t n d =
     subst (λ (b : Bool). TiesToEven f (unlike s t) (m * up e * down d) (suc n * up d * down e) (cond b (cond (lib.Dec.eqb m 0) Float.nan (Float.inf (unlike s t))) (round f (unlike s t) (m * up e * down d) (suc n * up d * down e)))) (sym (lib.Dec.eqb·suc-zero n))
     (round-ties-to-even f (unlike s t) (m * up e * down d) (suc n * up d * down e) (mul-pos (mul-pos (zero-lt-suc n) (up-pos d)) (down-pos e)))
 
 -- an integer of either sign
-pub ofInt-rounds : (f : Format) (z : ℤ) → TiesToEven f (isMinus z) (natAbs z) 1 (ofInt f z)
+pub ofInt-rounds : OfIntRounds
 unfolding ofInt
 ofInt-rounds f (pos n) = round-ties-to-even f false n 1 (zero-lt-suc 0)
 ofInt-rounds f (negsuc n) = round-ties-to-even f true (suc n) 1 (zero-lt-suc 0)

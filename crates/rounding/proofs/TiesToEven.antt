@@ -13,7 +13,8 @@ use lib.Ieee.Exact.{HasValue}
 use lib.Ieee.Order.{drop, kept}
 use lib.Ieee.Scale.{grid, finite}
 use lib.Ieee.Positive.{den}
-use Rattle.rounding.specs.TiesToEven.{gap, off, Nearest, TiesToEven}
+use Rattle.rounding.specs.TiesToEven.{gap, off, Nearest}
+use Rattle.rounding.specs.Laws.{RoundTiesToEven}
 use Rattle.rounding.proofs.Cells.{grid-nearest, grid-tie}
 use Rattle.rounding.proofs.Limit.{round-inf, round-value}
 use Rattle.rounding.proofs.Units.{dist, in-units, on-grid, fractions, units-of, bits-of, same-value, own-dist}
@@ -125,7 +126,7 @@ module _ (f : Format) (s : Bool) (a c : ℕ) (C : 0 < c) where
               ∙ even-pattern f t (size N - prec f) (N / 2 ^ (size N - prec f)) (last-even (prec f) (kept (prec f) (a * L) c) (drop (prec f) (a * L) c) (two f) (kept-le (prec f) (a * L) c) y)
 
 -- roundTiesToEven
-pub round-ties-to-even : (f : Format) (s : Bool) (a c : ℕ) → 0 < c → TiesToEven f s a c (round f s a c)
+pub round-ties-to-even : RoundTiesToEven
 round-ties-to-even f s a c C = record {
   below = λ h. rounded f s a c C (round f s a c) (round-fits f s a c) (round-value f s a c C h);
   above = λ h. round-inf f s a c C h;

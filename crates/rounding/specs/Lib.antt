@@ -1,2 +1,3 @@
--- IEEE 754's roundTiesToEven.
+-- IEEE 754's roundTiesToEven, and what is claimed of it.
 pub mod TiesToEven
+pub mod Laws

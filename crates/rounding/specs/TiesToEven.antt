@@ -1,5 +1,5 @@
--- What IEEE 754 asks of roundTiesToEven (section 4.3.1), in whole numbers, since there are no real numbers here. Definitions only: that the logic's `round` meets it, and nothing
--- else does, is proved in proofs/ (`round-ties-to-even`, `only-round`), and so is that each operation is its exact result so rounded (`add-rounds` and its like).
+-- What IEEE 754 asks of roundTiesToEven (section 4.3.1), in whole numbers, since there are no real numbers here. That the logic's `round` meets it, and nothing
+-- else does, and that each operation is its exact result so rounded, is stated in Laws.antt. Definitions only.
 -- The number to be rounded is the fraction a / c, for a c above 0, with the sign s (true is minus). A finite value y of a format is ±num y / den y.
 use Prim.Native.Nat.{ℕ, suc, _+_, _-_, _*_, _%_, _^_, _≤_, _<_}
 use mathlib.Core.Path.{_≡_}

@@ -11,6 +11,7 @@ use lib.Ieee.Scale.{finite}
 use lib.Ieee.Positive.{positive, positive-finite, num, den, den-pos}
 use Rattle.rounding.proofs.Units.{on-grid, same-value, units-of}
 use Rattle.scalar.specs.Root.{sq, inUnits, sqrtOf, CorrectRoot}
+use Rattle.scalar.specs.Laws.{SqrtCorrect, OnlyRoot}
 use Rattle.scalar.proofs.RootInUnits.{IsRoot, sqrt-in-units}
 
 -- the units of a value that the format holds are its fraction times 2 ^ 149, with nothing left over
@@ -81,7 +82,7 @@ in-fractions x r h p c = record {
     x-is : num x * 2 ^ 149 ≡ inUnits x * den x
     x-is = exact x h (positive-finite x p)
 
-pub sqrt-correct : (x : Float) → T (fits binary32 x) → T (positive x) → CorrectRoot x (sqrtOf x)
+pub sqrt-correct : SqrtCorrect
 sqrt-correct x h p = in-fractions x (sqrtOf x) h p (sqrt-in-units x h p)
 
 -- ---- nothing else is
@@ -113,5 +114,5 @@ one (fin false m a) (fin false n b) h k p q e =
     let y = exact (fin false n b) k tt in
     same-value binary32 false false m a n b (inUnits (fin false n b)) h k refl (x ∙ ap (λ (z : ℕ). z * down a) (units-of (num (fin false m a)) (num (fin false n b)) (2 ^ 149) (down b) (down a) (inUnits (fin false m a)) (inUnits (fin false n b)) (down-pos b) (down-pos a) x y e)) y
 
-pub only-root : (x r : Float) → T (fits binary32 x) → T (positive x) → CorrectRoot x r → r ≡ sqrtOf x
+pub only-root : OnlyRoot
 only-root x r h p q = let c = sqrt-correct x h p in one r (sqrtOf x) (q .held) (c .held) (q .is-positive) (c .is-positive) (same-size x r (sqrtOf x) q c)

@@ -1,9 +1,9 @@
 -- Each literal is the f32 nearest to its decimal: both sides of the table are computed.
-use mathlib.Core.Path.{_≡_, refl}
-use mathlib.Core.List.{map}
+use mathlib.Core.Path.{refl}
 use lib.Ieee.{ofBits, round}
-use Rattle.scalar.specs.Literals.{Literal, literals, decimal}
+use Rattle.scalar.specs.Literals.{literals, decimal}
+use Rattle.scalar.specs.Laws.{LiteralsNearest}
 
-pub literals-nearest : map (λ (l : Literal). l .value) literals ≡ map (λ (l : Literal). decimal (l .digits) (l .places)) literals
+pub literals-nearest : LiteralsNearest
 unfolding literals decimal ofBits round
 literals-nearest = refl

@@ -6,6 +6,7 @@ use mathlib.Core.Bool.{Bool, true, false, _||_, true≢false}
 use lib.Dec.{T}
 use lib.Ieee.{Float, nan, lt, le, eq, ne, isNan}
 use Rattle.scalar.specs.Scalar.{orSecond, minOf, maxOf}
+use Rattle.scalar.specs.Laws as Laws
 use Rattle.scalar.proofs.Nan.{nan-only, differs-is-nan}
 use Rattle.scalar.proofs.Order.{at-most-itself, in-order, less-at-most, equal-not-less, equal-number, nan-not-less, not-less-than-nan}
 
@@ -86,51 +87,68 @@ abbrev atLeast : Float → Float → Bool
 atLeast x y = le y x
 
 -- ---- minimum
-pub min-drops-nan-first : (b : Float) → minOf nan b ≡ b
+min-drops-nan-first : (b : Float) → minOf nan b ≡ b
 unfolding minOf
 min-drops-nan-first b = drops-first lt le b
 
-pub min-drops-nan-second : (a : Float) → minOf a nan ≡ a
+min-drops-nan-second : (a : Float) → minOf a nan ≡ a
 unfolding minOf
 min-drops-nan-second a = drops-second lt le a (nan-not-less a)
 
-pub min-first-of-equals : (a b : Float) → eq a b ≡ true → minOf a b ≡ a
+min-first-of-equals : (a b : Float) → eq a b ≡ true → minOf a b ≡ a
 unfolding minOf
 min-first-of-equals a b e = first-of-equals lt le a b (equal-number a b e) (equal-not-less a b e .1)
 
-pub min-nan-only-from-two : (a b : Float) → minOf a b ≡ nan → (a ≡ nan) × (b ≡ nan)
+min-nan-only-from-two : (a b : Float) → minOf a b ≡ nan → (a ≡ nan) × (b ≡ nan)
 unfolding minOf
 min-nan-only-from-two a b h = nan-only-from-two lt le a b nan-not-less h
 
-pub min-is-operand : (a b : Float) → (minOf a b ≡ a) ⊎ (minOf a b ≡ b)
+min-is-operand : (a b : Float) → (minOf a b ≡ a) ⊎ (minOf a b ≡ b)
 unfolding minOf
 min-is-operand a b = is-operand lt le a b
 
-pub min-not-above : (a b : Float) → (isNan a ≡ false → T (le (minOf a b) a)) × (isNan b ≡ false → T (le (minOf a b) b))
+min-not-above : (a b : Float) → (isNan a ≡ false → T (le (minOf a b) a)) × (isNan b ≡ false → T (le (minOf a b) b))
 unfolding minOf
 min-not-above a b = as-good lt le a b at-most-itself less-at-most in-order
 
 -- ---- maximum
-pub max-drops-nan-first : (b : Float) → maxOf nan b ≡ b
+max-drops-nan-first : (b : Float) → maxOf nan b ≡ b
 unfolding maxOf
 max-drops-nan-first b = drops-first more atLeast b
 
-pub max-drops-nan-second : (a : Float) → maxOf a nan ≡ a
+max-drops-nan-second : (a : Float) → maxOf a nan ≡ a
 unfolding maxOf
 max-drops-nan-second a = drops-second more atLeast a (not-less-than-nan a)
 
-pub max-first-of-equals : (a b : Float) → eq a b ≡ true → maxOf a b ≡ a
+max-first-of-equals : (a b : Float) → eq a b ≡ true → maxOf a b ≡ a
 unfolding maxOf
 max-first-of-equals a b e = first-of-equals more atLeast a b (equal-number a b e) (equal-not-less a b e .0)
 
-pub max-nan-only-from-two : (a b : Float) → maxOf a b ≡ nan → (a ≡ nan) × (b ≡ nan)
+max-nan-only-from-two : (a b : Float) → maxOf a b ≡ nan → (a ≡ nan) × (b ≡ nan)
 unfolding maxOf
 max-nan-only-from-two a b h = nan-only-from-two more atLeast a b not-less-than-nan h
 
-pub max-is-operand : (a b : Float) → (maxOf a b ≡ a) ⊎ (maxOf a b ≡ b)
+max-is-operand : (a b : Float) → (maxOf a b ≡ a) ⊎ (maxOf a b ≡ b)
 unfolding maxOf
 max-is-operand a b = is-operand more atLeast a b
 
-pub max-not-below : (a b : Float) → (isNan a ≡ false → T (le a (maxOf a b))) × (isNan b ≡ false → T (le b (maxOf a b)))
+max-not-below : (a b : Float) → (isNan a ≡ false → T (le a (maxOf a b))) × (isNan b ≡ false → T (le b (maxOf a b)))
 unfolding maxOf
 max-not-below a b = as-good more atLeast a b at-most-itself (λ x y e. less-at-most y x e) (λ x y n k e. in-order y x k n e)
+
+pub min-max : Laws.MinMax
+min-max =
+    record {
+      min-drops-nan-first = min-drops-nan-first;
+      min-drops-nan-second = min-drops-nan-second;
+      min-first-of-equals = min-first-of-equals;
+      min-nan-only-from-two = min-nan-only-from-two;
+      min-is-operand = min-is-operand;
+      min-not-above = min-not-above;
+      max-drops-nan-first = max-drops-nan-first;
+      max-drops-nan-second = max-drops-nan-second;
+      max-first-of-equals = max-first-of-equals;
+      max-nan-only-from-two = max-nan-only-from-two;
+      max-is-operand = max-is-operand;
+      max-not-below = max-not-below;
+    }

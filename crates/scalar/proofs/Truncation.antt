@@ -12,10 +12,11 @@ use lib.Ieee.{Float, nan, inf, fin, binary32, up, down, isNan, ofFields, ofBits,
 use lib.Ieee.Fits.{down-pos}
 use lib.Ieee.Exact.{HasValue}
 use Rattle.scalar.specs.Scalar.{truncOf}
+use Rattle.scalar.specs.Laws.{TruncIsCast}
 use Rattle.scalar.proofs.Patterns.{ofBits-is, fields-low, fields-mid}
 
 -- The paper's rule is lib.Ieee's cut to 31 digits and a sign.
-pub trunc-is-cast : (x : Float) → truncOf x ≡ toSigned 31 x
+pub trunc-is-cast : TruncIsCast
 unfolding truncOf toSigned
 trunc-is-cast nan = refl
 trunc-is-cast (inf true) = refl

@@ -1,5 +1,5 @@
 -- The decimal literals of the two Rust modules, by name: `f0·2` is the f32 that the Rust writes `0.2`. The table at the end says which decimal each one is written for, and
--- `proofs/Literals.antt` proves that each is the f32 nearest to its decimal. A negative literal is `neg` of one of these, as in the Rust.
+-- `LiteralsNearest` of Laws.antt says that each is the f32 nearest to its decimal. A negative literal is `neg` of one of these, as in the Rust.
 use mathlib.Core.List.{List, [], _∷_}
 use Prim.Native.Nat.{ℕ, _^_}
 use mathlib.Core.Bool.{false}

@@ -1,5 +1,5 @@
 -- The square root of an f32, correctly rounded: IEEE 754's squareRoot, in whole numbers. Definitions only. That `sqrtOf` is the f32 nearest to the root, and that nothing else is,
--- is proved in proofs/ (`sqrt-correct`, `only-root`).
+-- is stated in Laws.antt.
 use Prim.Native.Nat.{ℕ, zero, suc, _+_, _*_, _/_, _^_, _<_}
 use mathlib.Core.Bool.{true, false, cond}
 use lib.Dec.{T, leb, eqb}

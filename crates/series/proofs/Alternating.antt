@@ -3,7 +3,8 @@ use mathlib.Core.Path.{sym, subst}
 use Prim.Native.Nat.{ℕ, zero, suc, _+_, _*_, _≤_}
 use native.Mathlib.Nat.{le-dest, add-zero, add-suc, mul-le-mul-right}
 use native.Mathlib.Omega.{arith}
-use Rattle.series.specs.Series.{Sums, grow, sums, Close, Limit}
+use Rattle.series.specs.Series.{Close}
+use Rattle.series.proofs.Pairs.{Sums, grow, sums, Limit}
 
 module _ (K : ℕ → ℕ) (n d m r t u : ℕ) where
   -- the sum of the pairs is not below, and the sum with one term more is not above

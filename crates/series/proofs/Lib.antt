@@ -1,4 +1,5 @@
 -- Addition theorems, enclosures and bounds of the power series.
+pub mod Pairs
 mod Cauchy
 pub mod Addition
 pub mod Fractions
@@ -9,6 +10,9 @@ pub mod ExpFraction
 pub mod Alternating
 pub mod WaveFraction
 mod Quarters
+pub mod Quads
+pub mod Classes
+pub mod Falling
 pub mod Waves
 pub mod SmallAngle
 pub mod Sharp
@@ -16,3 +20,6 @@ pub mod SineSign
 pub mod Bounds
 pub mod Pythagoras
 pub mod Circle
+pub mod CosineFalls
+pub mod SineRises
+pub mod Pins

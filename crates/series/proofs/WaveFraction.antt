@@ -4,7 +4,8 @@ use Prim.Native.Nat.{ℕ, zero, suc, _+_, _*_, _≤_, _<_}
 use native.Mathlib.Nat.{le-trans, mul-assoc, mul-comm, mul-left-comm, mul-le-mul-right, mul-pos, le-of-mul-le-mul-right}
 use native.Mathlib.Omega.{arith}
 use lib.Dec.{lit<}
-use Rattle.series.specs.Series.{Sums, grow, sums, Close, Limit, Kind, sine, cosine, top, bottom}
+use Rattle.series.specs.Series.{Close, Kind, sine, cosine}
+use Rattle.series.proofs.Pairs.{Sums, grow, sums, Limit, top, bottom}
 
 pub record Times (w : ℕ) (s s' : Sums) : Type 0 where
   pub den : s' .den ≡ s .den * w

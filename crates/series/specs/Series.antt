@@ -1,67 +1,5 @@
--- The power series of sine and cosine, and below them that of e ^ x, as fractions of whole numbers. Definitions only.
--- x is n / d. The terms are a / b, a * n² / (b * d² * K 0), and so on: term k + 1 is term k times n² / (d² * K k).
--- For the sine a / b = n / d and K k = (2 k + 2) * (2 k + 3); for the cosine a / b = 1 / 1 and K k = (2 k + 1) * (2 k + 2).
+-- The power series of e ^ x, and by classes modulo 4 of its terms those of sine and cosine, as fractions of whole numbers: x is n / d. Definitions only.
 use Prim.Native.Nat.{ℕ, zero, suc, _+_, _*_, _^_, _≤_}
-
--- what j pairs of terms come to, over the one denominator `den`: the terms 0, 2, .., 2 j - 2 are added (`plus`), the terms 1, 3, .., 2 j - 1 are taken off (`minus`).
--- next / den is the term 2 j, the first that is left out.
-pub record Sums : Type 0 where
-  pub den : ℕ
-  pub next : ℕ
-  pub plus : ℕ
-  pub minus : ℕ
-
-abbrev pub grow : (K : ℕ → ℕ) (n d j : ℕ) → Sums → Sums
-grow K n d j s =
-    let g = d * d * K (2 * j) in
-    let h = d * d * K (2 * j + 1) in
-    record {
-      den = s .den * (g * h);
-      next = s .next * (n * n) * (n * n);
-      plus = (s .plus + s .next) * (g * h);
-      minus = s .minus * (g * h) + s .next * (n * n) * h;
-    }
-
-unfoldable pub sums : (K : ℕ → ℕ) (n d a b : ℕ) → ℕ → Sums
-sums K n d a b zero = record { den = b; next = a; plus = 0; minus = 0 }
-sums K n d a b (suc j) = grow K n d j (sums K n d a b j)
-
--- A partial sum (p - q) / c is at most u / m from the number (r - t) / m, where one of r and t is 0
-pub record Close (m r t u p q c : ℕ) : Type 0 where
-  pub low : r * c + m * q ≤ m * p + (t + u) * c
-  pub high : m * p + t * c ≤ m * q + (r + u) * c
-
--- Every partial sum from the one with 2 * j terms on is that close, and so is their limit
-pub record Limit (K : ℕ → ℕ) (n d a b j m r t u : ℕ) : Type 0 where
-  pub even : (i : ℕ) → j ≤ i → Close m r t u (sums K n d a b i .plus) (sums K n d a b i .minus) (sums K n d a b i .den)
-  pub odd : (i : ℕ) → j ≤ i → Close m r t u (sums K n d a b i .plus + sums K n d a b i .next) (sums K n d a b i .minus) (sums K n d a b i .den)
-
-abbrev pub Ksin : ℕ → ℕ
-Ksin k = (2 * k + 2) * (2 * k + 3)
-
-abbrev pub Kcos : ℕ → ℕ
-Kcos k = (2 * k + 1) * (2 * k + 2)
-
--- both at once: o is 1 for the sine and 0 for the cosine
-abbrev pub Kat : ℕ → ℕ → ℕ
-Kat o k = (2 * k + (o + 1)) * (2 * k + (o + 2))
-
-pub data Kind : Type 0 where
-  sine : Kind
-  cosine : Kind
-
-abbrev pub shift : Kind → ℕ
-shift sine = 1
-shift cosine = 0
-
--- the first term at n / d, as a fraction
-abbrev pub top : Kind → ℕ → ℕ
-top sine n = n
-top cosine n = 1
-
-abbrev pub bottom : Kind → ℕ → ℕ
-bottom sine d = d
-bottom cosine d = 1
 
 -- ---- the exponential series, its term of number k weighted by c k (by 1 for e ^ x itself): the terms up to number k come to num c n d k / full d k, with full d k = d ^ k * k!
 unfoldable pub full : (d : ℕ) → ℕ → ℕ
@@ -90,6 +28,38 @@ SinLe y d n c = Later (λ k. num (class 1) y d k * c + num (class 2) y d k * n �
 abbrev pub SinGe : (y d n c : ℕ) → Type 0
 SinGe y d n c = Later (λ k. num (class 3) y d k * c + num (class 0) y d k * n ≤ num (class 1) y d k * c + num (class 2) y d k * n)
 
+-- sin (y / d) ≤ n / c, and ≥
+abbrev pub SineAtMost : (y d n c : ℕ) → Type 0
+SineAtMost y d n c = Later (λ k. num (class 1) y d k * c ≤ num (class 3) y d k * c + n * full d k)
+
+abbrev pub SineAtLeast : (y d n c : ℕ) → Type 0
+SineAtLeast y d n c = Later (λ k. num (class 3) y d k * c + n * full d k ≤ num (class 1) y d k * c)
+
+-- cos (y / d) ≥ 0, and ≤ 0
+abbrev pub CosineNotNegative : (y d : ℕ) → Type 0
+CosineNotNegative y d = Later (λ k. num (class 2) y d k ≤ num (class 0) y d k)
+
+abbrev pub CosineNotPositive : (y d : ℕ) → Type 0
+CosineNotPositive y d = Later (λ k. num (class 0) y d k ≤ num (class 2) y d k)
+
 -- every weight 1: e ^ x itself
 abbrev pub one : ℕ → ℕ
 one k = 1
+
+-- e ^ (n / d) ≤ a / b, and a / b ≤ e ^ (n / d)
+abbrev pub ExpLe : (n d a b : ℕ) → Type 0
+ExpLe n d a b = (k : ℕ) → num one n d k * b ≤ a * full d k
+
+abbrev pub ExpGe : (n d a b : ℕ) → Type 0
+ExpGe n d a b = (k : ℕ) × (a * full d k ≤ num one n d k * b)
+
+-- ---- nearness
+-- A partial sum (p - q) / c is at most u / m from the number (r - t) / m, where one of r and t is 0
+pub record Close (m r t u p q c : ℕ) : Type 0 where
+  pub low : r * c + m * q ≤ m * p + (t + u) * c
+  pub high : m * p + t * c ≤ m * q + (r + u) * c
+
+-- ---- which of the two
+pub data Kind : Type 0 where
+  sine : Kind
+  cosine : Kind

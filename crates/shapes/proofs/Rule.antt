@@ -14,7 +14,7 @@ use Rattle.scalar.specs.Literals.{f0}
 use Rattle.scalar.specs.Scalar.{maxOf}
 use Rattle.scalar.proofs.Nan.{differs-is-nan}
 use Rattle.scalar.proofs.Order.{in-order, equal-not-less}
-use Rattle.scalar.proofs.MinMax.{max-is-operand}
+use Rattle.scalar.proofs.MinMax.{min-max}
 use Rattle.layers.specs.declared.IonoState.{IonoState}
 use Rattle.profile.specs.Density.{valleyTopBy, valleyFootBy, fnvalOf, eTopBy, eFootBy, fneOf, tailBy, fndOf, f1TopBy, f1FootBy, f1OnBy, fn1Of, f2FootBy, fn2Of, candidatesOf, largestOf, densityOf}
 use Rattle.profile.specs.Lecden.{suppliedOf, lecdenOf}
@@ -86,7 +86,7 @@ zero-turned x l e = is-true (eq x f0) (subst (λ (t : Bool). T (t || eq x f0)) (
 
 -- what is so of the operands is so of the maximum
 of-max : (P : Float → Type 0) (a b : Float) → P a → P b → P (maxOf a b)
-of-max P a b p q = go (max-is-operand a b)
+of-max P a b p q = go (min-max .max-is-operand a b)
   where
     go : (maxOf a b ≡ a) ⊎ (maxOf a b ≡ b) → P (maxOf a b)
     go (inl e) = subst P (sym e) p

@@ -1,3 +1,4 @@
--- sin and cos as whole-number definitions, and their answers where a refusal is asked for.
+-- sin and cos as whole-number definitions, their answers where a refusal is asked for, and their special values.
 pub mod SinCos
 pub mod Answers
+pub mod Special

@@ -10,5 +10,5 @@ unfolding slotText
 returns c = search clip-then
 
 pub put-slot-spec : {M : Type 1} → statement M
-put-slot-spec = 
+put-slot-spec =
     tie.close (tie.spec (λ c κs. search needs) (λ c κs. search needs) (λ c κs. search needs) (λ c. search needs) returns)

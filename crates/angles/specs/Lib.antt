@@ -1,0 +1,2 @@
+-- The arguments of sine and cosine are in their domain: what is claimed.
+pub mod Angles

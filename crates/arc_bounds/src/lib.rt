@@ -1,0 +1,1 @@
+// Bounds for the angles of asin and atan by the power series of sine and cosine: lemmas, no code.

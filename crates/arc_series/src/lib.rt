@@ -1,0 +1,1 @@
+// The arc tangent's own power series: a theorem, no code.

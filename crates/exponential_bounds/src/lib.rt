@@ -1,0 +1,1 @@
+// Bounds for exp and ln by their power series: lemmas, no code.

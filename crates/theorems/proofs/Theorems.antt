@@ -1,0 +1,129 @@
+-- Nothing is proved here: each field is the theorem of its name, from the crate that its `use` line names.
+use Rattle.rounding.proofs.TiesToEven.{round-ties-to-even}
+use Rattle.rounding.proofs.Only.{only-round}
+use Rattle.rounding.proofs.Limit.{limit-binary32}
+use Rattle.rounding.proofs.Operations.{add-rounds, sub-rounds, mul-rounds, div-rounds, ofInt-rounds}
+use Rattle.scalar.proofs.Literals.{literals-nearest}
+use Rattle.scalar.proofs.Truncation.{trunc-is-cast}
+use Rattle.scalar.proofs.MinMax.{min-max}
+use Rattle.scalar.proofs.CorrectRoot.{sqrt-correct, only-root}
+use Rattle.same.proofs.Same.{same-is-equal}
+use Rattle.exact_exponential.proofs.Enclosed.{exp-one-number, exp-rises, exp-enclosed}
+use Rattle.exact.proofs.Enclosure.{one-wave}
+use Rattle.series.proofs.CosineFalls.{cosine-falls}
+use Rattle.series.proofs.SineRises.{sine-rises}
+use Rattle.series.proofs.Pins.{sine-pins, tangent-pins}
+use Rattle.exact_exponential.proofs.ExpTheorem.{exp-near}
+use Rattle.exact_exponential.proofs.LnTheorem.{ln-near}
+use Rattle.exponential_bounds.proofs.Atanh.{ln-own-series}
+use Rattle.exponential.proofs.Special.{exponential-values}
+use Rattle.exact_waves.proofs.Waves.{sin-near, cos-near}
+use Rattle.exact_waves.proofs.Literal.{sin-literal, cos-literal}
+use Rattle.waves.proofs.Special.{wave-values}
+use Rattle.exact_arcs.proofs.Asin.{asin-near}
+use Rattle.exact_arcs.proofs.Atan.{atan-near}
+use Rattle.arcs.proofs.Special.{arc-values}
+use Rattle.arcs.proofs.Within.{atan-within}
+use Rattle.circuit_laws.proofs.ReadWritten.{read-written, read-same, written-length}
+use Rattle.circuit_laws.proofs.WrittenForm.{written-in-form}
+use Rattle.circuit_laws.proofs.WrittenRead.{written-read}
+use Rattle.circuit_laws.proofs.Carried.{carried}
+use Rattle.circuit_laws.proofs.Off.{off-chain}
+use Rattle.circuit_laws.proofs.Paper.{paper-laws}
+use Rattle.wide_circuit.proofs.Laws.{wide-laws}
+use Rattle.circuit_turn.proofs.Laws.{turn-laws}
+use Rattle.angles.proofs.Angles.{sin-answers, cos-answers, never-refused-13}
+use Rattle.angles.proofs.Reflectrix.{fobby-small, fobby-answers}
+use Rattle.nominal.proofs.Coefficients.{coefficients-nearest}
+use Rattle.nominal.proofs.Angles.{nominal-never-refused-13}
+use Rattle.nominal.proofs.Inputs.{reads-only, es-rewritten}
+use Rattle.figures.proofs.HalfToEven.{nearest-rule}
+use Rattle.figure_text.proofs.Widths.{five-characters}
+use Rattle.figure_laws.proofs.Jump.{jump, keeps, reached}
+use Rattle.figure_laws.proofs.Text.{texts}
+use Rattle.tariff.proofs.Meaning.{tariff-rule, band-rule, cents-rule, price-rule}
+use Rattle.figure_laws.proofs.Second.{one-second-more}
+use Rattle.totals.proofs.Orders.{any-order, newest-first, at-most}
+use Rattle.trace_laws.proofs.Held.{lines-hold}
+use Rattle.trace_laws.proofs.OnlyLines.{only-lines, lines-count}
+use Rattle.computed_trace.proofs.Computed.{trace-fits}
+use Rattle.starred.proofs.Starred.{starred-trials}
+use Rattle.theorems.specs.Theorems.{Theorems}
+
+pub theorems : Theorems
+theorems =
+    record {
+      round-ties-to-even = round-ties-to-even;
+      only-round = only-round;
+      limit-binary32 = limit-binary32;
+      add-rounds = add-rounds;
+      sub-rounds = sub-rounds;
+      mul-rounds = mul-rounds;
+      div-rounds = div-rounds;
+      ofInt-rounds = ofInt-rounds;
+      literals-nearest = literals-nearest;
+      trunc-is-cast = trunc-is-cast;
+      min-max = min-max;
+      sqrt-correct = sqrt-correct;
+      only-root = only-root;
+      same-is-equal = same-is-equal;
+      exp-one-number = exp-one-number;
+      exp-rises = exp-rises;
+      one-wave = one-wave;
+      cosine-falls = cosine-falls;
+      sine-rises = sine-rises;
+      sine-pins = sine-pins;
+      tangent-pins = tangent-pins;
+      exp-near = exp-near;
+      exp-enclosed = exp-enclosed;
+      ln-near = ln-near;
+      ln-own-series = ln-own-series;
+      exponential-values = exponential-values;
+      sin-near = sin-near;
+      sin-literal = sin-literal;
+      cos-near = cos-near;
+      cos-literal = cos-literal;
+      wave-values = wave-values;
+      asin-near = asin-near;
+      atan-near = atan-near;
+      arc-values = arc-values;
+      atan-within = atan-within;
+      read-written = read-written;
+      read-same = read-same;
+      written-length = written-length;
+      written-in-form = written-in-form;
+      written-read = written-read;
+      carried = carried;
+      off-chain = off-chain;
+      paper-laws = paper-laws;
+      wide-laws = wide-laws;
+      turn-laws = turn-laws;
+      sin-answers = sin-answers;
+      cos-answers = cos-answers;
+      never-refused-13 = never-refused-13;
+      fobby-small = fobby-small;
+      fobby-answers = fobby-answers;
+      coefficients-nearest = coefficients-nearest;
+      nominal-never-refused-13 = nominal-never-refused-13;
+      reads-only = reads-only;
+      es-rewritten = es-rewritten;
+      nearest-rule = nearest-rule;
+      five-characters = five-characters;
+      jump = jump;
+      keeps = keeps;
+      reached = reached;
+      texts = texts;
+      tariff-rule = tariff-rule;
+      band-rule = band-rule;
+      cents-rule = cents-rule;
+      price-rule = price-rule;
+      one-second-more = one-second-more;
+      any-order = any-order;
+      newest-first = newest-first;
+      at-most = at-most;
+      lines-hold = lines-hold;
+      only-lines = only-lines;
+      lines-count = lines-count;
+      trace-fits = trace-fits;
+      starred-trials = starred-trials;
+    }

@@ -1,0 +1,2 @@
+-- The page of theorems.
+pub mod Theorems

@@ -1,0 +1,166 @@
+-- The page of theorems: what is proved beside the contracts, in reading order. Each is about all inputs. The name after the colon is the statement, in specs/ of the crate that its `use` line names; what it says is told here in plain words.
+-- A contract equates what a function answers with a definition; these say what holds of the definitions.
+use Rattle.rounding.specs.Laws.{RoundTiesToEven, OnlyRound, LimitBinary32, AddRounds, SubRounds, MulRounds, DivRounds, OfIntRounds}
+use Rattle.scalar.specs.Laws.{LiteralsNearest, TruncIsCast, MinMax, SqrtCorrect, OnlyRoot}
+use Rattle.same.specs.Same.{SameIsEqual}
+use Rattle.series.specs.Rises.{CosineFalls, SineRises, SinePins, TangentPins}
+use Rattle.exact.specs.Enclosure.{OneWave}
+use Rattle.exponential.specs.Special.{ExponentialValues}
+use Rattle.exponential_bounds.specs.OwnSeries.{LnOwnSeries}
+use Rattle.exact_exponential.specs.Exp.{ExpNear}
+use Rattle.exact_exponential.specs.Enclosure.{ExpEnclosed, ExpOneNumber, ExpRises}
+use Rattle.exact_exponential.specs.Ln.{LnNear}
+use Rattle.waves.specs.Special.{WaveValues}
+use Rattle.exact_waves.specs.Near.{SinNear, CosNear}
+use Rattle.exact_waves.specs.Literal.{SinLiteral, CosLiteral}
+use Rattle.arcs.specs.Special.{ArcValues, AtanWithin}
+use Rattle.exact_arcs.specs.Asin.{AsinNear}
+use Rattle.exact_arcs.specs.Atan.{AtanNear}
+use Rattle.circuit_laws.specs.Laws.{EveryForm, ReadWritten, ReadSame, WrittenLength, WrittenInForm, WrittenRead, Carried, OffChain}
+use Rattle.circuit_laws.specs.Paper.{PaperLaws}
+use Rattle.wide_circuit.specs.Laws.{WideLaws}
+use Rattle.circuit_turn.specs.Laws.{TurnLaws}
+use Rattle.figures.specs.Nearest.{NearestRule}
+use Rattle.figure_text.specs.FigureText.{FiveCharacters}
+use Rattle.figure_laws.specs.Jump.{Jump, Keeps, Reached}
+use Rattle.figure_laws.specs.Text.{Texts}
+use Rattle.figure_laws.specs.Second.{OneSecondMore}
+use Rattle.tariff.specs.Meaning.{TariffRule, BandRule, CentsRule, PriceRule}
+use Rattle.totals.specs.Orders.{AnyOrder, NewestFirst, AtMost}
+use Rattle.trace_laws.specs.Held.{LinesHold, OnlyLines, LinesCount}
+use Rattle.computed_trace.specs.Computed.{TraceFits}
+use Rattle.angles.specs.Angles.{SinAnswers, CosAnswers, NeverRefused13, FobbySmall, FobbyAnswers}
+use Rattle.nominal.specs.Coefficients.{CoefficientsNearest}
+use Rattle.nominal.specs.Angles.{NominalNeverRefused13}
+use Rattle.nominal.specs.Inputs.{ReadsOnly, EsRewritten}
+use Rattle.starred.specs.Starred.{Holds, starred}
+
+pub record Theorems : Type 0 where
+  -- ---- Rounding, in both formats
+  -- `round` gives, for every sign, numerator and denominator above 0, the value of the format nearest to the fraction; of two equally near the one whose last digit is even; and infinity exactly from half a unit above the largest finite value
+  pub round-ties-to-even : RoundTiesToEven
+  -- nothing else satisfies that
+  pub only-round : OnlyRound
+  -- that limit, in binary32, is 2 ^ 128 - 2 ^ 103
+  pub limit-binary32 : LimitBinary32
+  -- each operation on finite values, and the conversion from an integer, is its exact result so rounded
+  pub add-rounds : AddRounds
+  pub sub-rounds : SubRounds
+  pub mul-rounds : MulRounds
+  pub div-rounds : DivRounds
+  pub ofInt-rounds : OfIntRounds
+  -- ---- Scalars
+  -- each named literal is the f32 nearest to its decimal
+  pub literals-nearest : LiteralsNearest
+  -- truncation to an i32 is the logic's cast, on every value
+  pub trunc-is-cast : TruncIsCast
+  -- minimum and maximum drop a NaN, take the first of equals, give NaN only from two, and are an operand that is not beaten by the other
+  pub min-max : MinMax
+  -- the square root of an f32 above zero is the f32 nearest to the exact root, said by squares, and nothing else is
+  pub sqrt-correct : SqrtCorrect
+  pub only-root : OnlyRoot
+  -- two f32 numbers, or lists of them, are the same bit for bit (any NaN like any other) exactly where they are equal; words compare as the numbers that they stand for; -0 is not +0
+  pub same-is-equal : SameIsEqual
+  -- ---- Power series: what "the exact value" rests on
+  -- the enclosures of e ^ x by fractions are nested and narrower than any given one, so they name one number
+  pub exp-one-number : ExpOneNumber
+  -- and it rises with x
+  pub exp-rises : ExpRises
+  -- those of sine and cosine are so too, up to 4
+  pub one-wave : OneWave
+  -- up to 2 the cosine falls, and the sine rises by more than the way times the cosine at its end
+  pub cosine-falls : CosineFalls
+  pub sine-rises : SineRises
+  -- so, up to 2 and while the cosine is not negative, an angle is pinned by its sine, and by its tangent: what is said of asin and atan as inverses names one number
+  pub sine-pins : SinePins
+  pub tangent-pins : TangentPins
+  -- ---- The six functions, for every f32 (sin and cos from -4 to 4, asin from -1 to 1, ln from 0: NaN outside)
+  -- less than one ulp from the exact value: from some term on every partial sum at the argument is at most 15/16 ulp away (for a negative argument its reciprocal); infinity only from 2 ^ 128 on
+  pub exp-near : ExpNear
+  -- two fractions, a partial sum and the same with its remainder, enclose all later ones and are less than one ulp from the result
+  pub exp-enclosed : ExpEnclosed
+  -- e ^ (r - u) ≤ x ≤ e ^ (r + u), with the result r and u = 15/16 ulp
+  pub ln-near : LnNear
+  -- where ln uses its own series, on what is left of the argument, that series and its remainder enclose the logarithm
+  pub ln-own-series : LnOwnSeries
+  pub exponential-values : ExponentialValues
+  pub sin-near : SinNear
+  pub sin-literal : SinLiteral
+  pub cos-near : CosNear
+  pub cos-literal : CosLiteral
+  -- zeros, infinities and NaN, and that outside -4 to 4 both are NaN
+  pub wave-values : WaveValues
+  -- sin (r - u) ≤ |x|, and |x| ≤ sin (r + u) or r + u is past half pi
+  pub asin-near : AsinNear
+  -- tan (r - u) ≤ |x| ≤ tan (r + u), the cosine brought to the other side; at an infinity no f32 is nearer to half pi
+  pub atan-near : AtanNear
+  pub arc-values : ArcValues
+  -- an arc tangent is NaN or within the f32 nearest to half pi of 0
+  pub atan-within : AtanWithin
+  -- ---- The circuit file, in every layout that is fit
+  -- a circuit that the writer takes is read back from the bytes written: the numbers of record 0, the km points and the 576 deciles bit for bit, the words past the points zero
+  pub read-written : EveryForm ReadWritten
+  -- so a circuit whose unused words are zero comes back word for word
+  pub read-same : EveryForm ReadSame
+  -- how many bytes it takes
+  pub written-length : EveryForm WrittenLength
+  -- what the writer writes is in the writer's form, which is said without the writer
+  pub written-in-form : EveryForm WrittenInForm
+  -- a file in that form, read and written again, has its own bytes
+  pub written-read : EveryForm WrittenRead
+  -- a circuit that is read in one layout and written in another is read back as it was
+  pub carried : EveryForm (λ o. EveryForm (Carried o))
+  -- records that no chain reaches don't matter
+  pub off-chain : OffChain
+  -- all of these at the paper's layout, and at the one that carries F2M3
+  pub paper-laws : PaperLaws
+  pub wide-laws : WideLaws
+  -- `widen` and `narrow`: there and back byte for byte, the circuit kept, 14 exactly where a point carries F2M3, every other refusal the chain's, new files refused by the old reader
+  pub turn-laws : TurnLaws
+  -- ---- Arguments of sine and cosine
+  -- where an angle is neither below -4 nor above 4, `sin_or_refuse` and `cos_or_refuse` answer
+  pub sin-answers : SinAnswers
+  pub cos-answers : CosAnswers
+  -- on the MUF's domain every argument of sine and cosine is such, whatever the state, and so are those of the reflectrix: 13 is never answered
+  pub never-refused-13 : NeverRefused13
+  pub fobby-small : FobbySmall
+  pub fobby-answers : FobbyAnswers
+  -- ---- The nominal MUF
+  -- its literals are nearest to their decimals, its sine and cosine always answer
+  pub coefficients-nearest : CoefficientsNearest
+  pub nominal-never-refused-13 : NominalNeverRefused13
+  -- it reads the critical frequencies of E and F2 and the medians and heights of the Es rows, and nothing else, so a circuit MUF before it changes nothing
+  pub reads-only : ReadsOnly
+  pub es-rewritten : EsRewritten
+  -- ---- The printed figure and the price
+  -- rounding to a whole number is to the nearest, an exact half to the even one, and no other number is that
+  pub nearest-rule : NearestRule
+  -- a figure has five characters, and stars only where it would take more
+  pub five-characters : FiveCharacters
+  -- MUFs at most d tenths apart print figures at most d + 1 tenths apart; the greater never prints the smaller figure; 0.25 and 0.75 reach that bound
+  pub jump : Jump
+  pub keeps : Keeps
+  pub reached : Reached
+  -- two figures are the same characters just where their tenths are the same
+  pub texts : Texts
+  -- a tariff is good where it is as described; the band is the first that reaches the figure; the cents are the least whole number that covers; and so the price
+  pub tariff-rule : TariffRule
+  pub band-rule : BandRule
+  pub cents-rule : CentsRule
+  pub price-rule : PriceRule
+  -- one second more costs nothing less, and at most the band's rate divided by 60, rounded up, more
+  pub one-second-more : OneSecondMore
+  -- the day's total is the same in any order of the calls, newest first too, and fits a u32
+  pub any-order : AnyOrder
+  pub newest-first : NewestFirst
+  pub at-most : AtMost
+  -- ---- Two traces
+  -- the lines are those of every kHz of either trace and no other, rising; each says what is so; each row has exactly one; no other lines do that; and how many they are
+  pub lines-hold : LinesHold
+  pub only-lines : OnlyLines
+  pub lines-count : LinesCount
+  -- an ionogram's rows that are answered are a trace
+  pub trace-fits : TraceFits
+  -- ---- Trials
+  -- every marked trial of the paper holds of the definitions that the code is equal to
+  pub starred-trials : Holds starred

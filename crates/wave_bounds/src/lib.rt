@@ -1,0 +1,1 @@
+// Bounds for sine and cosine by their power series: lemmas, no code.
