@@ -29,7 +29,7 @@ use Kind::*;
 
 const NONE: &str = "unreachable!(\"not built\")";
 
-const EXPORTS: [Export; 39] = [
+const EXPORTS: [Export; 40] = [
     Export(
         "port_figures",
         "port_figure",
@@ -219,6 +219,7 @@ const EXPORTS: [Export; 39] = [
         "u32",
         NONE,
     ),
+    Export("port_mark", "port_mark", &[Bytes, Lent], "u32", NONE),
 ];
 
 /// The text of all wrappers, and the linker's instructions.

@@ -5,6 +5,7 @@ pub mod calls;
 pub mod circuit;
 pub mod files;
 pub mod float;
+pub mod marking;
 pub mod marks;
 pub mod ours;
 pub mod owner;

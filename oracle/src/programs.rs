@@ -43,7 +43,12 @@ pub fn chain(file: &[u8]) -> String {
 
 /// The circuit MUF, and the rows and marks of each slot.
 pub fn sheet(file: &[u8]) -> String {
-    or_refused(circuit::read(file).and_then(|(circuit, _)| sheet_of(&circuit)))
+    or_refused(sheet_or_refusal(file))
+}
+
+/// The sheet, or where it is turned away.
+pub fn sheet_or_refusal(file: &[u8]) -> Result<String, u32> {
+    circuit::read(file).and_then(|(circuit, _)| sheet_of(&circuit))
 }
 
 fn sheet_of(circuit: &Circuit) -> Result<String, u32> {

@@ -1,5 +1,5 @@
 -- The terms of the power series fall below every fraction (`small` of `series`), so from some number of terms on a partial sum and the same with its last term once more are both less than one unit in the last place from `expOf x`.
-use mathlib.Core.Path.{_≡_, ap, subst, subst₂}
+use mathlib.Core.Path.{_≡_, sym, ap, subst, subst₂}
 use mathlib.Core.Bool.{true, false}
 use Prim.Native.Nat.{ℕ, zero, suc, _+_, _-_, _*_, _^_, _≤_, _<_}
 use native.Mathlib.Nat.{le-trans, le-of-eq, le-refl, le-dest, mul-comm, mul-le-mul-left, mul-le-mul-right, mul-pos, pow-suc}
@@ -11,10 +11,11 @@ use Rattle.series.specs.Series.{full, num, one, Close}
 use Rattle.series.proofs.Addition.{full-pos, exp-over}
 use Rattle.series.proofs.Weighted.{grows, above}
 use Rattle.series.proofs.Falling.{small}
+use Rattle.cases.proofs.Cases.{split}
 use Rattle.exponential.specs.Exp.{expOf}
 use Rattle.exact.specs.Unit.{steps, ulp}
 use Rattle.exact_exponential.specs.Exp.{NearExp}
-use Rattle.exact_exponential.specs.Enclosure.{NearerThan, upperSum, Inside, Enclosed, EnclosedBelow, EnclosedExp, ExpEnclosed, ExpOneNumber, ExpRises}
+use Rattle.exact_exponential.specs.Enclosure.{NearerThan, upperSum, Inside, Enclosed, EnclosedBelow, EnclosedExp, ExpEnclosed, ExpOneNumber, ExpRises, ExpPins}
 use Rattle.exponential_bounds.proofs.Terms.{full-1, num-1}
 use Rattle.exact_exponential.proofs.ExpTheorem.{exp-near}
 
@@ -50,6 +51,45 @@ exp-one-number n d D = record { rising = rising n d; falling = falling n d; narr
 -- and rise with the argument
 pub exp-rises : ExpRises
 exp-rises a h d D k = subst₂ (λ (x y : ℕ). num one a d k * x * full d (k + 1) ≤ num one (a + h) d (k + 1) * (full d k * y)) (num-1 h d) (full-1 d) (exp-over a h d D k 1)
+
+above-one : (n d k : ℕ) → full d k ≤ num one n d k
+unfolding num full
+above-one n d zero = le-refl 1
+above-one n d (suc k) = le-trans (mul-le-mul-right (d * suc k) (above-one n d k)) (go (num one n d k * (d * suc k)) (n ^ suc k))
+  where
+    go : (x y : ℕ) → x ≤ x + 1 * y
+    go x y = omega arith
+
+-- so an exponent is pinned by its power
+pub exp-pins : ExpPins
+exp-pins n m d a b D B l g = split m n (λ h. let o = le-dest h in absurd (never (suc (o .0)) (omega arith) (omega (arith, o .1)))) (λ h. h)
+  where
+    never : (e : ℕ) → 0 < e → m + e ≡ n → ⊥
+    never e E i =
+        let k = g .0 in
+        go (num one m d k) (num one (m + e) d (k + 1)) (full d k) (full d (k + 1)) (exp-rises m e d D k) (subst (λ (x : ℕ). num one x d (k + 1) * b ≤ a * full d (k + 1)) (sym i) (l (k + 1))) (g .1)
+        (mul-pos (mul-pos (mul-pos (le-trans (full-pos d k D) (above-one m d k)) (full-pos d (k + 1) D)) B) E)
+      where
+        go : (M N f f' : ℕ) → M * (d + e) * f' ≤ N * (f * d) → N * b ≤ a * f' → a * f ≤ M * b → 0 < M * f' * b * e → ⊥
+        go M N f f' r u v p =
+            less (M * f' * b * d) (M * f' * b * e)
+            (le-trans (le-of-eq (first M f')) (le-trans (mul-le-mul-right b r) (le-trans (le-of-eq (second N f)) (le-trans (mul-le-mul-right (f * d) u) (le-trans (le-of-eq (third f f')) (le-trans (mul-le-mul-right (f' * d) v) (le-of-eq (fourth M f'))))))))
+            p
+          where
+            first : (M f' : ℕ) → M * f' * b * d + M * f' * b * e ≡ M * (d + e) * f' * b
+            first M f' = omega arith
+
+            second : (N f : ℕ) → N * (f * d) * b ≡ N * b * (f * d)
+            second N f = omega arith
+
+            third : (f f' : ℕ) → a * f' * (f * d) ≡ a * f * (f' * d)
+            third f f' = omega arith
+
+            fourth : (M f' : ℕ) → M * b * (f' * d) ≡ M * f' * b * d
+            fourth M f' = omega arith
+
+            less : (x y : ℕ) → x + y ≤ x → 0 < y → ⊥
+            less x y h p = omega arith
 
 -- ---- from 15/16 of a unit to less than one
 module _ (v u a b : ℕ) (U : 0 < u) (B : 0 < b) (c : Close (16 * 2 ^ 149) (16 * v) 0 (15 * u) a 0 b) where
@@ -102,14 +142,6 @@ module _ (v u a b : ℕ) (U : 0 < u) (B : 0 < b) (c : Close (16 * 2 ^ 149) (16 *
       low : (P : ℕ) → 16 * v * b + 16 * P * 0 ≤ 16 * P * a + (0 + 15 * u) * b → 32 * v * t ≤ b → v * (b + t) < P * a + u * (b + t)
       low P k l = omega (arith, k, l, mul-le-mul-right b U, B)
 
-num-pos : (n d k : ℕ) → full d k ≤ num one n d k
-unfolding num full
-num-pos n d zero = le-refl 1
-num-pos n d (suc k) = le-trans (mul-le-mul-right (d * suc k) (num-pos n d k)) (go (num one n d k * (d * suc k)) (n ^ suc k))
-  where
-    go : (x y : ℕ) → x ≤ x + 1 * y
-    go x y = omega arith
-
 module _ (n d v u : ℕ) (D : 0 < d) (U : 0 < u) where
   enclose : (N : ℕ) × ((k : ℕ) → N ≤ k → Close (16 * 2 ^ 149) (16 * v) 0 (15 * u) (num one n d k) 0 (full d k)) → Enclosed n d v u
   enclose S =
@@ -136,12 +168,12 @@ module _ (n d v u : ℕ) (D : 0 < d) (U : 0 < u) where
       let k = S .0 + (2 * n + M * n ^ (2 * n)) in
       let small = small n d M D k (later (S .0) (2 * n + M * n ^ (2 * n))) in
       let c = S .1 k (first (S .0) (2 * n + M * n ^ (2 * n))) in
-      let P = le-trans (full-pos d k D) (num-pos n d k) in
+      let P = le-trans (full-pos d k D) (above-one n d k) in
       record {
         terms = k;
         inside = inside n d k D (small .0);
         upper = within v u (full d k) (num one n d k) U P c;
-        lower = within-less v u (full d k) (num one n d k) U P c (n ^ k) (le-trans (small .1) (num-pos n d k));
+        lower = within-less v u (full d k) (num one n d k) U P c (n ^ k) (le-trans (small .1) (above-one n d k));
       }
     where
       later : (x y : ℕ) → y ≤ x + y

@@ -4,7 +4,7 @@ use Prim.Native.Nat.{ℕ, suc, _+_, _*_, _^_, _≤_, _<_}
 use mathlib.Core.Bool.{true, false}
 use lib.Dec.{T}
 use lib.Ieee.{Float, nan, inf, fin, binary32, up, down, fits}
-use Rattle.series.specs.Series.{full, num, one}
+use Rattle.series.specs.Series.{full, num, one, ExpLe, ExpGe}
 use Rattle.exact.specs.Unit.{steps, ulp}
 use Rattle.exponential.specs.Exp.{expOf}
 use Rattle.exact_exponential.specs.Exp.{NearExp}
@@ -65,3 +65,7 @@ ExpOneNumber = (n d : ℕ) → 0 < d → OneNumber n d
 
 abbrev pub ExpRises : Type 0
 ExpRises = (a h d : ℕ) → 0 < d → Rising a h d
+
+-- No exponent n / d with e ^ (n / d) ≤ a / b is above an m / d with a / b ≤ e ^ (m / d): between them lies one number, the logarithm of a / b; where that is negative, its opposite lies so between those of b / a.
+abbrev pub ExpPins : Type 0
+ExpPins = (n m d a b : ℕ) → 0 < d → 0 < b → ExpLe n d a b → ExpGe m d a b → n ≤ m

@@ -23,3 +23,4 @@ no-answer Refusal.Seconds = refl
 no-answer Refusal.Prices = refl
 no-answer Refusal.Traces = refl
 no-answer Refusal.Owner = refl
+no-answer Refusal.SheetLength = refl

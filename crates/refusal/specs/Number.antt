@@ -26,6 +26,7 @@ numberOf Refusal.Seconds = 16
 numberOf Refusal.Prices = 17
 numberOf Refusal.Traces = 18
 numberOf Refusal.Owner = 19
+numberOf Refusal.SheetLength = 20
 
 -- what `no-answer` says: no refusal has the number of an answer
 abbrev pub NoAnswer : Type 0

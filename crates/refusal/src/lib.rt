@@ -41,6 +41,8 @@ pub enum Refusal {
     Traces,
     // `genion` of a slot that the profile was not made for
     Owner,
+    // a sheet to be marked that is over 49,152 bytes
+    SheetLength,
 }
 
 // An answer whose value stands beside it.
@@ -73,6 +75,7 @@ pub fn number(r: Refusal) -> u32
         Refusal::Prices => 17,
         Refusal::Traces => 18,
         Refusal::Owner => 19,
+        Refusal::SheetLength => 20,
     }
 }
 

@@ -4,6 +4,7 @@ ghost use Prim.Native.Nat.{_≤_, _<_};
 ghost use mathlib.Core.Path.{_≡_};
 ghost use Rattle.io.specs.Counts.{Counts};
 ghost use Rattle.lines.specs.Text.{joined, Clipped, Put};
+ghost use Rattle.circuit_sheet.specs.CircuitSheet.{sheetOf};
 ghost use Rattle.sheet_text.specs.SheetText.{bitsField, natural, mufFields, mufLine, callLine, rowFields, rowLine, slotLine, slotText, slotAt, answeredText, sheetText};
 use circuit_sheet::Sheet;
 use circuit_sheet::SlotRows;
@@ -139,15 +140,43 @@ pub const INPUT: usize = 4160;
 // The bytes that a text is put into: one of three slots has room.
 pub const ROOM: usize = 8192;
 
+// The sheet's outcome, and the length of its text.
+pub struct TextAnswer {
+    pub outcome: Outcome,
+    pub length: usize,
+}
+
+// Puts the text at the start of out, and answers its length beside the sheet's outcome.
+pub fn answer(file: &[u8], out: &mut [u8; ROOM]) -> TextAnswer
+    ensures { λ a. ⌜ a .outcome ≡ sheetOf (now (file .entry)) .outcome ⌝ }
+    ensures text { λ a. ⌜ Put (sheetText (now (file .entry))) (now (out .entry)) 0 (now (out .exit)) (a .length) ⌝ }
+    ensures room { λ a. ⌜ Counts (a .length) (now (out .exit)) ⌝ }
+{
+    let s = circuit_sheet::of_file(file);
+    let outcome = s.outcome;
+    match outcome {
+        Outcome::Answered => {
+            let length = put_sheet(out, s);
+            TextAnswer {
+                outcome: Outcome::Answered,
+                length,
+            }
+        }
+        Outcome::Refused(r) => {
+            let length = lines::put_refused(out, 0, r);
+            TextAnswer {
+                outcome: Outcome::Refused(r),
+                length,
+            }
+        }
+    }
+}
+
 // Puts the text at the start of out, and answers its length.
 pub fn sheet_text(file: &[u8], out: &mut [u8; ROOM]) -> usize
     ensures { λ e. ⌜ Put (sheetText (now (file .entry))) (now (out .entry)) 0 (now (out .exit)) e ⌝ }
     ensures room { λ e. ⌜ Counts e (now (out .exit)) ⌝ }
 {
-    let s = circuit_sheet::of_file(file);
-    let outcome = s.outcome;
-    match outcome {
-        Outcome::Answered => put_sheet(out, s),
-        Outcome::Refused(r) => lines::put_refused(out, 0, r),
-    }
+    let a = answer(file, out);
+    a.length
 }

@@ -8,7 +8,7 @@ use Rattle.scalar.proofs.Truncation.{trunc-is-cast}
 use Rattle.scalar.proofs.MinMax.{min-max}
 use Rattle.scalar.proofs.CorrectRoot.{sqrt-correct, only-root}
 use Rattle.same.proofs.Same.{same-is-equal}
-use Rattle.exact_exponential.proofs.Enclosed.{exp-one-number, exp-rises, exp-enclosed}
+use Rattle.exact_exponential.proofs.Enclosed.{exp-one-number, exp-rises, exp-pins, exp-enclosed}
 use Rattle.exact.proofs.Enclosure.{one-wave}
 use Rattle.series.proofs.CosineFalls.{cosine-falls}
 use Rattle.series.proofs.SineRises.{sine-rises}
@@ -22,6 +22,7 @@ use Rattle.exact_waves.proofs.Literal.{sin-literal, cos-literal}
 use Rattle.waves.proofs.Special.{wave-values}
 use Rattle.exact_arcs.proofs.Asin.{asin-near}
 use Rattle.exact_arcs.proofs.Atan.{atan-near}
+use Rattle.arc_series.proofs.OwnSeries.{atan-own-series}
 use Rattle.arcs.proofs.Special.{arc-values}
 use Rattle.arcs.proofs.Within.{atan-within}
 use Rattle.circuit_laws.proofs.ReadWritten.{read-written, read-same, written-length}
@@ -32,6 +33,10 @@ use Rattle.circuit_laws.proofs.Off.{off-chain}
 use Rattle.circuit_laws.proofs.Paper.{paper-laws}
 use Rattle.wide_circuit.proofs.Laws.{wide-laws}
 use Rattle.circuit_turn.proofs.Laws.{turn-laws}
+use Rattle.profile.proofs.Keeps.{lecden-keeps, lecden-supplied}
+use Rattle.profile.proofs.NeverBoth.{never-both}
+use Rattle.heights.proofs.Whole.{forty-reads, mark-unread, exact-rule}
+use Rattle.heights.proofs.SameReads.{walk-same-as-scan}
 use Rattle.angles.proofs.Angles.{sin-answers, cos-answers, never-refused-13}
 use Rattle.angles.proofs.Reflectrix.{fobby-small, fobby-answers}
 use Rattle.nominal.proofs.Coefficients.{coefficients-nearest}
@@ -47,8 +52,21 @@ use Rattle.totals.proofs.Orders.{any-order, newest-first, at-most}
 use Rattle.trace_laws.proofs.Held.{lines-hold}
 use Rattle.trace_laws.proofs.OnlyLines.{only-lines, lines-count}
 use Rattle.computed_trace.proofs.Computed.{trace-fits}
+use Rattle.first_difference.proofs.Laws.{difference-laws}
+use Rattle.marking.proofs.Laws.{marking-laws, marking-cases}
 use Rattle.starred.proofs.Starred.{starred-trials}
+use Rattle.call_lists.proofs.Lists.{lists-of-calls, any-list}
+use Rattle.call_lists.proofs.SameLists.{lists-of-calls-same}
+use Rattle.call_lists.proofs.Nominal.{nominal-anywhere}
 use Rattle.theorems.specs.Theorems.{Theorems}
+use Rattle.layers.proofs.OwnersLeft.{layers-unowned, ionset-disowns}
+use Rattle.profile.proofs.Owns.{lecden-owner, lecden-owned}
+use Rattle.height_integral.proofs.Above.{above-lowest}
+use Rattle.height_integral.proofs.First.{last-from-one}
+use Rattle.heights.proofs.Segments.{segments-found}
+use Rattle.sounding.proofs.Prepared.{genion-prepared}
+use Rattle.slot_sheet.proofs.Owned.{sheet-never-refused-19, sheet-owned, sheet-by-genion}
+use Rattle.shapes.proofs.Rule.{mark-rule, slot-marks}
 
 pub theorems : Theorems
 theorems =
@@ -69,6 +87,7 @@ theorems =
       same-is-equal = same-is-equal;
       exp-one-number = exp-one-number;
       exp-rises = exp-rises;
+      exp-pins = exp-pins;
       one-wave = one-wave;
       cosine-falls = cosine-falls;
       sine-rises = sine-rises;
@@ -86,6 +105,7 @@ theorems =
       wave-values = wave-values;
       asin-near = asin-near;
       atan-near = atan-near;
+      atan-own-series = atan-own-series;
       arc-values = arc-values;
       atan-within = atan-within;
       read-written = read-written;
@@ -98,6 +118,12 @@ theorems =
       paper-laws = paper-laws;
       wide-laws = wide-laws;
       turn-laws = turn-laws;
+      lecden-keeps = lecden-keeps;
+      lecden-supplied = lecden-supplied;
+      never-both = never-both;
+      forty-reads = forty-reads;
+      walk-same-as-scan = walk-same-as-scan;
+      mark-unread = mark-unread;
       sin-answers = sin-answers;
       cos-answers = cos-answers;
       never-refused-13 = never-refused-13;
@@ -125,5 +151,26 @@ theorems =
       only-lines = only-lines;
       lines-count = lines-count;
       trace-fits = trace-fits;
+      difference-laws = difference-laws;
+      marking-laws = marking-laws;
+      marking-cases = marking-cases;
       starred-trials = starred-trials;
+      lists-of-calls = lists-of-calls;
+      any-list = any-list;
+      lists-of-calls-same = lists-of-calls-same;
+      nominal-anywhere = nominal-anywhere;
+      layers-unowned = layers-unowned;
+      ionset-disowns = ionset-disowns;
+      lecden-owner = lecden-owner;
+      lecden-owned = lecden-owned;
+      genion-prepared = genion-prepared;
+      sheet-never-refused-19 = sheet-never-refused-19;
+      sheet-owned = sheet-owned;
+      sheet-by-genion = sheet-by-genion;
+      mark-rule = mark-rule;
+      slot-marks = slot-marks;
+      above-lowest = above-lowest;
+      last-from-one = last-from-one;
+      exact-rule = exact-rule;
+      segments-found = segments-found;
     }

@@ -8,7 +8,7 @@ use Rattle.exact.specs.Enclosure.{OneWave}
 use Rattle.exponential.specs.Special.{ExponentialValues}
 use Rattle.exponential_bounds.specs.OwnSeries.{LnOwnSeries}
 use Rattle.exact_exponential.specs.Exp.{ExpNear}
-use Rattle.exact_exponential.specs.Enclosure.{ExpEnclosed, ExpOneNumber, ExpRises}
+use Rattle.exact_exponential.specs.Enclosure.{ExpEnclosed, ExpOneNumber, ExpRises, ExpPins}
 use Rattle.exact_exponential.specs.Ln.{LnNear}
 use Rattle.waves.specs.Special.{WaveValues}
 use Rattle.exact_waves.specs.Near.{SinNear, CosNear}
@@ -29,11 +29,25 @@ use Rattle.tariff.specs.Meaning.{TariffRule, BandRule, CentsRule, PriceRule}
 use Rattle.totals.specs.Orders.{AnyOrder, NewestFirst, AtMost}
 use Rattle.trace_laws.specs.Held.{LinesHold, OnlyLines, LinesCount}
 use Rattle.computed_trace.specs.Computed.{TraceFits}
+use Rattle.first_difference.specs.Laws.{DifferenceLaws}
+use Rattle.marking.specs.Laws.{MarkingLaws, MarkingCases}
 use Rattle.angles.specs.Angles.{SinAnswers, CosAnswers, NeverRefused13, FobbySmall, FobbyAnswers}
 use Rattle.nominal.specs.Coefficients.{CoefficientsNearest}
 use Rattle.nominal.specs.Angles.{NominalNeverRefused13}
 use Rattle.nominal.specs.Inputs.{ReadsOnly, EsRewritten}
 use Rattle.starred.specs.Starred.{Holds, starred}
+use Rattle.heights.specs.SameReads.{WalkSameAsScan}
+use Rattle.call_lists.specs.Lists.{ListsOfCalls}
+use Rattle.call_lists.specs.SameLists.{SameListsOfCalls}
+use Rattle.call_lists.specs.Nominal.{NominalAnywhere}
+use Rattle.arc_series.specs.OwnSeries.{AtanOwnSeries}
+use Rattle.theorems.specs.Unnamed.{LecdenKeeps, LecdenSupplied, NeverBoth, ReadsOfWalk, MarkUnread, AnyList, MarkRules, SlotsMarked, ExactRules}
+use Rattle.layers.specs.OwnersLeft.{LayersUnowned, IonsetDisowns}
+use Rattle.profile.specs.LecdenOwns.{LecdenOwner, LecdenOwned}
+use Rattle.height_integral.specs.Lowest.{AboveLowest, LastFromOne}
+use Rattle.heights.specs.Segments.{SegmentsFound}
+use Rattle.sounding.specs.Prepared.{GenionPrepared}
+use Rattle.slot_sheet.specs.Owned.{SheetNeverRefused19, SheetOwned, SheetByGenion}
 
 pub record Theorems : Type 0 where
   -- ---- Rounding, in both formats
@@ -64,8 +78,9 @@ pub record Theorems : Type 0 where
   -- ---- Power series: what "the exact value" rests on
   -- the enclosures of e ^ x by fractions are nested and narrower than any given one, so they name one number
   pub exp-one-number : ExpOneNumber
-  -- and it rises with x
+  -- and it rises with x, so an exponent is pinned by its power: what is said of ln as an inverse names one number
   pub exp-rises : ExpRises
+  pub exp-pins : ExpPins
   -- those of sine and cosine are so too, up to 4
   pub one-wave : OneWave
   -- up to 2 the cosine falls, and the sine rises by more than the way times the cosine at its end
@@ -94,6 +109,8 @@ pub record Theorems : Type 0 where
   pub asin-near : AsinNear
   -- tan (r - u) ≤ |x| ≤ tan (r + u), the cosine brought to the other side; at an infinity no f32 is nearer to half pi
   pub atan-near : AtanNear
+  -- up to 1 its own series, v - v³ / 3 with a remainder of v⁵ / 4, encloses the arc tangent of v
+  pub atan-own-series : AtanOwnSeries
   pub arc-values : ArcValues
   -- an arc tangent is NaN or within the f32 nearest to half pi of 0
   pub atan-within : AtanWithin
@@ -117,6 +134,19 @@ pub record Theorems : Type 0 where
   pub wide-laws : WideLaws
   -- `widen` and `narrow`: there and back byte for byte, the circuit kept, 14 exactly where a point carries F2M3, every other refusal the chain's, new files refused by the old reader
   pub turn-laws : TurnLaws
+  -- ---- Slots and profile
+  -- `lecden` changes slot k's F1 height and semi-thickness, `fsecv[k]`, the profile and the mark, and nothing else; nothing where the profile is supplied
+  pub lecden-keeps : LecdenKeeps
+  pub lecden-supplied : LecdenSupplied
+  -- a branch of the Rust that can't be reached is left out
+  pub never-both : NeverBoth
+  -- ---- Heights, on profiles that pass the rising test, infinities and NaN reads included
+  -- each of the forty readings of the walk, kind and number, is the full scan's; the cursor after each is how many of the upper 49 heights are at or below its height, and its moves sum to at most 49; the heights in the order read never fall, or all are NaN
+  pub forty-reads : ReadsOfWalk
+  -- by bits, each reading of the walk is the scan's, and the heights found by walks and by scans are the contract's
+  pub walk-same-as-scan : WalkSameAsScan
+  -- the stored rising mark does not matter
+  pub mark-unread : MarkUnread
   -- ---- Arguments of sine and cosine
   -- where an angle is neither below -4 nor above 4, `sin_or_refuse` and `cos_or_refuse` answer
   pub sin-answers : SinAnswers
@@ -161,6 +191,43 @@ pub record Theorems : Type 0 where
   pub lines-count : LinesCount
   -- an ionogram's rows that are answered are a trace
   pub trace-fits : TraceFits
+  -- ---- Marking sheets from other programs
+  -- two texts are the same just where their bytes are, and else differ at the first line of theirs that is not ours: 1 and the line feeds in the longest common beginning
+  pub difference-laws : DifferenceLaws
+  -- `same` just where the rest of the input is the text that `sheet` prints of its file, else the first line that is not ours, or the refusal; and the paper's cases
+  pub marking-laws : MarkingLaws
+  pub marking-cases : MarkingCases
   -- ---- Trials
   -- every marked trial of the paper holds of the definitions that the code is equal to
   pub starred-trials : Holds starred
+  -- ---- Whose profile it is
+  -- nobody's after `from_layers`, and so after an answered `ionset` unless it is supplied; slot k's, or supplied, after `lecden` of slot k
+  pub layers-unowned : LayersUnowned
+  pub ionset-disowns : IonsetDisowns
+  pub lecden-owner : LecdenOwner
+  pub lecden-owned : LecdenOwned
+  -- so `genion` of a slot just prepared always answers, and a slot sheet is never refused 19: its profile is its slot's or supplied, and its rows are those of `genion` there
+  pub genion-prepared : GenionPrepared
+  pub sheet-never-refused-19 : SheetNeverRefused19
+  pub sheet-owned : SheetOwned
+  pub sheet-by-genion : SheetByGenion
+  -- ---- Marks
+  -- the density is never NaN and never below zero; the mark is gap just where it is zero, else the first shape worked out there whose value it is, and no other mark is right
+  pub mark-rule : MarkRules
+  pub slot-marks : SlotsMarked
+  -- ---- The exact height rule, and segments
+  -- where x - h0 is above zero, h0 + (x - h0) is above h0 or NaN: so the index before the first height is never touched
+  pub above-lowest : AboveLowest
+  pub last-from-one : LastFromOne
+  -- where the rule is used, and that the switch changes nothing else
+  pub exact-rule : ExactRules
+  -- a searched segment is at most 49, and 50 stands just where the first test ends `gethp` or `xlin`
+  pub segments-found : SegmentsFound
+  -- ---- Lists of calls
+  -- take what `ionset` answers of any state with 1 to 5 points and any list of circuit MUFs, slot sheets and nominal MUFs of which no two pick one slot, each call getting the state that the one before returned: every answer, its Es rows and its cells are those of the call alone on the first state; each slot is what its own call alone leaves; the profile is that of the last answered MUF or sheet; all else is the first state's; and so it is by walks, as the code reads, and by forty scans
+  pub lists-of-calls : ListsOfCalls
+  -- the same for any first state, and all of it by bits
+  pub any-list : AnyList
+  pub lists-of-calls-same : SameListsOfCalls
+  -- a nominal MUF put anywhere into any list changes nothing else and answers as alone
+  pub nominal-anywhere : NominalAnywhere

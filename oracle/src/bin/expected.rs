@@ -1,10 +1,10 @@
-//! What a program prints or writes of the circuit file on standard input, from
+//! What a program prints or writes of the file on standard input, from
 //! the paper and the routed Rust: the stored outputs of the programs come from
 //! here.
 //!
-//! expected chain|sheet|widen|narrow < FILE
+//! expected chain|sheet|widen|narrow|mark < FILE
 
-use oracle::{ours, programs};
+use oracle::{marking, ours, programs};
 use std::io::{Read, Write};
 
 fn main() {
@@ -16,7 +16,8 @@ fn main() {
         Some("sheet") => programs::sheet(&file).into(),
         Some("widen") => programs::widen(&file),
         Some("narrow") => programs::narrow(&file),
-        _ => panic!("expected chain|sheet|widen|narrow < FILE"),
+        Some("mark") => marking::printed(&file).into(),
+        _ => panic!("expected chain|sheet|widen|narrow|mark < FILE"),
     };
     std::io::stdout().write_all(&output).expect("written");
 }
