@@ -5,6 +5,15 @@
 # repository.
 set -e
 cd "$(dirname "$0")/.."
+source=${HFCAST_SRC:-../shared/docs/src}
+if [ ! -f "$source/src/voacap/muf.rs" ]; then
+    echo "no Rust source in $source: set HFCAST_SRC to a checkout of HFcast Engine" >&2
+    exit 1
+fi
+# a published copy says its commit in INDEX.md, a checkout by git
+commit=$(sed -n 's/^Repository [^ ]* \([0-9a-f]*\) .*/\1/p' "$source/INDEX.md" 2>/dev/null)
+[ -n "$commit" ] || commit=$(git -C "$source" rev-parse --short=10 HEAD 2>/dev/null) || commit=unknown
+echo "the Rust: HFcast Engine in $source, commit $commit; this port was made from bf34e8f9f3"
 # Runs a command and prints its last line; ends with its log where it fails, since
 # an archive that an earlier build left would be compared otherwise.
 made() {
