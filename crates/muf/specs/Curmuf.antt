@@ -1,12 +1,11 @@
 -- `curmuf` whole: what is refused and in which order, the hour, the state and the Es rows after. The Es rows enter by their number and what each holds, so that one definition serves flat rows and rows of records; `find` is the way of finding heights off the profile.
-use mathlib.Core.Bool.{Bool, true, false, _&&_}
+use mathlib.Core.Bool.{Bool, true, false}
 use mathlib.Core.List.{List}
-use Prim.Native.Nat.{ℕ, _*_, _/_}
-use lib.Dec.{ltb, eqb}
+use Prim.Native.Nat.{ℕ, _*_}
 use lib.ListN.{length, set}
 use lib.Ieee.{Float}
-use Rattle.scalar.specs.F32.{_≤f_, _>f_, at}
-use Rattle.scalar.specs.Literals.{f0, f6·3, f90, f40100}
+use Rattle.scalar.specs.F32.{at}
+use Rattle.scalar.specs.Literals.{f0}
 use Rattle.refusal.specs.Number.{numberOf}
 use Rattle.refusal.specs.declared.Refusal.{Refusal}
 use Rattle.refusal.specs.declared.Outcome.{Outcome}
@@ -29,23 +28,8 @@ use Rattle.muf.specs.declared.RegularLines.{RegularLines}
 use Rattle.muf.specs.declared.RegularAnswer.{RegularAnswer}
 use Rattle.muf.specs.declared.MufAnswer.{MufAnswer}
 use Rattle.muf.specs.declared.AnswerAndRow.{AnswerAndRow}
-
--- 9
-
-abbrev pub withinOf : Float → Float → Bool
-withinOf x top = f0 ≤f x && x ≤f top
-
--- a NaN amind counts as 0, one below 0 passes
-abbrev pub aminBy : Bool → Bool
-aminBy true = false
-aminBy false = true
-
-unfoldable pub inDomain : PathNumbers → Bool
-inDomain c = withinOf (c .gcdkm) f40100 && withinOf (c .gcd) f6·3 && aminBy (c .amind >f f90)
-
--- 10: the deciles are 576, and clat and clck reach to the controlling slot; the lists by their lengths
-unfoldable pub listsReach : ℕ → ℕ → ℕ → ℕ → Bool
-listsReach ks deciles lats clocks = eqb deciles 576 && ltb ks lats && ltb ks clocks
+unfoldable pub use Rattle.muf_domain.specs.Domain.{inDomain, listsReach, rowCountOf}
+pub use Rattle.muf_domain.specs.Domain.{withinOf, aminBy, takenRowsBy, takenRows}
 
 -- E, then F2, then F1
 
@@ -120,18 +104,6 @@ mufFromSearchOf = mufFromSearchWith gethpOf
 -- n rows of Es, each as `row` gives it
 unfoldable pub mufOfRowsWith : Finder → IonoState → ℕ → (ℕ → EsRow) → List Float → List Float → List Float → PathNumbers → AnswerAndRow
 mufOfRowsWith find s n row f2d clat clck c = mufFromSearchWith find s (esFrom row c n 0 startOf) f2d clat clck c
-
--- the rows that there are, at most km
-abbrev pub takenRowsBy : Bool → ℕ → ℕ → ℕ
-takenRowsBy true there km = there
-takenRowsBy false there km = km
-
-abbrev pub takenRows : ℕ → ℕ → ℕ
-takenRows there km = takenRowsBy (ltb there km) there km
-
--- flat rows: four numbers each
-unfoldable pub rowCountOf : ℕ → ℕ → ℕ
-rowCountOf numbers km = takenRows (numbers / 4) km
 
 unfoldable pub flatWith : Finder → IonoState → List Float → List Float → List Float → List Float → PathNumbers → AnswerAndRow
 flatWith find s es f2d clat clck c = mufOfRowsWith find s (rowCountOf (length es) (s .km)) (rowAt es) f2d clat clck c
