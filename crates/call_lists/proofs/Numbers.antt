@@ -127,13 +127,16 @@ f1-held s v p q =
     let hb1 = s .hi1 -f s .yi1 in
     let rise = s .yi2 *f (f1 -f sqrtOf (f1 -f fc1 /f v .fc2)) in
     let htw = v .hb2 +f rise in
+    let ys = maxOf (htw -f hb1) f1 in
     let ratio = s .fi0 /f s .fi1 in
+    let denom = maxOf (f1 -f ratio *f ratio) f0·17 in
+    let yb = (htw -f s .hi0) /f denom in
     let held = add-fits binary32 (v .hb2) rise in
     let stays = min-fits (s .yi1) (s .hi1 -f s .hi0 +f f1) q (add-fits binary32 (s .hi1 -f s .hi0) f1) in
     let lowered = min-fits (htw -f v .hb2) (htw -f s .hi0 +f f1) (sub-fits binary32 htw (v .hb2)) (add-fits binary32 (htw -f s .hi0) f1) in
-    let line = div-fits binary32 (htw -f s .hi0) (maxOf (f1 -f ratio *f ratio) f0·17) in
+    let line = div-fits binary32 (htw -f s .hi0) denom in
     let foot = max-fits (htw -f hb1) f1 (sub-fits binary32 htw hb1) (constants .1) in
-    either-held (s .fi1 >f f0) _ _ (either-held (htw >f s .hi1 +f f0·001) _ _ (p, stays) (either-held (v .hb2 -f hb1 <f f0) _ _ (held, lowered) (either-held _ _ _ (held, line) (held, foot)))) (p, q)
+    either-held (s .fi1 >f f0) _ _ (either-held (htw >f s .hi1 +f f0·001) _ _ (p, stays) (either-held (v .hb2 -f hb1 <f f0) _ _ (held, lowered) (either-held (ys -f yb ≥f f0) _ _ (held, line) (held, foot)))) (p, q)
 
 -- ---- `lecden`
 
