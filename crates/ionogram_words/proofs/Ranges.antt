@@ -1,5 +1,5 @@
 -- An angle count is at most 40 and a controlling slot at most 2, so that each is a word.
-use mathlib.Core.Bool.{Bool, true, false}
+use mathlib.Core.Bool.{Bool, true, false, cond}
 use Prim.Native.Nat.{ℕ, zero, suc, _+_, _-_, _≤_}
 use native.Mathlib.Omega.{arith}
 use lib.Dec.{eqb}
@@ -10,7 +10,7 @@ use Rattle.scalar.specs.Literals.{f0, f0·01, f8·5, f10}
 use Rattle.scalar.specs.Scalar.{absOf}
 use Rattle.layers.specs.declared.IonoState.{IonoState}
 use Rattle.reflectrix.specs.Angles.{ANG, NANGX, stepOf, raisedBy, raisedFrom, countBy, countOf, scanBy, sangOf, scanValue}
-use Rattle.reflectrix.specs.Selmod.{slotIf, threeBy, selmodBy, selmodOf}
+use Rattle.reflectrix.specs.Selmod.{slotIf, selmodOf}
 use Rattle.reflectrix.proofs.Counts.{step-range, nangx-range}
 
 raised-by : (b : Bool) (n m : ℕ) → n ≤ 40 → m ≤ 40 → raisedBy b n m ≤ 40
@@ -43,17 +43,12 @@ slot-if : (b : Bool) (k : ℕ) → k ≤ 2 → slotIf b k ≤ 2
 slot-if true k h = h
 slot-if false k h = omega arith
 
-three-by : (b : Bool) (s : IonoState) (delfi : Float) → threeBy b s delfi ≤ 2
-three-by true s delfi = slot-if (at (s .fi) 0 >f at (s .fi) 6) 2 (omega arith)
-three-by false s delfi = slot-if (delfi >f f0) 2 (omega arith)
-
-selmod-by : (b c : Bool) (s : IonoState) → selmodBy b c s ≤ 2
-selmod-by true c s = omega arith
-selmod-by false true s = slot-if (at (s .fi) 0 >f at (s .fi) 3) 1 (omega arith)
-selmod-by false false s =
-    let delfi = at (s .fi) 2 -f at (s .fi) 8 in
-    three-by (absOf delfi <f f0·01) s delfi
+either-range : (b : Bool) (m n : ℕ) → m ≤ 2 → n ≤ 2 → cond b m n ≤ 2
+either-range true m n h k = h
+either-range false m n h k = k
 
 pub selmod-range : (s : IonoState) → selmodOf s ≤ 2
 unfolding selmodOf
-selmod-range s = selmod-by (eqb (s .kfx) 1) (eqb (s .kfx) 2) s
+selmod-range s =
+    let delfi = at (s .fi) 2 -f at (s .fi) 8 in
+    either-range (eqb (s .kfx) 1) 0 _ (omega arith) (either-range (eqb (s .kfx) 2) _ _ (slot-if (at (s .fi) 0 >f at (s .fi) 3) 1 (omega arith)) (either-range (absOf delfi <f f0·01) _ _ (slot-if (at (s .fi) 0 >f at (s .fi) 6) 2 (omega arith)) (slot-if (delfi >f f0) 2 (omega arith))))

@@ -1,4 +1,5 @@
 -- `curmuf` whole: what is refused and in which order, the hour, the state and the Es rows after. The Es rows enter by their number and what each holds, so that one definition serves flat rows and rows of records; `find` is the way of finding heights off the profile.
+-- Where the parts of the Rust's `curmuf` stand: the controlling slot in layer_mufs/specs/Controlling; `lecden` in profile/specs; the tangent frequencies in layer_mufs/specs/Tangents; the E, F2 and F1 layer MUFs in layer_mufs/specs/Lines, with `gethp` in heights/specs, `bendy` and `pen` in parabolas/specs, `hop_geometry` and the rounds of the loop in hops/specs (Geometry, Rounds), and `f2dis` in deciles/specs; the sporadic E MUF in sporadic/specs; the circuit MUF in Hour, beside this file. What is refused by the arguments alone, and how many Es rows are read, is in muf_domain/specs; here the order of all these, and what is refused on the way.
 use mathlib.Core.Bool.{Bool, true, false}
 use mathlib.Core.List.{List}
 use Prim.Native.Nat.{ℕ, _*_}
@@ -33,22 +34,18 @@ pub use Rattle.muf_domain.specs.Domain.{withinOf, aminBy, takenRowsBy, takenRow
 
 -- E, then F2, then F1
 
-abbrev pub f1Then : LineAnswer → LayerMuf → LayerMuf → RegularAnswer
-f1Then (LineAnswer.Found f1) e f2 = RegularAnswer.Found (record { e = e; f1 = f1; f2 = f2 })
-f1Then (LineAnswer.Refused r) e f2 = RegularAnswer.Refused r
-
-abbrev pub f2Then : LineAnswer → Finder → IonoState → Slot → Tangents → PathNumbers → LayerMuf → RegularAnswer
-f2Then (LineAnswer.Found f2) find t l x c e = f1Then (f1LineWith find t l (x .fx1) e (c .gcdkm) (c .amind)) e f2
-f2Then (LineAnswer.Refused r) find t l x c e = RegularAnswer.Refused r
-
-abbrev pub eThen : LineAnswer → Finder → IonoState → Slot → ℕ → Tangents → List Float → Float → Float → PathNumbers → RegularAnswer
-eThen (LineAnswer.Found e) find t l ks x f2d clat clck c = f2Then (f2LineWith find t l ks x f2d clat clck c) find t l x c e
-eThen (LineAnswer.Refused r) find t l ks x f2d clat clck c = RegularAnswer.Refused r
+-- goes on from a line that was found; a refusal ends it
+abbrev pub foundThen : LineAnswer → (LayerMuf → RegularAnswer) → RegularAnswer
+foundThen (LineAnswer.Found m) next = next m
+foundThen (LineAnswer.Refused r) next = RegularAnswer.Refused r
 
 unfoldable pub regularWith : Finder → IonoState → Slot → ℕ → List Float → Float → Float → PathNumbers → RegularAnswer
 regularWith find t l ks f2d clat clck c =
     let x = tangentsOf l (c .gcdkm) in
-    eThen (eLineWith find t (x .fxe) (c .gcdkm) (c .amind)) find t l ks x f2d clat clck c
+    foundThen (eLineWith find t (x .fxe) (c .gcdkm) (c .amind))
+    (λ e. foundThen (f2LineWith find t l ks x f2d clat clck c)
+    (λ f2. foundThen (f1LineWith find t l (x .fx1) e (c .gcdkm) (c .amind))
+    (λ f1. RegularAnswer.Found (record { e = e; f1 = f1; f2 = f2 }))))
 
 -- the paper's number of each case, 0 for the three lines, and the lines, of +0 beside a refusal
 abbrev pub regularNumber : RegularAnswer → ℕ
