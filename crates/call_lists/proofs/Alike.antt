@@ -32,7 +32,8 @@ use Rattle.layer_mufs.specs.declared.PathNumbers.{PathNumbers}
 use Rattle.layer_mufs.specs.declared.Tangents.{Tangents}
 use Rattle.layer_mufs.specs.declared.HeightPair.{HeightPair}
 use Rattle.layer_mufs.specs.declared.LineAnswer.{LineAnswer}
-use Rattle.muf.specs.Curmuf.{f1Then, f2Then, eThen, regularWith}
+use Rattle.muf.specs.Curmuf.{foundThen, regularWith}
+use Rattle.muf.specs.declared.RegularAnswer.{RegularAnswer}
 
 pub record Alike (u v : IonoState) (k : ℕ) : Type 0 where
   pub fi-same : u .fi ≡ v .fi
@@ -197,17 +198,20 @@ module _ (find other : Finder) (u v : IonoState) (k : ℕ) (a : Alike u v k) (fo
   unfolding f1LineWith
   f1-line-same l fx1 e gcdkm amind = f1-line-by (l .fi1 ≤f f0) l fx1 e gcdkm amind
 
-  f2-then : (y : LineAnswer) (l : Slot) (x : Tangents) (c : PathNumbers) (e : LayerMuf) → f2Then y find u l x c e ≡ f2Then y other v l x c e
-  f2-then (LineAnswer.Found f2) l x c e = ap (λ (z : LineAnswer). f1Then z e f2) (f1-line-same l (x .fx1) e (c .gcdkm) (c .amind))
-  f2-then (LineAnswer.Refused r) l x c e = refl
-
-  e-then : (y : LineAnswer) (l : Slot) (x : Tangents) (f2d : List Float) (clat clck : Float) (c : PathNumbers) → eThen y find u l k x f2d clat clck c ≡ eThen y other v l k x f2d clat clck c
-  e-then (LineAnswer.Found e) l x f2d clat clck c =
-      ap (λ (y : LineAnswer). f2Then y find u l x c e) (f2-line-same l x f2d clat clck c) ∙ f2-then (f2LineWith other v l k x f2d clat clck c) l x c e
-  e-then (LineAnswer.Refused r) l x f2d clat clck c = refl
+  -- gone on from alike
+  then-same : (y : LineAnswer) (f g : LayerMuf → RegularAnswer) → ((m : LayerMuf) → f m ≡ g m) → foundThen y f ≡ foundThen y g
+  then-same (LineAnswer.Found m) f g h = h m
+  then-same (LineAnswer.Refused r) f g h = refl
 
   pub three-same : (l : Slot) (f2d : List Float) (clat clck : Float) (c : PathNumbers) → regularWith find u l k f2d clat clck c ≡ regularWith other v l k f2d clat clck c
   unfolding regularWith
   three-same l f2d clat clck c =
       let x = tangentsOf l (c .gcdkm) in
-      ap (λ (y : LineAnswer). eThen y find u l k x f2d clat clck c) (e-line-same (x .fxe) (c .gcdkm) (c .amind)) ∙ e-then (eLineWith other v (x .fxe) (c .gcdkm) (c .amind)) l x f2d clat clck c
+      let whole : LayerMuf → LayerMuf → LayerMuf → RegularAnswer = λ e f2 f1. RegularAnswer.Found (record { e = e; f1 = f1; f2 = f2 }) in
+      let last : Finder → IonoState → LayerMuf → LayerMuf → RegularAnswer = λ w t e f2. foundThen (f1LineWith w t l (x .fx1) e (c .gcdkm) (c .amind)) (whole e f2) in
+      let next : Finder → IonoState → LayerMuf → RegularAnswer = λ w t e. foundThen (f2LineWith w t l k x f2d clat clck c) (last w t e) in
+      ap (λ (y : LineAnswer). foundThen y (next find u)) (e-line-same (x .fxe) (c .gcdkm) (c .amind))
+      ∙ then-same (eLineWith other v (x .fxe) (c .gcdkm) (c .amind)) (next find u) (next other v)
+      (λ (e : LayerMuf). ap (λ (y : LineAnswer). foundThen y (last find u e)) (f2-line-same l x f2d clat clck c)
+      ∙ then-same (f2LineWith other v l k x f2d clat clck c) (last find u e) (last other v e)
+      (λ (f2 : LayerMuf). ap (λ (y : LineAnswer). foundThen y (whole e f2)) (f1-line-same l (x .fx1) e (c .gcdkm) (c .amind))))

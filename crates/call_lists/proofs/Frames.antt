@@ -27,7 +27,7 @@ use Rattle.reflectrix.specs.Fobby.{anglesInto, roomFor}
 use Rattle.reflectrix.specs.declared.Ionogram.{Ionogram}
 use Rattle.losses.specs.Alosfv.{alosfvOf}
 use Rattle.sounding.specs.Genion.{genionWith}
-use Rattle.layer_mufs.specs.Controlling.{compareE, farBy, slotBy, controllingOf}
+use Rattle.layer_mufs.specs.Controlling.{compareE, controllingOf}
 use Rattle.layer_mufs.specs.declared.PathNumbers.{PathNumbers}
 use Rattle.layer_mufs.proofs.Small.{controlling-small}
 use Rattle.muf.specs.Hour.{refusedOf}
@@ -111,26 +111,9 @@ slot-follows find s t k step f2d clat clck c agree a =
     subst (λ (d : AnswerAndRow). Follows d (regularBy three s (lecdenOf s k) l k step) t k) (sym e) (three-follows three s t l k step)
 
 -- the controlling slot is chosen by the critical frequencies and kfx
-compare-same : (s t : IonoState) (kr : ℕ) → t .fi ≡ s .fi → compareE t kr ≡ compareE s kr
-unfolding compareE
-compare-same s t kr e = rw e
-
-far-same : (a b : Bool) (s t : IonoState) → t .fi ≡ s .fi → farBy a b t ≡ farBy a b s
-far-same true b s t e = compare-same s t 2 e
-far-same false true s t e = refl
-far-same false false s t e = refl
-
-slot-same-by : (a b : Bool) (s t : IonoState) → t .fi ≡ s .fi → slotBy a b t ≡ slotBy a b s
-slot-same-by true b s t e = refl
-slot-same-by false true s t e = compare-same s t 1 e
-slot-same-by false false s t e =
-    let f2 : List Float → Float = λ fi. at fi 2 -f at fi 8 in
-    far-same (absOf (f2 (t .fi)) -f f0·01 ≤f f0) (f2 (t .fi) <f f0) s t e ∙ ap (λ (fi : List Float). farBy (absOf (f2 fi) -f f0·01 ≤f f0) (f2 fi <f f0) s) e
-
 controlling-same : (s t : IonoState) → Common s t → controllingOf t ≡ controllingOf s
-unfolding controllingOf
-controlling-same s t c =
-    slot-same-by (leb (t .kfx) 1) (eqb (t .kfx) 2) s t (c .fi-common) ∙ ap (λ (n : ℕ). slotBy (leb n 1) (eqb n 2) s) (c .kfx-common)
+unfolding controllingOf compareE
+controlling-same s t c = rw (c .fi-common, c .kfx-common)
 
 first-of : (a b : Bool) → (a && b) ≡ true → a ≡ true
 first-of true b e = refl

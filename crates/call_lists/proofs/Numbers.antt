@@ -1,5 +1,5 @@
 -- Every number that `ionset` or `lecden` stores into the semi-thicknesses, the layers' heights or the profile's is one that stood there, a constant or the result of an operation, which is rounded to the format: so f32 numbers stay f32 numbers.
-use mathlib.Core.Bool.{Bool, true, false, _||_}
+use mathlib.Core.Bool.{Bool, true, false, cond, _||_}
 use mathlib.Core.List.{List, [], _∷_}
 use mathlib.Core.Path.{sym, subst}
 use Prim.Native.Nat.{ℕ, zero, suc, _+_, _*_}
@@ -19,7 +19,7 @@ use Rattle.layers.specs.Ionset.{layerFrom, twoSlots, threeSlots, assignedBy, as
 use Rattle.layers.specs.Ionset as ionset
 use Rattle.layers.specs.declared.IonoState.{IonoState}
 use Rattle.profile.specs.Lecden.{slotAt, slotWritten, tailOf, suppliedOf, lecdenBy, lecdenOf}
-use Rattle.profile.specs.F1.{noseBy, lineBy, crossBy, f1By, valleyOf, f1Of, reshapedOf}
+use Rattle.profile.specs.F1.{valleyOf, f1Of, reshapedOf}
 use Rattle.profile.specs.Grid.{filled, lowerOf, f2OnlyOf, upperBy, upperOf, heightsOf}
 use Rattle.profile.specs.declared.Slot.{Slot}
 use Rattle.profile.specs.declared.Valley.{Valley}
@@ -115,35 +115,28 @@ heights-held s hex ph p0 p1 p2 =
 abbrev Reshaped : F1Shape → Type 0
 Reshaped f = F (f .hi1) × F (f .yi1)
 
-nose-held : (b : Bool) (s : Slot) (v : Valley) (fc1 htw ys s1 yb : Float) → F htw → F ys → F yb → Reshaped (noseBy b s v fc1 htw ys s1 yb)
-nose-held true s v fc1 htw ys s1 yb ph ps pb = (ph, pb)
-nose-held false s v fc1 htw ys s1 yb ph ps pb = (ph, ps)
-
-line-held : (b : Bool) (s : Slot) (v : Valley) (fc1 ht1 htw ys s1 : Float) → F htw → F ys → Reshaped (lineBy b s v fc1 ht1 htw ys s1)
-line-held true s v fc1 ht1 htw ys s1 ph ps = (ph, min-fits (htw -f v .hb2) (htw -f s .hi0 +f f1) (sub-fits binary32 htw (v .hb2)) (add-fits binary32 (htw -f s .hi0) f1))
-line-held false s v fc1 ht1 htw ys s1 ph ps =
-    let ratio = s .fi0 /f s .fi1 in
-    let denom = maxOf (f1 -f ratio *f ratio) f0·17 in
-    let yb = (htw -f s .hi0) /f denom in
-    nose-held (ys -f yb ≥f f0) s v fc1 htw ys s1 yb ph ps (div-fits binary32 (htw -f s .hi0) denom)
-
-cross-held : (b : Bool) (s : Slot) (v : Valley) (fc1 hb1 ht1 htw : Float) → F (s .hi1) → F (s .yi1) → F htw → Reshaped (crossBy b s v fc1 hb1 ht1 htw)
-cross-held true s v fc1 hb1 ht1 htw p q ph = (p, min-fits (s .yi1) (s .hi1 -f s .hi0 +f f1) q (add-fits binary32 (s .hi1 -f s .hi0) f1))
-cross-held false s v fc1 hb1 ht1 htw p q ph =
-    let ys = maxOf (htw -f hb1) f1 in
-    line-held (v .hb2 -f hb1 <f f0) s v fc1 ht1 htw ys (fc1 /f ys) ph (max-fits (htw -f hb1) f1 (sub-fits binary32 htw hb1) (constants .1))
-
-f1-by : (b : Bool) (s : Slot) (v : Valley) → F (s .hi1) → F (s .yi1) → Reshaped (f1By b s v)
-f1-by true s v p q =
-    let fc1 = s .fi1 *f s .fi1 in
-    let rise = s .yi2 *f (f1 -f sqrtOf (f1 -f fc1 /f v .fc2)) in
-    let htw = v .hb2 +f rise in
-    cross-held (htw >f s .hi1 +f f0·001) s v fc1 (s .hi1 -f s .yi1) (s .hi1 +f s .yi1) htw p q (add-fits binary32 (v .hb2) rise)
-f1-by false s v p q = (p, q)
+-- whichever of two shapes a test takes
+either-held : (b : Bool) (f g : F1Shape) → Reshaped f → Reshaped g → Reshaped (cond b f g)
+either-held true f g p q = p
+either-held false f g p q = q
 
 f1-held : (s : Slot) (v : Valley) → F (s .hi1) → F (s .yi1) → Reshaped (f1Of s v)
 unfolding f1Of
-f1-held s v p q = f1-by (s .fi1 >f f0) s v p q
+f1-held s v p q =
+    let fc1 = s .fi1 *f s .fi1 in
+    let hb1 = s .hi1 -f s .yi1 in
+    let rise = s .yi2 *f (f1 -f sqrtOf (f1 -f fc1 /f v .fc2)) in
+    let htw = v .hb2 +f rise in
+    let ys = maxOf (htw -f hb1) f1 in
+    let ratio = s .fi0 /f s .fi1 in
+    let denom = maxOf (f1 -f ratio *f ratio) f0·17 in
+    let yb = (htw -f s .hi0) /f denom in
+    let held = add-fits binary32 (v .hb2) rise in
+    let stays = min-fits (s .yi1) (s .hi1 -f s .hi0 +f f1) q (add-fits binary32 (s .hi1 -f s .hi0) f1) in
+    let lowered = min-fits (htw -f v .hb2) (htw -f s .hi0 +f f1) (sub-fits binary32 htw (v .hb2)) (add-fits binary32 (htw -f s .hi0) f1) in
+    let line = div-fits binary32 (htw -f s .hi0) denom in
+    let foot = max-fits (htw -f hb1) f1 (sub-fits binary32 htw hb1) (constants .1) in
+    either-held (s .fi1 >f f0) _ _ (either-held (htw >f s .hi1 +f f0·001) _ _ (p, stays) (either-held (v .hb2 -f hb1 <f f0) _ _ (held, lowered) (either-held (ys -f yb ≥f f0) _ _ (held, line) (held, foot)))) (p, q)
 
 -- ---- `lecden`
 

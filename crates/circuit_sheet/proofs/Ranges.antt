@@ -1,5 +1,5 @@
 -- A file that is not turned away has 1 to 5 points, they make at most three slots, and at most 40 angles are scanned. So neither `from_layers` nor `ionset` nor a slot sheet is refused, and the MUF's lists reach: 5, 6, 8 and 10 are no answer of `sheet`.
-use mathlib.Core.Bool.{Bool, true, false, false≢true}
+use mathlib.Core.Bool.{Bool, true, false, false≢true, cond}
 use mathlib.Core.Path.{_≡_, refl, sym, ap, _∙_}
 use mathlib.Core.List.{List, map}
 use Prim.Native.Nat.{ℕ, zero, suc, _+_, _-_, _*_, _≤_, _<_}
@@ -29,7 +29,7 @@ use Rattle.layers.specs.declared.LayerMuf.{LayerMuf}
 use Rattle.layers.specs.declared.StateAnswer.{StateAnswer}
 use Rattle.layers.proofs.Counts.{three-at-most}
 use Rattle.layers.proofs.OwnersLeft.{disowned-only}
-use Rattle.layer_mufs.specs.Controlling.{compareEBy, compareE, controllingOf}
+use Rattle.layer_mufs.specs.Controlling.{compareE, controllingOf}
 use Rattle.layer_mufs.proofs.Small.{controlling-small}
 use Rattle.reflectrix.specs.Angles.{ANG, NANGX, stepOf, raisedBy, raisedFrom, countBy, countOf, scanBy, sangOf}
 use Rattle.reflectrix.specs.Fobby.{roomFor}
@@ -142,15 +142,15 @@ assigned-kfx true q s = refl
 assigned-kfx false true s = refl
 assigned-kfx false false s = refl
 
-compare-by : (b : Bool) → compareEBy b 1 < 2
-compare-by true = omega arith
-compare-by false = omega arith
+one-of-two : (b : Bool) → cond b 0 1 < 2
+one-of-two true = omega arith
+one-of-two false = omega arith
 
 -- with one, two or three slots the controlling one is below 1, 2 or 3
 controlling-by : (p q : Bool) (s : IonoState) → s .kfx ≡ slots-for p q → controllingOf s < slots-for p q
 unfolding slots-for controllingOf compareE
 controlling-by true q s e = rw e (omega arith)
-controlling-by false true s e = rw e (compare-by (at (s .fi) 0 -f at (s .fi) 3 ≤f f0))
+controlling-by false true s e = rw e (one-of-two (at (s .fi) 0 -f at (s .fi) 3 ≤f f0))
 controlling-by false false s e = controlling-small s
 
 under-points : (p q : Bool) (km : ℕ) → leb km 1 ≡ p → leb km 3 ≡ q → 1 ≤ km → slots-for p q ≤ km

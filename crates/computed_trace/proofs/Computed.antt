@@ -12,10 +12,10 @@ use Rattle.refusal.specs.declared.Outcome.{Outcome}
 use Rattle.scalar.specs.F32.{_<f_}
 use Rattle.scalar.specs.Literals.{f0}
 use Rattle.figures.specs.Nearest.{past, timesOf}
-use Rattle.traces.specs.Trace.{rises, fit}
+use Rattle.trace_lines.specs.Trace.{rises, fit}
 use Rattle.computed_trace.specs.Computed.{fitNumber, allFit, khzRows, heightRows, traceBy, traceOf, TraceFits}
 use Rattle.computed_trace.specs.declared.TraceAnswer.{TraceAnswer}
-use Rattle.traces.proofs.Places.{both}
+use Rattle.trace_lines.proofs.Places.{both}
 use Rattle.traces.proofs.Cells.{sofar, sofar-more, sofar-all, sofar-length}
 
 module _ (k : ℕ) where

@@ -12,7 +12,7 @@ use Rattle.refusal.specs.declared.Outcome.{Outcome}
 use Rattle.scalar.specs.F32.{_<f_}
 use Rattle.scalar.specs.Literals.{f0}
 use Rattle.figures.specs.Nearest.{past, timesOf}
-use Rattle.traces.specs.Trace.{rises, fit}
+use Rattle.trace_lines.specs.Trace.{rises, fit}
 use Rattle.computed_trace.specs.declared.TraceAnswer.{TraceAnswer}
 
 -- not below zero, as -0 is not either, and k times it, rounded, is a u32: no multiple of a NaN or of an infinity is

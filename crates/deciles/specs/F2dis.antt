@@ -1,5 +1,5 @@
 -- `f2dis`: how far the F2 MUF spreads about its median, as a standard deviation. With no table (its first number at most 0) the classical value; else by time block, sunspot row, hemisphere, latitude and the half of the distribution in which `freq` lies.
-use mathlib.Core.Bool.{Bool, true, false}
+use mathlib.Core.Bool.{Bool, true, false, cond}
 use mathlib.Core.List.{List}
 use Prim.Native.Nat.{ℕ, _+_, _*_, _-_}
 use lib.Dec.{eqb}
@@ -69,27 +69,20 @@ classicalOf fmuf = let sig = f0·15 *f fmuf /f f1·28155 in maxOf sig f0·001
 unfoldable pub spreadOf : Float → Float → Float
 spreadOf fmuf decile = let sig = absOf (fmuf -f decile *f fmuf) /f f1·28 in maxOf sig f0·001
 
--- is the time block refused
-abbrev pub blockBy : Bool → List Float → Float → Float → Float → Float → ℕ → Deviation
-blockBy true f2d fmuf ssn clat freq icc = Deviation.Refused Refusal.TimeBlock
-blockBy false f2d fmuf ssn clat freq icc =
+-- 10 where the list has not 576 numbers; with no table the classical value; 12 where there is no time block
+unfoldable pub f2disOf : List Float → Float → Float → Float → Float → Float → Deviation
+f2disOf f2d fmuf ssn clat freq abb =
     let cl = clat *f f57·29577 in
+    let icc = iccOf abb in
     let iz = iclOf cl + iOf fmuf freq in
     let j = jOf ssn cl in
-    Deviation.Value (spreadOf fmuf (getD f2d (placeOf icc j iz) nan))
-
--- is there no table
-abbrev pub tableBy : Bool → List Float → Float → Float → Float → Float → Float → Deviation
-tableBy true f2d fmuf ssn clat freq abb = Deviation.Value (classicalOf fmuf)
-tableBy false f2d fmuf ssn clat freq abb = let icc = iccOf abb in blockBy (eqb icc 0) f2d fmuf ssn clat freq icc
-
--- has the list 576 numbers
-abbrev pub lengthBy : Bool → List Float → Float → Float → Float → Float → Float → Deviation
-lengthBy true f2d fmuf ssn clat freq abb = tableBy (getD f2d 0 nan ≤f f0) f2d fmuf ssn clat freq abb
-lengthBy false f2d fmuf ssn clat freq abb = Deviation.Refused Refusal.MufLists
-
-unfoldable pub f2disOf : List Float → Float → Float → Float → Float → Float → Deviation
-f2disOf f2d fmuf ssn clat freq abb = lengthBy (eqb (length f2d) 576) f2d fmuf ssn clat freq abb
+    cond (eqb (length f2d) 576)
+    (cond (getD f2d 0 nan ≤f f0)
+    (Deviation.Value (classicalOf fmuf))
+    (cond (eqb icc 0)
+    (Deviation.Refused Refusal.TimeBlock)
+    (Deviation.Value (spreadOf fmuf (getD f2d (placeOf icc j iz) nan)))))
+    (Deviation.Refused Refusal.MufLists)
 
 -- the paper's number of each case, 0 for an answer, and the value, +0 beside a refusal
 abbrev pub deviationNumber : Deviation → ℕ

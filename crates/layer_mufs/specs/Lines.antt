@@ -115,16 +115,17 @@ abbrev pub upperValue : Deviations → Float
 upperValue (Deviations.Both sigl sigu) = sigu
 upperValue (Deviations.Refused r) = f0
 
-abbrev pub highBy : Deviation → Float → Deviations
-highBy (Deviation.Value u) l = Deviations.Both (maxOf l f0·01) (maxOf u f0·01)
-highBy (Deviation.Refused r) l = Deviations.Refused r
-
-abbrev pub lowBy : Deviation → List Float → Float → Float → Float → Float → Deviations
-lowBy (Deviation.Value l) f2d f2muf ssn clat clck = let freq_high = f1·1 *f f2muf in highBy (f2disOf f2d f2muf ssn clat freq_high clck) l
-lowBy (Deviation.Refused r) f2d f2muf ssn clat clck = Deviations.Refused r
+-- the two, the lower one first; the first that is refused refuses both
+abbrev pub bothBy : Deviation → Deviation → Deviations
+bothBy (Deviation.Value l) (Deviation.Value u) = Deviations.Both (maxOf l f0·01) (maxOf u f0·01)
+bothBy (Deviation.Value l) (Deviation.Refused r) = Deviations.Refused r
+bothBy (Deviation.Refused r) u = Deviations.Refused r
 
 unfoldable pub deviationsOf : List Float → Float → Float → Float → Float → Deviations
-deviationsOf f2d f2muf ssn clat clck = let freq_low = f0·9 *f f2muf in lowBy (f2disOf f2d f2muf ssn clat freq_low clck) f2d f2muf ssn clat clck
+deviationsOf f2d f2muf ssn clat clck =
+    let freq_low = f0·9 *f f2muf in
+    let freq_high = f1·1 *f f2muf in
+    bothBy (f2disOf f2d f2muf ssn clat freq_low clck) (f2disOf f2d f2muf ssn clat freq_high clck)
 
 abbrev pub f2BentBy : Deviations → Round → Float → Float → Float → LineAnswer
 f2BentBy (Deviations.Both sigl3 sigu3) b ht2 fx2 xhops = LineAnswer.Found (layerLineOf sigl3 sigu3 (b .del) (b .hp) ht2 fx2 xhops (b .fob))

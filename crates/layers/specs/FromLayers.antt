@@ -1,26 +1,16 @@
 -- `from_layers`: the state that the points' layers make. The paper's refusal: 5 where the point count is not 1 to 5.
-use mathlib.Core.Bool.{Bool, true, false, _&&_}
+use mathlib.Core.Bool.{Bool, true, false}
 use mathlib.Core.List.{List, []}
-use Prim.Native.Nat.{ℕ, zero, suc, _+_, _*_}
-use lib.Dec.{leb}
+use Prim.Native.Nat.{ℕ, zero, suc}
 use lib.IntN.{negsuc}
-use lib.ListN.{getD, set}
-use lib.Ieee.{Float}
+use lib.ListN.{getD}
 use Rattle.refusal.specs.declared.Refusal.{Refusal}
 use Rattle.refusal.specs.declared.Outcome.{Outcome}
-use Rattle.scalar.specs.F32.{at}
 use Rattle.layers.specs.State.{zeroState, withTables, withKm, withIedp}
 use Rattle.layers.specs.declared.IonoState.{IonoState}
 use Rattle.layers.specs.declared.LayerParams.{LayerParams}
 use Rattle.layers.specs.declared.StateAnswer.{StateAnswer}
-
--- 1 to 5 points
-unfoldable pub countTaken : ℕ → Bool
-countTaken n = leb 1 n && leb n 5
-
--- row k of a table replaced: the Rust's `state.fi[k] = p.fi`
-unfoldable pub rowSet : List Float → ℕ → List Float → List Float
-rowSet t k row = set (set (set t (3 * k) (at row 0)) (3 * k + 1) (at row 1)) (3 * k + 2) (at row 2)
+unfoldable pub use Rattle.layer_rules.specs.Rules.{countTaken, rowSet}
 
 unfoldable pub pointSet : IonoState → ℕ → LayerParams → IonoState
 pointSet s k p = withTables s (rowSet (s .fi) k (p .fi)) (rowSet (s .yi) k (p .yi)) (rowSet (s .hi) k (p .hi))

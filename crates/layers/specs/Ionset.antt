@@ -1,11 +1,10 @@
 -- `ionset`: the points' layers assigned to one, two or three slots, then made to agree slot by slot; the profile, which is not these slots', is nobody's, unless it is supplied. The paper's refusal: 5 where the point count is not 1 to 5.
-use mathlib.Core.Bool.{Bool, true, false, _||_}
+use mathlib.Core.Bool.{Bool, true, false}
 use Prim.Native.Nat.{ℕ, zero, suc, _+_, _*_}
 use lib.Dec.{leb}
 use lib.ListN.{set}
-use lib.Ieee.{Float}
-use Rattle.scalar.specs.F32.{_-f_, _≤f_, _>f_, at}
-use Rattle.scalar.specs.Literals.{f0, f0·2, f2}
+use Rattle.scalar.specs.F32.{_-f_, _>f_, at}
+use Rattle.scalar.specs.Literals.{f0, f2}
 use Rattle.scalar.specs.Scalar.{minOf}
 use Rattle.refusal.specs.declared.Refusal.{Refusal}
 use Rattle.refusal.specs.declared.Outcome.{Outcome}
@@ -14,6 +13,7 @@ use Rattle.layers.specs.Owners.{disowned}
 use Rattle.layers.specs.FromLayers.{countTaken}
 use Rattle.layers.specs.declared.IonoState.{IonoState}
 use Rattle.layers.specs.declared.StateAnswer.{StateAnswer}
+unfoldable pub use Rattle.layer_rules.specs.Rules.{tooClose}
 
 -- layer i of slot k from point p: `s.fi[k][i] = s.fi[p][i]`, and so for yi and hi
 unfoldable pub layerFrom : IonoState → ℕ → ℕ → ℕ → IonoState
@@ -49,10 +49,6 @@ assignedBy false false s = threeSlots s
 
 unfoldable pub assignedOf : IonoState → IonoState
 assignedOf s = assignedBy (leb (s .km) 1) (leb (s .km) 3) s
-
--- F1 is at most 0.2 MHz above E, or F2 above F1
-unfoldable pub tooClose : Float → Float → Float → Bool
-tooClose e f1 f2' = (f1 -f e -f f0·2 ≤f f0) || (f2' -f f1 -f f0·2 ≤f f0)
 
 -- dropped: all three numbers 0; kept: not above F2
 abbrev pub f1KeptBy : Bool → IonoState → ℕ → IonoState

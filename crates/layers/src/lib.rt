@@ -3,8 +3,8 @@
 ghost use mathlib.Core.Path.{_≡_};
 ghost use Prim.Native.Nat.{_<_, _≤_};
 ghost use Rattle.layers.specs.State.{profileOnly, zeroState, withIedp, withIelect, withExact};
-ghost use Rattle.layers.specs.FromLayers.{countTaken, rowSet, pointSet, pointsSet, emptyOf, fromLayersOf};
-ghost use Rattle.layers.specs.Ionset.{layerFrom, twoSlots, threeSlots, assignedOf, tooClose, f1Settled, f2Settled, slotSettled, slotsSettled, ionsetOf};
+ghost use Rattle.layers.specs.FromLayers.{pointSet, pointsSet, emptyOf, fromLayersOf};
+ghost use Rattle.layers.specs.Ionset.{layerFrom, twoSlots, threeSlots, assignedOf, f1Settled, f2Settled, slotSettled, slotsSettled, ionsetOf};
 use refusal::Outcome;
 use refusal::Refusal;
 
@@ -89,15 +89,6 @@ pub struct StateAnswer {
     pub state: IonoState,
 }
 
-fn count_taken(n: usize) -> bool
-    ensures { λ r. ⌜ r ≡ countTaken n ⌝ }
-{
-    if n < 1 {
-        return false;
-    }
-    n <= 5
-}
-
 // Every number +0, nothing set.
 pub fn zero_state() -> IonoState
     ensures { λ r. ⌜ r ≡ zeroState ⌝ }
@@ -129,20 +120,6 @@ fn empty(n: usize) -> IonoState
     s
 }
 
-fn set_row(table: [f32; 15], k: usize, row: [f32; 3]) -> [f32; 15]
-    requires { ⌜ k < 5 ⌝ }
-    ensures { λ r. ⌜ r ≡ rowSet table k row ⌝ }
-{
-    let mut t = table;
-    let e = 3 * k;
-    let f1 = 3 * k + 1;
-    let f2 = 3 * k + 2;
-    t[e] = row[0];
-    t[f1] = row[1];
-    t[f2] = row[2];
-    t
-}
-
 fn set_point(mut s: IonoState, k: usize, p: LayerParams) -> IonoState
     requires { ⌜ k < 5 ⌝ }
     ensures { λ r. ⌜ r ≡ pointSet s k p ⌝ }
@@ -153,9 +130,9 @@ fn set_point(mut s: IonoState, k: usize, p: LayerParams) -> IonoState
     let f = p.fi;
     let y = p.yi;
     let h = p.hi;
-    let fi = set_row(fi, k, f);
-    let yi = set_row(yi, k, y);
-    let hi = set_row(hi, k, h);
+    let fi = layer_rules::set_row(fi, k, f);
+    let yi = layer_rules::set_row(yi, k, y);
+    let hi = layer_rules::set_row(hi, k, h);
     s.fi = fi;
     s.yi = yi;
     s.hi = hi;
@@ -178,7 +155,7 @@ fn set_points(s: IonoState, params: [LayerParams; 5], n: usize) -> IonoState
 pub fn from_layers(params: [LayerParams; 5], count: usize) -> StateAnswer
     ensures { λ r. ⌜ r ≡ fromLayersOf params count ⌝ }
 {
-    if count_taken(count) {
+    if layer_rules::count_taken(count) {
         let state = set_points(empty(count), params, count);
         return StateAnswer {
             outcome: Outcome::Answered,
@@ -270,15 +247,6 @@ fn assign(mut s: IonoState) -> IonoState
     three_slots(s)
 }
 
-fn too_close(e: f32, f1: f32, f2: f32) -> bool
-    ensures { λ r. ⌜ r ≡ tooClose e f1 f2 ⌝ }
-{
-    if f1 - e - 0.2 <= 0.0 {
-        return true;
-    }
-    f2 - f1 - 0.2 <= 0.0
-}
-
 fn settle_f1(mut s: IonoState, k: usize) -> IonoState
     requires { ⌜ k < 3 ⌝ }
     ensures { λ r. ⌜ r ≡ f1Settled s k ⌝ }
@@ -287,7 +255,7 @@ fn settle_f1(mut s: IonoState, k: usize) -> IonoState
     let f1 = 3 * k + 1;
     let f2 = 3 * k + 2;
     if s.fi[f1] > 0.0 {
-        if too_close(s.fi[e], s.fi[f1], s.fi[f2]) {
+        if layer_rules::too_close(s.fi[e], s.fi[f1], s.fi[f2]) {
             s.fi[f1] = 0.0;
             s.yi[f1] = 0.0;
             s.hi[f1] = 0.0;
@@ -335,7 +303,7 @@ fn settle_slots(s: IonoState, n: usize) -> IonoState
 pub fn ionset(s: IonoState) -> StateAnswer
     ensures { λ r. ⌜ r ≡ ionsetOf s ⌝ }
 {
-    if count_taken(s.km) {
+    if layer_rules::count_taken(s.km) {
         let t = assign(s);
         let n = t.kfx;
         let state = owners::disown(settle_slots(t, n));

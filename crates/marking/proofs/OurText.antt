@@ -17,7 +17,7 @@ use Rattle.circuit_sheet.specs.declared.Sheet.{Sheet}
 use Rattle.circuit_sheet.specs.declared.SlotRows.{SlotRows}
 use Rattle.circuit_sheet.specs.CircuitSheet.{sheetOf}
 use Rattle.sheet_text.specs.SheetText.{callWord, mufLine, callLine, rowLine, slotLine, slotText, nothing, slotAt, answeredText, textBy, sheetText}
-use Rattle.sheet_text.proofs.Lengths.{answered-most}
+use Rattle.sheet_lines.proofs.Lengths.{answered-most}
 use Rattle.sheet_text.proofs.SlotCount.{three-slots}
 
 pub sheet-most : (f : List ℕ) → length (sheetText f) ≤ 8192

@@ -1,3 +1,2 @@
--- The lists that a MUF reads, and the Es row that it rewrites, are there.
-pub mod Lists
+-- The Es row that a MUF rewrites is there.
 pub mod Rows

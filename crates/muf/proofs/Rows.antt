@@ -21,7 +21,8 @@ use Rattle.profile.specs.declared.Slot.{Slot}
 use Rattle.heights.specs.Gethp.{gethpOf}
 use Rattle.layer_mufs.specs.declared.PathNumbers.{PathNumbers}
 use Rattle.sporadic.specs.Sporadic.{rayOf, takenBy, takenOf, hopBy, rowBy, esRowOf, startOf, nextBy, esFrom, esLineBy, esLineOf, rowAt}
-use Rattle.muf.specs.Curmuf.{esBy, regularBy, regularWith, mufAtSlotWith, mufFromSearchBy, mufFromSearchWith, mufOfRowsWith, inDomain, listsReach, refusedRowsKept, takenRowsBy, takenRows, rowCountOf, flatWith, flatOf}
+use Rattle.muf_domain.specs.Domain.{inDomain, listsReach, takenRowsBy, takenRows, rowCountOf}
+use Rattle.muf.specs.Curmuf.{esBy, regularBy, regularWith, mufAtSlotWith, mufFromSearchBy, mufFromSearchWith, mufOfRowsWith, refusedRowsKept, flatWith, flatOf}
 use Rattle.sporadic.specs.declared.EsRow.{EsRow}
 use Rattle.sporadic.specs.declared.EsRay.{EsRay}
 use Rattle.sporadic.specs.declared.EsSearch.{EsSearch}

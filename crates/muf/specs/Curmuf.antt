@@ -1,12 +1,12 @@
 -- `curmuf` whole: what is refused and in which order, the hour, the state and the Es rows after. The Es rows enter by their number and what each holds, so that one definition serves flat rows and rows of records; `find` is the way of finding heights off the profile.
-use mathlib.Core.Bool.{Bool, true, false, _&&_}
+-- Where the parts of the Rust's `curmuf` stand: the controlling slot in layer_mufs/specs/Controlling; `lecden` in profile/specs; the tangent frequencies in layer_mufs/specs/Tangents; the E, F2 and F1 layer MUFs in layer_mufs/specs/Lines, with `gethp` in heights/specs, `bendy` and `pen` in parabolas/specs, `hop_geometry` and the rounds of the loop in hops/specs (Geometry, Rounds), and `f2dis` in deciles/specs; the sporadic E MUF in sporadic/specs; the circuit MUF in Hour, beside this file. What is refused by the arguments alone, and how many Es rows are read, is in muf_domain/specs; here the order of all these, and what is refused on the way.
+use mathlib.Core.Bool.{Bool, true, false}
 use mathlib.Core.List.{List}
-use Prim.Native.Nat.{ℕ, _*_, _/_}
-use lib.Dec.{ltb, eqb}
+use Prim.Native.Nat.{ℕ, _*_}
 use lib.ListN.{length, set}
 use lib.Ieee.{Float}
-use Rattle.scalar.specs.F32.{_≤f_, _>f_, at}
-use Rattle.scalar.specs.Literals.{f0, f6·3, f90, f40100}
+use Rattle.scalar.specs.F32.{at}
+use Rattle.scalar.specs.Literals.{f0}
 use Rattle.refusal.specs.Number.{numberOf}
 use Rattle.refusal.specs.declared.Refusal.{Refusal}
 use Rattle.refusal.specs.declared.Outcome.{Outcome}
@@ -29,42 +29,23 @@ use Rattle.muf.specs.declared.RegularLines.{RegularLines}
 use Rattle.muf.specs.declared.RegularAnswer.{RegularAnswer}
 use Rattle.muf.specs.declared.MufAnswer.{MufAnswer}
 use Rattle.muf.specs.declared.AnswerAndRow.{AnswerAndRow}
-
--- 9
-
-abbrev pub withinOf : Float → Float → Bool
-withinOf x top = f0 ≤f x && x ≤f top
-
--- a NaN amind counts as 0, one below 0 passes
-abbrev pub aminBy : Bool → Bool
-aminBy true = false
-aminBy false = true
-
-unfoldable pub inDomain : PathNumbers → Bool
-inDomain c = withinOf (c .gcdkm) f40100 && withinOf (c .gcd) f6·3 && aminBy (c .amind >f f90)
-
--- 10: the deciles are 576, and clat and clck reach to the controlling slot; the lists by their lengths
-unfoldable pub listsReach : ℕ → ℕ → ℕ → ℕ → Bool
-listsReach ks deciles lats clocks = eqb deciles 576 && ltb ks lats && ltb ks clocks
+unfoldable pub use Rattle.muf_domain.specs.Domain.{inDomain, listsReach, rowCountOf}
+pub use Rattle.muf_domain.specs.Domain.{withinOf, aminBy, takenRowsBy, takenRows}
 
 -- E, then F2, then F1
 
-abbrev pub f1Then : LineAnswer → LayerMuf → LayerMuf → RegularAnswer
-f1Then (LineAnswer.Found f1) e f2 = RegularAnswer.Found (record { e = e; f1 = f1; f2 = f2 })
-f1Then (LineAnswer.Refused r) e f2 = RegularAnswer.Refused r
-
-abbrev pub f2Then : LineAnswer → Finder → IonoState → Slot → Tangents → PathNumbers → LayerMuf → RegularAnswer
-f2Then (LineAnswer.Found f2) find t l x c e = f1Then (f1LineWith find t l (x .fx1) e (c .gcdkm) (c .amind)) e f2
-f2Then (LineAnswer.Refused r) find t l x c e = RegularAnswer.Refused r
-
-abbrev pub eThen : LineAnswer → Finder → IonoState → Slot → ℕ → Tangents → List Float → Float → Float → PathNumbers → RegularAnswer
-eThen (LineAnswer.Found e) find t l ks x f2d clat clck c = f2Then (f2LineWith find t l ks x f2d clat clck c) find t l x c e
-eThen (LineAnswer.Refused r) find t l ks x f2d clat clck c = RegularAnswer.Refused r
+-- goes on from a line that was found; a refusal ends it
+abbrev pub foundThen : LineAnswer → (LayerMuf → RegularAnswer) → RegularAnswer
+foundThen (LineAnswer.Found m) next = next m
+foundThen (LineAnswer.Refused r) next = RegularAnswer.Refused r
 
 unfoldable pub regularWith : Finder → IonoState → Slot → ℕ → List Float → Float → Float → PathNumbers → RegularAnswer
 regularWith find t l ks f2d clat clck c =
     let x = tangentsOf l (c .gcdkm) in
-    eThen (eLineWith find t (x .fxe) (c .gcdkm) (c .amind)) find t l ks x f2d clat clck c
+    foundThen (eLineWith find t (x .fxe) (c .gcdkm) (c .amind))
+    (λ e. foundThen (f2LineWith find t l ks x f2d clat clck c)
+    (λ f2. foundThen (f1LineWith find t l (x .fx1) e (c .gcdkm) (c .amind))
+    (λ f1. RegularAnswer.Found (record { e = e; f1 = f1; f2 = f2 }))))
 
 -- the paper's number of each case, 0 for the three lines, and the lines, of +0 beside a refusal
 abbrev pub regularNumber : RegularAnswer → ℕ
@@ -120,18 +101,6 @@ mufFromSearchOf = mufFromSearchWith gethpOf
 -- n rows of Es, each as `row` gives it
 unfoldable pub mufOfRowsWith : Finder → IonoState → ℕ → (ℕ → EsRow) → List Float → List Float → List Float → PathNumbers → AnswerAndRow
 mufOfRowsWith find s n row f2d clat clck c = mufFromSearchWith find s (esFrom row c n 0 startOf) f2d clat clck c
-
--- the rows that there are, at most km
-abbrev pub takenRowsBy : Bool → ℕ → ℕ → ℕ
-takenRowsBy true there km = there
-takenRowsBy false there km = km
-
-abbrev pub takenRows : ℕ → ℕ → ℕ
-takenRows there km = takenRowsBy (ltb there km) there km
-
--- flat rows: four numbers each
-unfoldable pub rowCountOf : ℕ → ℕ → ℕ
-rowCountOf numbers km = takenRows (numbers / 4) km
 
 unfoldable pub flatWith : Finder → IonoState → List Float → List Float → List Float → List Float → PathNumbers → AnswerAndRow
 flatWith find s es f2d clat clck c = mufOfRowsWith find s (rowCountOf (length es) (s .km)) (rowAt es) f2d clat clck c

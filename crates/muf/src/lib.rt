@@ -5,7 +5,7 @@ ghost use Prim.Native.Nat.{_+_, _*_, _<_, _≤_};
 ghost use lib.ListN.{length};
 ghost use Rattle.heights.specs.Gethp.{gethpOf};
 ghost use Rattle.muf.specs.Hour.{modeOf, hourOf, zeroHour, refusedOf};
-ghost use Rattle.muf.specs.Curmuf.{withinOf, inDomain, listsReach, regularWith, regularNumber, regularValue, takenRows, rowCountOf, refusedRowsKept, esBy, mufAtSlotOf, mufFromSearchOf, flatOf, esAfterOf, curmufOf};
+ghost use Rattle.muf.specs.Curmuf.{regularWith, regularNumber, regularValue, refusedRowsKept, esBy, mufAtSlotOf, mufFromSearchOf, flatOf, esAfterOf, curmufOf};
 use layer_mufs::LineAnswer;
 use layer_mufs::PathNumbers;
 use layers::IonoState;
@@ -140,43 +140,6 @@ pub fn refused(s: IonoState, r: Refusal) -> MufAnswer
     }
 }
 
-fn within(x: f32, top: f32) -> bool
-    ensures { λ r. ⌜ r ≡ withinOf x top ⌝ }
-{
-    if 0.0 <= x {
-        return x <= top;
-    }
-    false
-}
-
-pub fn in_domain(c: PathNumbers) -> bool
-    ensures { λ r. ⌜ r ≡ inDomain c ⌝ }
-{
-    if within(c.gcdkm, 40100.0) {
-        if within(c.gcd, 6.3) {
-            if c.amind > 90.0 {
-                return false;
-            }
-            return true;
-        }
-        return false;
-    }
-    false
-}
-
-// Whether the deciles are 576, and clat and clck reach to slot ks; the lists by their lengths.
-pub fn lists_reach(ks: usize, deciles: usize, lats: usize, clocks: usize) -> bool
-    ensures { λ r. ⌜ r ≡ listsReach ks deciles lats clocks ⌝ }
-{
-    if deciles != 576 {
-        return false;
-    }
-    if lats <= ks {
-        return false;
-    }
-    ks < clocks
-}
-
 // 0 for the three lines, else the refusal's number.
 pub fn regular_number(a: RegularAnswer) -> u32
     ensures { λ n. ⌜ n ≡ regularNumber a ⌝ }
@@ -234,23 +197,6 @@ fn regular_lines(
             }
         }
     }
-}
-
-// The rows that there are, at most km.
-pub fn rows_taken(there: usize, km: usize) -> usize
-    ensures { λ r. ⌜ r ≡ takenRows there km ⌝ }
-{
-    if there < km {
-        return there;
-    }
-    km
-}
-
-// The same of flat rows, by how many numbers there are.
-pub fn row_count(numbers: usize, km: usize) -> usize
-    ensures { λ r. ⌜ r ≡ rowCountOf numbers km ⌝ }
-{
-    rows_taken(numbers / 4, km)
 }
 
 // What is written into which row, once the hour is known.
@@ -339,9 +285,9 @@ pub fn muf_from_search(
 ) -> AnswerAndRow
     ensures { λ r. ⌜ r ≡ mufFromSearchOf s step (now (f2d .entry)) (now (clat .entry)) (now (clck .entry)) c ⌝ }
 {
-    if in_domain(c) {
+    if muf_domain::in_domain(c) {
         let ks = layer_mufs::controlling(s);
-        if lists_reach(ks, f2d.len(), clat.len(), clck.len()) {
+        if muf_domain::lists_reach(ks, f2d.len(), clat.len(), clck.len()) {
             let lat = clat[ks];
             let clock = clck[ks];
             return muf_at_slot(s, ks, step, f2d, lat, clock, c);
@@ -362,7 +308,7 @@ fn flat(
 ) -> AnswerAndRow
     ensures { λ r. ⌜ r ≡ flatOf s (now (es .entry)) (now (f2d .entry)) (now (clat .entry)) (now (clck .entry)) c ⌝ }
 {
-    let n = row_count(es.len(), s.km);
+    let n = muf_domain::row_count(es.len(), s.km);
     let step = sporadic::es_rows(es, n, c);
     muf_from_search(s, step, f2d, clat, clck, c)
 }

@@ -1,9 +1,8 @@
 -- The circuit MUF over a lent list of Es records: what it answers, and the records after.
-use mathlib.Core.Bool.{Bool, true, false}
-use mathlib.Core.List.{List, []}
+use mathlib.Core.List.{List}
 use Prim.Native.Nat.{ℕ}
-use lib.ListN.{length, getD, set}
-use lib.Ieee.{Float, nan}
+use lib.ListN.{length, getD}
+use lib.Ieee.{Float}
 use Rattle.scalar.specs.F32.{at}
 use Rattle.layers.specs.declared.IonoState.{IonoState}
 use Rattle.layers.specs.declared.EsParams.{EsParams}
@@ -15,10 +14,7 @@ use Rattle.sporadic.specs.declared.EsRow.{EsRow}
 use Rattle.sporadic.specs.declared.EsStep.{EsStep}
 use Rattle.muf.specs.declared.MufAnswer.{MufAnswer}
 use Rattle.muf.specs.declared.AnswerAndRow.{AnswerAndRow}
-
--- past the end, where no code reads
-abbrev pub noEs : EsParams
-noEs = record { fs = []; hs = nan }
+pub use Rattle.es_records.specs.Records.{noEs, lowered, recordsBy}
 
 abbrev pub rowOf : EsParams → EsRow
 rowOf e = record { fs0 = at (e .fs) 0; fs1 = at (e .fs) 1; fs2 = at (e .fs) 2; hs = e .hs }
@@ -36,14 +32,6 @@ recordsAnswerOf = recordsAnswerWith gethpOf
 -- row k's turn, where no row before it was refused
 unfoldable pub turnOf : EsStep → ℕ → EsParams → PathNumbers → EsStep
 turnOf step k e c = nextBy step (λ a. esRowOf a k (rowOf e) c)
-
--- only the controlling row's lower decile is rewritten
-abbrev pub lowered : EsParams → Float → EsParams
-lowered e lower = record { fs = set (e .fs) 0 lower; hs = e .hs }
-
-abbrev pub recordsBy : Bool → List EsParams → ℕ → Float → List EsParams
-recordsBy true es ksx lower = set es ksx (lowered (getD es ksx noEs) lower)
-recordsBy false es ksx lower = es
 
 abbrev pub recordsMufOf : IonoState → List EsParams → List Float → List Float → List Float → PathNumbers → MufAnswer
 recordsMufOf s es f2d clat clck c = recordsAnswerOf s es f2d clat clck c .answer

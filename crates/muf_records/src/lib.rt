@@ -1,18 +1,15 @@
-// The circuit MUF over a lent list of Es records. The three functions that hold a reference to
-// records (`search`, `rewrite`, `curmuf_records`) are proved by walks of their MIR, and are kept
-// short for it; what they do with values is in the others.
+// The circuit MUF over a lent list of Es records. The functions that hold a reference to records
+// (`search`, `curmuf_records`, and `rewrite` of es_records) are proved by walks of their MIR, and
+// are kept short for it; what they do with values is in the others.
 ghost use mathlib.Core.Path.{_≡_};
-ghost use Prim.Native.Nat.{_<_};
-ghost use mathlib.Core.Bool.{true};
 ghost use lib.ListN.{length};
 ghost use Rattle.sporadic.specs.Sporadic.{startOf, esFrom};
-ghost use Rattle.muf.specs.Curmuf.{takenRows};
-ghost use Rattle.muf_records.specs.Records.{rowOf, recordAt, turnOf, lowered, recordsBy, recordsMufOf, recordsAfterOf};
+ghost use Rattle.muf_domain.specs.Domain.{takenRows};
+ghost use Rattle.muf_records.specs.Records.{rowOf, recordAt, turnOf, recordsMufOf, recordsAfterOf};
 ghost use Rattle.sporadic.specs.declared.EsStep.{EsStep};
 use layer_mufs::PathNumbers;
 use layers::EsParams;
 use layers::IonoState;
-use muf::AnswerAndRow;
 use muf::MufAnswer;
 use sporadic::EsRow;
 use sporadic::EsStep;
@@ -52,7 +49,7 @@ fn turn(step: EsStep, k: usize, e: EsParams, c: PathNumbers) -> EsStep
 fn search(es: &[EsParams], km: usize, c: PathNumbers) -> EsStep
     ensures { λ r. ⌜ r ≡ esFrom (recordAt (now (es .entry))) c (takenRows (length (now (es .entry))) km) 0 startOf ⌝ }
 {
-    let n = muf::rows_taken(es.len(), km);
+    let n = muf_domain::rows_taken(es.len(), km);
     let mut step = first();
     let mut k = 0;
     while k < n {
@@ -60,27 +57,6 @@ fn search(es: &[EsParams], km: usize, c: PathNumbers) -> EsStep
         k = k + 1;
     }
     step
-}
-
-// The record with this lower decile.
-fn with_lower(e: EsParams, lower: f32) -> EsParams
-    ensures { λ r. ⌜ r ≡ lowered e lower ⌝ }
-{
-    let mut fs = e.fs;
-    fs[0] = lower;
-    EsParams { fs, hs: e.hs }
-}
-
-// The controlling row's lower decile is rewritten, if a row controls.
-fn rewrite(es: &mut [EsParams], d: AnswerAndRow) -> MufAnswer
-    requires { ⌜ (d .rewrites ≡ true → d .ksx < length (now es)) ⌝ }
-    ensures { λ r. ⌜ (r ≡ d .answer) × (now (es .exit) ≡ recordsBy (d .rewrites) (now (es .entry)) (d .ksx) (d .lower)) ⌝ }
-{
-    if d.rewrites {
-        let k = d.ksx;
-        es[k] = with_lower(es[k], d.lower);
-    }
-    d.answer
 }
 
 // The MUF hour; records past km are not read. Only the controlling record's lower decile is
@@ -99,5 +75,5 @@ pub fn curmuf_records(
 {
     let step = search(es, s.km, c);
     let d = muf::muf_from_search(s, step, f2d, clat, clck, c);
-    rewrite(es, d)
+    es_records::rewrite(es, d)
 }

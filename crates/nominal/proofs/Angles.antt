@@ -20,11 +20,11 @@ use Rattle.scalar.proofs.CorrectRoot.{sqrt-correct}
 use Rattle.order.specs.Units.{mag, key, total}
 use Rattle.order.proofs.Keys.{mag-val, mag-inf, overflow-pos}
 use Rattle.order.proofs.Sums.{add-key, total-mono}
-use Rattle.muf.specs.Curmuf.{withinOf}
+use Rattle.muf_domain.specs.Domain.{withinOf}
 use Rattle.angles.proofs.Keys.{UpTo, From, Above, key-size, none-size, div-key, mul-key}
 use Rattle.angles.specs.Angles.{Small}
 use Rattle.angles.proofs.Angles.{sin-answers, cos-answers, and-both, zero-key, f0-fits, f0-finite, hop-constants, half-path, over-hops, gcd-up-to, gcdkm-up-to}
-use Rattle.nominal.specs.Coefficients.{f225}
+use Rattle.nominal_factors.specs.Coefficients.{f225}
 use Rattle.nominal.specs.Nommuf.{hopOf, pathTaken}
 use Rattle.nominal.specs.Angles.{nominalPsi, NominalNeverRefused13}
 

@@ -8,7 +8,7 @@ use borrow.Author.Tests.{eqb-true}
 use Rattle.layers.specs.FromLayers.{countTaken}
 use Rattle.layers.proofs.Counts.{taken-five}
 use Rattle.angles.proofs.Angles.{and-both}
-use Rattle.nominal.specs.Nommuf.{countsAgree}
+use Rattle.nominal_factors.specs.Factors.{countsAgree}
 
 pub agreed : (km f2m3s : ℕ) → countsAgree km f2m3s ≡ true → (km ≤ 5) × (km ≤ f2m3s)
 unfolding countsAgree

@@ -10,7 +10,8 @@ use Rattle.scalar.specs.F32.{at}
 use Rattle.layers.specs.declared.LayerParams.{LayerParams}
 use Rattle.layers.specs.declared.EsParams.{EsParams}
 use Rattle.muf_records.specs.Records.{noEs, lowered, recordsBy, recordsAnswerOf}
-use Rattle.nominal.specs.Nommuf.{ecStep, ecOf, fmufOf, f2Step, f2mufOf, esStep, esmufOf, nominalOf, nommufOf}
+use Rattle.nominal_factors.specs.Factors.{ecStep, fmufOf, f2Step}
+use Rattle.nominal.specs.Nommuf.{ecOf, f2mufOf, esStep, esmufOf, nominalOf, nommufOf}
 use Rattle.nominal.specs.Inputs.{PointsAgree, RowAgrees, EsAgree, ReadsOnly, EsRewritten}
 
 ec-same : (km : ℕ) (p q : List LayerParams) → PointsAgree km p q → ecOf p km ≡ ecOf q km

@@ -4,62 +4,38 @@
 use mathlib.Core.Bool.{Bool, cond, _&&_}
 use mathlib.Core.List.{List, [], _∷_}
 use Prim.Native.Nat.{ℕ, zero, suc}
-use lib.Dec.{eqb}
 use lib.IntN.{pos}
 use lib.ListN.{length, getD}
 use lib.Ieee.{Float}
-use Rattle.scalar.specs.F32.{_+f_, _-f_, _*f_, _/f_, _<f_, _≤f_, _>f_, _≥f_, negf, at}
-use Rattle.scalar.specs.Literals.{f0, f0·85, f1, f1·1, f6·3, f16, f24, f1000, f40100}
+use Rattle.scalar.specs.F32.{_+f_, _*f_, _/f_, _≤f_, _>f_, negf, at}
+use Rattle.scalar.specs.Literals.{f0, f0·85, f1, f6·3, f1000, f40100}
 use Rattle.scalar.specs.Scalar.{maxOf}
 use Rattle.scalar.specs.Root.{sqrtOf}
 use Rattle.refusal.specs.declared.Refusal.{Refusal}
 use Rattle.refusal.specs.declared.Outcome.{Outcome}
-use Rattle.layers.specs.FromLayers.{countTaken, noLayers}
+use Rattle.layers.specs.FromLayers.{noLayers}
 use Rattle.layers.specs.declared.LayerParams.{LayerParams}
 use Rattle.layers.specs.declared.EsParams.{EsParams}
 use Rattle.layer_mufs.specs.Lines.{zeroLine}
 use Rattle.sporadic.specs.Sporadic.{rayOf}
 use Rattle.muf.specs.Hour.{zeroHour}
-use Rattle.muf.specs.Curmuf.{withinOf}
+use Rattle.muf_domain.specs.Domain.{withinOf}
 use Rattle.muf.specs.declared.MufHour.{MufHour}
 use Rattle.muf_records.specs.Records.{noEs}
-use Rattle.nominal.specs.Coefficients.{AE, AF, f0·0062137, f0·2085, f1·02, f1·15, f4·871, f225}
+use Rattle.nominal_factors.specs.Coefficients.{f0·0062137, f1·15, f4·871, f225}
+use Rattle.nominal_factors.specs.Factors.{elfcOf, flfcOf, ecStep, fmufOf, f2Step, allmufOf, countsAgree}
 use Rattle.nominal.specs.declared.NominalAnswer.{NominalAnswer}
-
--- v = v * arc + c for each c of a[..n], the last first
-unfoldable pub hornerOf : List Float → Float → ℕ → Float → Float
-hornerOf a arc zero v = v
-hornerOf a arc (suc n) v = hornerOf a arc n (v *f arc +f at a n)
-
--- the E layer's distance factor, at arc hundreds of miles; of a NaN 1.02
-unfoldable pub elfcOf : Float → Float
-elfcOf arc = cond (arc <f f16) (hornerOf AE arc 6 (at AE 6) *f arc +f f0·2085) f1·02
-
--- the F2 layer's; of a NaN NaN
-unfoldable pub flfcOf : Float → Float
-flfcOf arc = cond (f24 ≤f arc) f1 (hornerOf AF arc 6 (at AF 6) *f arc)
 
 -- fi[k][i] of the Rust
 abbrev pub fiAt : List LayerParams → ℕ → ℕ → Float
 fiAt points k i = at (getD points k noLayers .fi) i
 
 -- the lowest critical frequency of E over the first km points, 1000 at the start
-abbrev pub ecStep : Float → Float → Float
-ecStep ec f = cond (ec >f f) f ec
-
 unfoldable pub ecOf : List LayerParams → ℕ → Float
 ecOf points zero = f1000
 ecOf points (suc k) = ecStep (ecOf points k) (fiAt points k 0)
 
--- the lowest MUF of F2, of the critical frequency f2 and the F2M3 of each point
-unfoldable pub fmufOf : Float → Float → Float → Float
-fmufOf f2 m3 flfc =
-    let four = m3 *f f2 *f f1·1 in
-    f2 +f flfc *f (four -f f2)
-
-abbrev pub f2Step : Float → Float → Float
-f2Step f2muf fmuf = cond (fmuf <f f2muf) fmuf f2muf
-
+-- the lowest MUF of F2, of the critical frequency and the F2M3 of each point
 unfoldable pub f2mufOf : List LayerParams → List Float → Float → ℕ → Float
 f2mufOf points f2m3 flfc zero = f1000
 f2mufOf points f2m3 flfc (suc k) = f2Step (f2mufOf points f2m3 flfc k) (fmufOf (fiAt points k 2) (at f2m3 k) flfc)
@@ -83,10 +59,6 @@ esStep esmuf row gcd gcdkm =
 unfoldable pub esmufOf : List EsParams → Float → Float → ℕ → Float
 esmufOf es gcd gcdkm zero = f1000
 esmufOf es gcd gcdkm (suc k) = esStep (esmufOf es gcd gcdkm k) (getD es k noEs) gcd gcdkm
-
--- f2muf where either is NaN
-unfoldable pub allmufOf : Float → Float → Float
-allmufOf emuf f2muf = cond (emuf ≥f f2muf) emuf f2muf
 
 -- no F1 on this path, no angle, no mode, no line, no slot
 unfoldable pub nominalOf : List LayerParams → List Float → List EsParams → ℕ → Float → Float → MufHour
@@ -114,10 +86,6 @@ nominalOf points f2m3 es km gcd gcdkm =
       layers = zeroLine ∷ zeroLine ∷ zeroLine ∷ zeroLine ∷ [];
       ks = 0;
     }
-
--- 5: 1 to 5 points, and an F2M3 for each; the list by its length
-unfoldable pub countsAgree : ℕ → ℕ → Bool
-countsAgree km f2m3s = countTaken km && eqb f2m3s km
 
 -- 9: the domain of the MUF, which has amind besides
 unfoldable pub pathTaken : Float → Float → Bool

@@ -1,21 +1,19 @@
 -- What each export answers, and the words that it leaves. A slice that is shorter than its layout is refused with 1, before all else, and then nothing is written.
 use mathlib.Core.Bool.{Bool, true, false}
-use mathlib.Core.List.{List, [], _∷_}
+use mathlib.Core.List.{List}
 use Prim.Native.Nat.{ℕ}
 use lib.Dec.{ltb}
-use lib.ListN.{length, set}
+use lib.ListN.{length}
 use lib.Ieee.{binary32, ofBits}
 use Rattle.port_state.specs.Words.{floatsOf, floatsInto}
 use Rattle.port_state.specs.Ports.{Ported}
 use Rattle.port_state.specs.State.{stateWords, stateOf}
-use Rattle.readings.specs.Scan.{kindOf, valueOf, segmentNumber, readingOf}
-use Rattle.readings.specs.declared.Reading.{Reading}
-use Rattle.readings.specs.declared.Found.{Found}
+use Rattle.readings.specs.Scan.{readingOf}
 use Rattle.heights.specs.Gethp.{gethpOf, gethpScanOf}
 use Rattle.heights.specs.Bendy.{bendyAnswer, penAnswer, layerNumberOf, layerValuesOf}
 use Rattle.heights.specs.Xlin.{xlinFound}
-use Rattle.heights.specs.declared.Heights.{Heights}
 use Rattle.heights.specs.declared.LayerNumber.{LayerNumber}
+use Rattle.height_words.specs.Words.{heightsInto, foundInto, readingInto}
 
 -- is one slice too short, is the other
 abbrev pub leftBy : Bool → Bool → List ℕ → Ported → Ported
@@ -27,19 +25,11 @@ leftBy false false out a = a
 abbrev pub onState : List ℕ → ℕ → List ℕ → Ported → Ported
 onState state n out a = leftBy (ltb (length state) stateWords) (ltb (length out) n) out a
 
--- hp, ht, cursor, segment
-unfoldable pub heightsInto : Heights → List ℕ → List ℕ
-heightsInto h out = set (set (floatsInto out 0 (h .hp ∷ h .ht ∷ [])) 2 (h .cursor)) 3 (h .segment)
-
 unfoldable pub gethpLeft : List ℕ → ℕ → List ℕ → Ported
 gethpLeft state fxx out = onState state 4 out (record { number = 0; words = heightsInto (gethpOf (stateOf state) (ofBits binary32 fxx)) out })
 
 unfoldable pub gethpScanLeft : List ℕ → ℕ → List ℕ → Ported
 gethpScanLeft state fxx out = onState state 4 out (record { number = 0; words = heightsInto (gethpScanOf (stateOf state) (ofBits binary32 fxx)) out })
-
--- the kind, the density, the segment
-unfoldable pub readingInto : Reading → List ℕ → List ℕ
-readingInto r out = set (set (floatsInto out 1 (valueOf r ∷ [])) 0 (kindOf r)) 2 (segmentNumber r)
 
 unfoldable pub readingLeft : List ℕ → ℕ → List ℕ → Ported
 readingLeft state zi out =
@@ -59,10 +49,6 @@ penLeft state i k f out = onState state 1 out (layerLeft (penAnswer (stateOf sta
 abbrev pub gridsBy : Bool → Bool → List ℕ → Ported → Ported
 gridsBy true b out a = record { number = 1; words = out }
 gridsBy false b out a = leftBy b (ltb (length out) 2) out a
-
--- the value, the segment
-unfoldable pub foundInto : Found → List ℕ → List ℕ
-foundInto f out = set (floatsInto out 0 (f .value ∷ [])) 1 (f .segment)
 
 unfoldable pub xlinLeft : ℕ → List ℕ → List ℕ → List ℕ → Ported
 xlinLeft x xn yn out =

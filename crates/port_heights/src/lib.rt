@@ -1,60 +1,8 @@
 // Heights for callers in any language: words in, words out. Each function answers 0, or the number of its refusal, and then leaves every lent word as it was.
 ghost use mathlib.Core.Path.{_≡_};
-ghost use Prim.Native.Nat.{_≤_};
-ghost use lib.ListN.{length};
 ghost use denote.Ref.{now};
-ghost use Rattle.port_state.specs.Words.{floatsInto};
-ghost use Rattle.heights.specs.Bendy.{layerNumberOf, layerValuesOf};
-ghost use Rattle.port_heights.specs.Exports.{heightsInto, foundInto, readingInto, gethpLeft, gethpScanLeft, readingLeft, bendyLeft, penLeft, xlinLeft};
-use heights::Heights;
-use heights::LayerNumber;
+ghost use Rattle.port_heights.specs.Exports.{gethpLeft, gethpScanLeft, readingLeft, bendyLeft, penLeft, xlinLeft};
 use port_state::STATE_WORDS;
-use readings::Found;
-use readings::Reading;
-
-fn heights_into(h: Heights, out: &mut [u32])
-    requires { ⌜ (4 ≤ length (now out)) × (h .cursor ≤ 49) ⌝ }
-    ensures { λ r. ⌜ now (out .exit) ≡ heightsInto h (now (out .entry)) ⌝ }
-{
-    let x = [h.hp, h.ht];
-    port_state::floats_into(&x, out, 0);
-    let c = h.cursor;
-    out[2] = c as u32;
-    out[3] = h.segment;
-}
-
-fn found_into(f: Found, out: &mut [u32])
-    requires { ⌜ 2 ≤ length (now out) ⌝ }
-    ensures { λ r. ⌜ now (out .exit) ≡ foundInto f (now (out .entry)) ⌝ }
-{
-    let x = [f.value];
-    port_state::floats_into(&x, out, 0);
-    out[1] = f.segment;
-}
-
-fn reading_into(r: Reading, out: &mut [u32])
-    requires { ⌜ 3 ≤ length (now out) ⌝ }
-    ensures { λ e. ⌜ now (out .exit) ≡ readingInto r (now (out .entry)) ⌝ }
-{
-    let x = [readings::value(r)];
-    port_state::floats_into(&x, out, 1);
-    out[0] = readings::kind(r);
-    out[2] = readings::segment_number(r);
-}
-
-fn layer_into(a: LayerNumber, out: &mut [u32]) -> u32
-    requires { ⌜ 1 ≤ length (now out) ⌝ }
-    ensures { λ r. ⌜ (r ≡ layerNumberOf a) × (now (out .exit) ≡ floatsInto (now (out .entry)) 0 (layerValuesOf a)) ⌝ }
-{
-    match a {
-        LayerNumber::Value(v) => {
-            let x = [v];
-            port_state::floats_into(&x, out, 0);
-            0
-        }
-        LayerNumber::Refused(r) => refusal::number(r),
-    }
-}
 
 // state STATE_WORDS words; out: hp, ht, cursor, segment
 #[no_mangle]
@@ -70,7 +18,7 @@ pub extern "C" fn port_gethp(state: &[u32], fxx: u32, out: &mut [u32]) -> u32
     let s = port_state::state_of(state);
     let f = scalar::number(fxx);
     let h = heights::gethp(s, f);
-    heights_into(h, out);
+    height_words::heights_into(h, out);
     0
 }
 
@@ -88,7 +36,7 @@ pub extern "C" fn port_gethp_scan(state: &[u32], fxx: u32, out: &mut [u32]) -> u
     let s = port_state::state_of(state);
     let f = scalar::number(fxx);
     let h = heights::gethp_scan(s, f);
-    heights_into(h, out);
+    height_words::heights_into(h, out);
     0
 }
 
@@ -108,7 +56,7 @@ pub extern "C" fn port_reading(state: &[u32], zi: u32, out: &mut [u32]) -> u32
     let htr = s.htr;
     let fnsq = s.fnsq;
     let r = readings::read_by_scan(&htr, &fnsq, z);
-    reading_into(r, out);
+    height_words::reading_into(r, out);
     0
 }
 
@@ -126,7 +74,7 @@ pub extern "C" fn port_bendy(state: &[u32], i: u32, k: u32, f: u32, out: &mut [u
     let s = port_state::state_of(state);
     let x = scalar::number(f);
     let a = heights::bendy(s, port_state::wide(i), port_state::wide(k), x);
-    layer_into(a, out)
+    height_words::layer_into(a, out)
 }
 
 #[no_mangle]
@@ -142,7 +90,7 @@ pub extern "C" fn port_pen(state: &[u32], i: u32, k: u32, f: u32, out: &mut [u32
     let s = port_state::state_of(state);
     let x = scalar::number(f);
     let a = heights::pen(s, port_state::wide(i), port_state::wide(k), x);
-    layer_into(a, out)
+    height_words::layer_into(a, out)
 }
 
 // xn and yn 50 words each; out: the value, the segment
@@ -163,6 +111,6 @@ pub extern "C" fn port_xlin(x: u32, xn: &[u32], yn: &[u32], out: &mut [u32]) -> 
     let xs = port_state::floats_50(xn, 0);
     let ys = port_state::floats_50(yn, 0);
     let f = heights::xlin(at, &xs, &ys);
-    found_into(f, out);
+    height_words::found_into(f, out);
     0
 }

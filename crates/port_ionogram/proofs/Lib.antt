@@ -1,4 +1,3 @@
--- Cells, ranges and rooms of the exported lists, and the slot sheet through words.
-pub mod Ranges
+-- Cells and rooms of the exported lists, and the slot sheet through words.
 pub mod Rooms
 pub mod Sheets

@@ -2,47 +2,26 @@
 use mathlib.Core.Bool.{Bool, true, false, _||_}
 use mathlib.Core.List.{List}
 use Prim.Native.Nat.{ℕ, _*_}
-use lib.Dec.{ltb, eqb}
 use lib.IntN.{ℤ}
-use lib.ListN.{length, set}
-use lib.Ieee.{binary32, ofBits}
+use lib.ListN.{set}
 use Rattle.refusal.specs.Number.{numberOf}
 use Rattle.refusal.specs.declared.Refusal.{Refusal}
 use Rattle.refusal.specs.declared.Outcome.{Outcome}
 use Rattle.port_state.specs.Ports.{Ported, refusedWith}
 use Rattle.port_state.specs.State.{stateWords, stateOf, stateInto}
-use Rattle.reflectrix.specs.Angles.{sangOf, scanNumber, scanValue}
 use Rattle.reflectrix.specs.Selmod.{selmodOf}
 use Rattle.reflectrix.specs.Fobby.{fobbyOutcome, cellsAfter}
-use Rattle.reflectrix.specs.declared.Scan.{Scan}
 use Rattle.reflectrix.specs.declared.Ionogram.{Ionogram}
 use Rattle.reflectrix.specs.declared.IonogramAnswer.{IonogramAnswer}
 use Rattle.sounding.specs.Genion.{genionAnswer}
 use Rattle.losses.specs.Alosfv.{alosfvAnswer}
 use Rattle.slot_sheet.specs.Sheet.{slotSheetOf, sheetCellsOf}
 use Rattle.slot_sheet.specs.declared.SlotSheet.{SlotSheet}
-use Rattle.port_layouts.specs.Layouts.{cellsOf, cellsInto, ionogramOf, ionogramInto, marksInto, linesOf}
+use Rattle.ionogram_words.specs.Sang.{short, unlessShort}
+use Rattle.line_words.specs.Lines.{linesOf}
+use Rattle.port_layouts.specs.Layouts.{cellsOf, cellsInto, ionogramOf, ionogramInto, marksInto}
 
--- has the slice fewer words than its layout
-abbrev pub short : List ℕ → ℕ → Bool
-short w n = ltb (length w) n
-
-abbrev pub unlessShort : Bool → List ℕ → Ported → Ported
-unlessShort true w a = refusedWith Refusal.Length w
-unlessShort false w a = a
-
--- ---- the angle count, the controlling slot
-
--- answered: the count is written
-abbrev pub countBy : Bool → ℕ → List ℕ → List ℕ
-countBy true n out = set out 0 n
-countBy false n out = out
-
-abbrev pub scanInto : Scan → List ℕ → Ported
-scanInto a out = record { number = scanNumber a; words = countBy (eqb (scanNumber a) 0) (scanValue a) out }
-
-unfoldable pub portSang : ℕ → ℕ → List ℕ → Ported
-portSang gcdkm amind out = unlessShort (short out 1) out (scanInto (sangOf (ofBits binary32 gcdkm) (ofBits binary32 amind)) out)
+-- ---- the controlling slot
 
 unfoldable pub portSelmod : List ℕ → List ℕ → Ported
 portSelmod state out = unlessShort (short state stateWords || short out 1) out (record { number = 0; words = set out 0 (selmodOf (stateOf state)) })

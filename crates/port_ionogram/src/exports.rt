@@ -3,47 +3,26 @@ ghost use mathlib.Core.Path.{_≡_};
 ghost use Prim.Native.Nat.{_*_, _≤_};
 ghost use lib.ListN.{length};
 ghost use denote.Ref.{now};
-ghost use Rattle.reflectrix.specs.Angles.{scanValue};
 ghost use Rattle.reflectrix.specs.Fobby.{cellsAfter};
 ghost use Rattle.slot_sheet.specs.Sheet.{slotSheetOf, sheetCellsOf};
 ghost use Rattle.port_state.specs.State.{stateWords, stateInto};
 ghost use Rattle.port_layouts.specs.Layouts.{cellsOf, cellsInto, ionogramInto, marksInto};
-ghost use Rattle.port_ionogram.specs.Exports.{scanInto, rowsInto, portSang, portSelmod, portGenion, portFobby, portAlosfv, sheetOn, sheetCellsOn, portSheet};
+ghost use Rattle.ionogram_words.specs.Sang.{sangWords};
+ghost use Rattle.port_ionogram.specs.Exports.{rowsInto, portSelmod, portGenion, portFobby, portAlosfv, sheetOn, sheetCellsOn, portSheet};
 use layers::IonoState;
 use layers::LayerMuf;
 use port_state::STATE_WORDS;
 use reflectrix::Ionogram;
 use reflectrix::IonogramAnswer;
-use reflectrix::Scan;
 use refusal::Outcome;
-use shapes::HeightMark;
 use slot_sheet::SlotSheet;
-
-fn scan_into(a: Scan, out: &mut [u32]) -> u32
-    requires { ⌜ (1 ≤ length (now out)) × (scanValue a ≤ 40) ⌝ }
-    ensures { λ r. ⌜ (r ≡ scanInto a (now (out .entry)) .number) × (now (out .exit) ≡ scanInto a (now (out .entry)) .words) ⌝ }
-{
-    let number = reflectrix::scan_number(a);
-    if number == 0 {
-        let n = reflectrix::scan_value(a);
-        out[0] = n as u32;
-        return number;
-    }
-    number
-}
 
 // out: the angle count
 #[no_mangle]
 pub extern "C" fn port_sang(gcdkm: u32, amind: u32, out: &mut [u32]) -> u32
-    ensures { λ r. ⌜ (r ≡ portSang gcdkm amind (now (out .entry)) .number) × (now (out .exit) ≡ portSang gcdkm amind (now (out .entry)) .words) ⌝ }
+    ensures { λ r. ⌜ (r ≡ sangWords gcdkm amind (now (out .entry)) .number) × (now (out .exit) ≡ sangWords gcdkm amind (now (out .entry)) .words) ⌝ }
 {
-    if out.len() < 1 {
-        return 1;
-    }
-    let km = scalar::number(gcdkm);
-    let least = scalar::number(amind);
-    let a = reflectrix::sang(km, least);
-    scan_into(a, out)
+    ionogram_words::sang(gcdkm, amind, out)
 }
 
 // state STATE_WORDS words; out: the slot
@@ -110,7 +89,7 @@ pub extern "C" fn port_alosfv(state: &[u32], k: u32, ion: &mut [u32], layers: &[
     }
     let s = port_state::state_of(state);
     let rows = port_layouts::ionogram_of(ion);
-    let lines = port_layouts::lines_of(layers);
+    let lines = line_words::lines_of(layers);
     let a = losses::alosfv(s, port_state::wide(k), rows, lines);
     rows_into(a, ion)
 }
@@ -165,14 +144,6 @@ fn sheet_by(
     a
 }
 
-fn marked_into(ion: Ionogram, marks: [HeightMark; 50], out: &mut [u32])
-    requires { ⌜ 200 ≤ length (now out) ⌝ }
-    ensures { λ _. ⌜ now (out .exit) ≡ marksInto marks (ionogramInto ion (now (out .entry))) 150 ⌝ }
-{
-    port_layouts::ionogram_into(ion, out);
-    port_layouts::marks_into(marks, out, 150);
-}
-
 fn sheet_into(
     state: &mut [u32],
     k: usize,
@@ -187,7 +158,7 @@ fn sheet_into(
         × (now (out .exit) ≡ marksInto (sheetOn (now (state .entry)) k nang (now (layers .entry)) (now (cells .entry)) .marks) (ionogramInto (sheetOn (now (state .entry)) k nang (now (layers .entry)) (now (cells .entry)) .ion) (now (out .entry))) 150) ⌝ }
 {
     let s = port_state::state_of(state);
-    let lines = port_layouts::lines_of(layers);
+    let lines = line_words::lines_of(layers);
     let count = 30 * nang;
     let mut c = [0; 1200];
     let a = sheet_by(s, k, nang, lines, &mut c[..count], cells);
@@ -195,7 +166,7 @@ fn sheet_into(
     let ion = a.ion;
     let marks = a.marks;
     port_state::state_into(t, state);
-    marked_into(ion, marks, out);
+    ionogram_words::marked_into(ion, marks, out);
 }
 
 // state STATE_WORDS words, layers 44; cells: 30 words an angle; out 200: fvert, hprim, htrue,

@@ -1,4 +1,4 @@
-// Cells, rows, marks and layer lines as words.
+// Cells, rows and marks as words.
 ghost use mathlib.Core.Path.{_≡_};
 ghost use mathlib.Core.List.{map};
 ghost use Prim.Native.Nat.{_+_, _≤_};
@@ -6,8 +6,7 @@ ghost use lib.ListN.{length};
 ghost use denote.Ref.{now};
 ghost use Rattle.port_circuit.specs.Words.{wordsOf, wordsInto};
 ghost use Rattle.port_state.specs.Words.{floatsOf, floatsInto};
-ghost use Rattle.port_layouts.specs.Layouts.{cellsOf, cellsInto, ionogramOf, ionogramInto, markNumber, marksInto, lineOf, linesOf};
-use layers::LayerMuf;
+ghost use Rattle.port_layouts.specs.Layouts.{cellsOf, cellsInto, ionogramOf, ionogramInto, markNumber, marksInto};
 use reflectrix::Ionogram;
 use shapes::HeightMark;
 
@@ -125,35 +124,4 @@ pub fn marks_into(marks: [HeightMark; 50], w: &mut [u32], from: usize)
 {
     let numbers = mark_numbers(marks);
     words_50_into(numbers, w, from);
-}
-
-fn line_of(w: &[u32], i: usize) -> LayerMuf
-    requires { ⌜ i + 11 ≤ length (now w) ⌝ }
-    ensures { λ r. ⌜ r ≡ lineOf (now (w .entry)) i ⌝ }
-{
-    LayerMuf {
-        sigl: scalar::number(w[i]),
-        sigu: scalar::number(w[i + 1]),
-        delmuf: scalar::number(w[i + 2]),
-        hpmuf: scalar::number(w[i + 3]),
-        htmuf: scalar::number(w[i + 4]),
-        fvmuf: scalar::number(w[i + 5]),
-        afmuf: scalar::number(w[i + 6]),
-        nhopmf: port_state::signed(w[i + 7]),
-        yfot: scalar::number(w[i + 8]),
-        ymuf: scalar::number(w[i + 9]),
-        yhpf: scalar::number(w[i + 10]),
-    }
-}
-
-pub fn lines_of(w: &[u32]) -> [LayerMuf; 4]
-    requires { ⌜ 44 ≤ length (now w) ⌝ }
-    ensures { λ r. ⌜ r ≡ linesOf (now (w .entry)) ⌝ }
-{
-    [
-        line_of(w, 0),
-        line_of(w, 11),
-        line_of(w, 22),
-        line_of(w, 33),
-    ]
 }

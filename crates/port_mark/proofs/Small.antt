@@ -6,7 +6,7 @@ use native.Mathlib.Omega.{arith}
 use Rattle.marking_answer.specs.declared.Marking.{Marking}
 use Rattle.marking.specs.Marked.{markedOf}
 use Rattle.marking.proofs.Laws.{marking-laws}
-use Rattle.port_mark.specs.Exports.{SmallLine}
+use Rattle.marking_words.specs.Words.{SmallLine}
 
 pub small : (input : List ℕ) → SmallLine (markedOf input)
 small input = by (markedOf input) refl

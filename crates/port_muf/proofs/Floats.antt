@@ -15,13 +15,14 @@ use Rattle.heights.specs.Gethp.{gethpOf}
 use Rattle.layer_mufs.specs.Controlling.{controllingOf}
 use Rattle.layer_mufs.specs.declared.PathNumbers.{PathNumbers}
 use Rattle.sporadic.specs.Sporadic.{rowAt, esFrom, startOf}
-use Rattle.muf.specs.Curmuf.{mufFromSearchBy, mufOfRowsWith, flatWith, flatOf, inDomain, listsReach, refusedRowsKept, rowCountOf, mufFromSearchWith, mufAtSlotOf}
+use Rattle.muf_domain.specs.Domain.{inDomain, listsReach, rowCountOf}
+use Rattle.muf.specs.Curmuf.{mufFromSearchBy, mufOfRowsWith, flatWith, flatOf, refusedRowsKept, mufFromSearchWith, mufAtSlotOf}
 use Rattle.muf.specs.declared.AnswerAndRow.{AnswerAndRow}
 use Rattle.sporadic.specs.declared.EsStep.{EsStep}
 use Rattle.muf.proofs.Rows.{flat-below}
-use Rattle.muf.proofs.Lists.{deciles-whole, lists-reach}
+use Rattle.muf_domain.proofs.Lists.{deciles-whole, lists-reach}
 use Rattle.port_state.specs.Words.{floatsOf}
-use Rattle.port_muf.specs.Exports.{floats}
+use Rattle.deviation_words.specs.Floats.{floats}
 
 pub float-at : (w : List ℕ) (i : ℕ) → i < length w → at (floats w) i ≡ ofBits binary32 (getD w i 0)
 float-at [] i h = absurd (not-suc-le-zero h)

@@ -4,16 +4,14 @@ ghost use mathlib.Core.Bool.{true};
 ghost use Prim.Native.Nat.{_+_, _*_, _<_, _≤_};
 ghost use lib.ListN.{length};
 ghost use denote.Ref.{now};
-ghost use Rattle.port_state.specs.Words.{floatsInto};
 ghost use Rattle.sporadic.specs.Sporadic.{rowAt, esFrom, startOf};
 ghost use Rattle.muf.specs.Curmuf.{flatOf};
-ghost use Rattle.port_muf.specs.Exports.{floats, leaves, pathNumbersOf, tenInto, lineInto, headInto, hourInto, wordsBy, doneLeft, curmufLeft};
+ghost use Rattle.deviation_words.specs.Floats.{floats};
+ghost use Rattle.port_muf.specs.Exports.{leaves, pathNumbersOf, doneLeft, curmufLeft};
 ghost use Rattle.port_state.specs.State.{stateWords};
 use layer_mufs::PathNumbers;
 use layers::IonoState;
-use layers::LayerMuf;
 use muf::AnswerAndRow;
-use muf::MufHour;
 use port_state::STATE_WORDS;
 use refusal::Outcome;
 use refusal::Refusal;
@@ -67,13 +65,13 @@ fn called(
 ) -> AnswerAndRow
     ensures { λ r. ⌜ r ≡ flatOf s (floats (now (es .entry))) (floats (now (deciles .entry))) (floats (now (clat .entry))) (floats (now (clck .entry))) c ⌝ }
 {
-    if muf::in_domain(c) {
+    if muf_domain::in_domain(c) {
         let ks = layer_mufs::controlling(s);
-        if muf::lists_reach(ks, deciles.len(), clat.len(), clck.len()) {
-            let f2d = super::floats_576(deciles);
+        if muf_domain::lists_reach(ks, deciles.len(), clat.len(), clck.len()) {
+            let f2d = deviation_words::floats_576(deciles);
             let lat = scalar::number(clat[ks]);
             let clock = scalar::number(clck[ks]);
-            let n = muf::row_count(es.len(), s.km);
+            let n = muf_domain::row_count(es.len(), s.km);
             let step = word_rows(es, n, c);
             return muf::muf_at_slot(s, ks, step, &f2d, lat, clock, c);
         }
@@ -98,91 +96,6 @@ fn path_numbers_of(numbers: &[u32]) -> PathNumbers
     }
 }
 
-fn seven_into(x: [f32; 7], out: &mut [u32], from: usize)
-    requires { ⌜ from + 7 ≤ length (now out) ⌝ }
-    ensures { λ r. ⌜ now (out .exit) ≡ floatsInto (now (out .entry)) from x ⌝ }
-{
-    port_state::floats_into(&x, out, from);
-}
-
-fn three_into(x: [f32; 3], out: &mut [u32], from: usize)
-    requires { ⌜ from + 3 ≤ length (now out) ⌝ }
-    ensures { λ r. ⌜ now (out .exit) ≡ floatsInto (now (out .entry)) from x ⌝ }
-{
-    port_state::floats_into(&x, out, from);
-}
-
-// All of a line but its hop count, which stands at word 7.
-fn ten_into(l: LayerMuf, out: &mut [u32], from: usize)
-    requires { ⌜ from + 11 ≤ length (now out) ⌝ }
-    ensures { λ r. ⌜ now (out .exit) ≡ tenInto l from (now (out .entry)) ⌝ }
-{
-    let x = [l.sigl, l.sigu, l.delmuf, l.hpmuf, l.htmuf, l.fvmuf, l.afmuf];
-    let y = [l.yfot, l.ymuf, l.yhpf];
-    let deciles = from + 8;
-    seven_into(x, out, from);
-    three_into(y, out, deciles);
-}
-
-fn line_into(l: LayerMuf, out: &mut [u32], from: usize)
-    requires { ⌜ from + 11 ≤ length (now out) ⌝ }
-    ensures { λ r. ⌜ now (out .exit) ≡ lineInto l from (now (out .entry)) ⌝ }
-{
-    let hops = from + 7;
-    let nhopmf = l.nhopmf;
-    ten_into(l, out, from);
-    out[hops] = port_state::word(nhopmf);
-}
-
-fn head_into(h: MufHour, out: &mut [u32])
-    requires { ⌜ 10 ≤ length (now out) ⌝ }
-    ensures { λ r. ⌜ now (out .exit) ≡ headInto h (now (out .entry)) ⌝ }
-{
-    let x = [
-        h.emuf,
-        h.f1muf,
-        h.f2muf,
-        h.esmuf,
-        h.allmuf,
-        h.fot,
-        h.hpf,
-        h.angmuf,
-    ];
-    let modmuf = h.modmuf;
-    let ks = h.ks;
-    port_state::floats_into(&x, out, 0);
-    out[8] = port_state::word(modmuf);
-    out[9] = (ks % 0x1_0000_0000) as u32;
-}
-
-pub fn hour_into(h: MufHour, out: &mut [u32])
-    requires { ⌜ 54 ≤ length (now out) ⌝ }
-    ensures { λ r. ⌜ now (out .exit) ≡ hourInto h (now (out .entry)) ⌝ }
-{
-    let layers = h.layers;
-    let e = layers[0];
-    let f1 = layers[1];
-    let f2 = layers[2];
-    let es = layers[3];
-    head_into(h, out);
-    line_into(e, out, 10);
-    line_into(f1, out, 21);
-    line_into(f2, out, 32);
-    line_into(es, out, 43);
-}
-
-// The row that is rewritten is there.
-fn es_into(rewrites: bool, ksx: usize, lower: f32, es: &mut [u32])
-    requires { ⌜ (rewrites ≡ true → 4 * ksx < length (now es)) ⌝ }
-    ensures { λ r. ⌜ now (es .exit) ≡ wordsBy rewrites (now (es .entry)) ksx lower ⌝ }
-{
-    if rewrites {
-        let at = 4 * ksx;
-        es[at] = scalar::bits(lower);
-        return;
-    }
-}
-
 fn done_into(d: AnswerAndRow, state: &mut [u32], es: &mut [u32], out: &mut [u32]) -> u32
     requires { ⌜ (stateWords ≤ length (now state)) × (54 ≤ length (now out)) × (d .rewrites ≡ true → 4 * d .ksx < length (now es)) ⌝ }
     ensures { λ r. ⌜ leaves r (now (state .exit)) (now (es .exit)) (now (out .exit)) ≡ doneLeft d (now (state .entry)) (now (es .entry)) (now (out .entry)) ⌝ }
@@ -195,8 +108,8 @@ fn done_into(d: AnswerAndRow, state: &mut [u32], es: &mut [u32], out: &mut [u32]
             let s = a.state;
             let h = a.hour;
             port_state::state_into(s, state);
-            es_into(d.rewrites, d.ksx, d.lower, es);
-            hour_into(h, out);
+            hour_words::es_into(d.rewrites, d.ksx, d.lower, es);
+            hour_words::hour_into(h, out);
             0
         }
     }

@@ -4,7 +4,7 @@ use mathlib.Core.Path.{_≡_, refl}
 use Prim.Native.Nat.{ℕ, _≤_}
 use native.Mathlib.Omega.{arith}
 use lib.ListN.{length, take}
-use Rattle.port_muf.specs.Exports.{floats}
+use Rattle.deviation_words.specs.Floats.{floats}
 use Rattle.port_nominal.specs.Exports.{fiveOf}
 
 pub five-all : (w : List ℕ) → length w ≤ 5 → take (length w) (fiveOf w (length w)) ≡ floats w

@@ -13,7 +13,8 @@ use Rattle.refusal.specs.declared.Outcome.{Outcome}
 use Rattle.layers.specs.declared.EsParams.{EsParams}
 use Rattle.muf.specs.declared.MufHour.{MufHour}
 use Rattle.port_state.specs.Ports.{Ported, refusedWith, pointsOf}
-use Rattle.port_muf.specs.Exports.{number, floats, hourInto}
+use Rattle.deviation_words.specs.Floats.{number, floats}
+use Rattle.hour_words.specs.HourWords.{hourInto}
 use Rattle.nominal.specs.Nommuf.{nommufOf}
 use Rattle.nominal.specs.declared.NominalAnswer.{NominalAnswer}
 

@@ -100,7 +100,7 @@ fn answer_into(a: NominalAnswer, out: &mut [u32]) -> u32
         Outcome::Refused(r) => refusal::number(r),
         Outcome::Answered => {
             let hour = a.hour;
-            port_muf::hour::hour_into(hour, out);
+            hour_words::hour_into(hour, out);
             0
         }
     }

@@ -1,6 +1,6 @@
 -- A number read off a profile by a scan: the Rust's `profile_interpolate`, with the kind of the reading kept. `probe` is sought in `from`, and what stands there in `to` is
 -- the answer. A test written as a difference against zero stays one: at two equal infinities it is not a comparison.
-use mathlib.Core.Bool.{Bool, true, false}
+use mathlib.Core.Bool.{Bool, true, false, cond, _&&_}
 use mathlib.Core.List.{List}
 use Prim.Native.Nat.{ℕ, zero, suc, _+_}
 use lib.Ieee.{Float}
@@ -35,32 +35,16 @@ segmentNumber (Top v) = 49
 abbrev pub interpolated : Float → Float → Float → Float → Float → Float
 interpolated from0 from1 to0 to1 probe = to0 +f (probe -f from0) *f (to1 -f to0) /f (from1 -f from0)
 
-abbrev pub hitIf : Bool → Float → Hit
-hitIf true v = At v
-hitIf false v = Miss
-
--- d < 0: is from0 - probe <= 0
-abbrev pub risingBy : Bool → Float → Float → Float → Float → Float → Hit
-risingBy true from0 from1 to0 to1 probe = hitIf (probe -f from1 <f f0) (interpolated from0 from1 to0 to1 probe)
-risingBy false from0 from1 to0 to1 probe = At (interpolated from0 from1 to0 to1 probe)
-
--- neither d < 0 nor d == 0: is from0 - probe >= 0
-abbrev pub fallingBy : Bool → Float → Float → Float → Float → Float → Hit
-fallingBy true from0 from1 to0 to1 probe = hitIf (probe -f from1 >f f0) (interpolated from0 from1 to0 to1 probe)
-fallingBy false from0 from1 to0 to1 probe = Miss
-
--- not d < 0: is d == 0
-abbrev pub levelBy : Bool → Float → Float → Float → Float → Float → Hit
-levelBy true from0 from1 to0 to1 probe = hitIf (probe -f from0 ==f f0) to0
-levelBy false from0 from1 to0 to1 probe = fallingBy (from0 -f probe ≥f f0) from0 from1 to0 to1 probe
-
--- is d < 0
-abbrev pub segmentBy : Bool → Float → Float → Float → Float → Float → Hit
-segmentBy true from0 from1 to0 to1 probe = risingBy (from0 -f probe ≤f f0) from0 from1 to0 to1 probe
-segmentBy false from0 from1 to0 to1 probe = levelBy (from0 -f from1 ==f f0) from0 from1 to0 to1 probe
-
+-- does it hold the probe: test by test as in the Rust, with d = from0 - from1; a segment that is not held is passed over
 unfoldable pub segmentOf : Float → Float → Float → Float → Float → Hit
-segmentOf from0 from1 to0 to1 probe = let d = from0 -f from1 in segmentBy (d <f f0) from0 from1 to0 to1 probe
+segmentOf from0 from1 to0 to1 probe =
+    let d = from0 -f from1 in
+    let y = interpolated from0 from1 to0 to1 probe in
+    cond (d <f f0)
+    (cond (from0 -f probe ≤f f0) (cond (probe -f from1 <f f0) (At y) Miss) (At y))
+    (cond (d ==f f0)
+    (cond (probe -f from0 ==f f0) (At to0) Miss)
+    (cond ((from0 -f probe ≥f f0) && (probe -f from1 >f f0)) (At y) Miss))
 
 -- does the segment hold the probe, and with which number, +0 where it does not
 abbrev pub heldOf : Hit → Bool

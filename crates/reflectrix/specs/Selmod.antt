@@ -1,5 +1,5 @@
 -- `selmod`: the slot by which ray paths are worked out, at an end of the path: the one with the lower F2, or with the lower E where F2 is alike.
-use mathlib.Core.Bool.{Bool, true, false}
+use mathlib.Core.Bool.{Bool, true, false, cond}
 use Prim.Native.Nat.{ℕ}
 use lib.Dec.{eqb}
 use lib.Ieee.{Float}
@@ -12,17 +12,11 @@ abbrev pub slotIf : Bool → ℕ → ℕ
 slotIf true k = k
 slotIf false k = 0
 
-abbrev pub threeBy : Bool → IonoState → Float → ℕ
-threeBy true s delfi = slotIf (at (s .fi) 0 >f at (s .fi) 6) 2
-threeBy false s delfi = slotIf (delfi >f f0) 2
-
-abbrev pub selmodBy : Bool → Bool → IonoState → ℕ
-selmodBy true _ s = 0
--- `ionset` gave both slots one F2, so E tells them apart
-selmodBy false true s = slotIf (at (s .fi) 0 >f at (s .fi) 3) 1
-selmodBy false false s =
-    let delfi = at (s .fi) 2 -f at (s .fi) 8 in
-    threeBy (absOf delfi <f f0·01) s delfi
-
 unfoldable pub selmodOf : IonoState → ℕ
-selmodOf s = selmodBy (eqb (s .kfx) 1) (eqb (s .kfx) 2) s
+selmodOf s =
+    let delfi = at (s .fi) 2 -f at (s .fi) 8 in
+    cond (eqb (s .kfx) 1) 0
+    -- `ionset` gave both slots one F2, so E tells them apart
+    (cond (eqb (s .kfx) 2) (slotIf (at (s .fi) 0 >f at (s .fi) 3) 1)
+    (cond (absOf delfi <f f0·01) (slotIf (at (s .fi) 0 >f at (s .fi) 6) 2)
+    (slotIf (delfi >f f0) 2)))

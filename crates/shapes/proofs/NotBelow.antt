@@ -1,16 +1,16 @@
 -- Of D-E tail and E one is not worked out and so 0. So their maximum is a number that is not below zero: a maximum drops a NaN and takes the greater. Every further maximum is that number or one above it.
-use mathlib.Core.Bool.{Bool, true, false, _||_, false≢true, true≢false}
+use mathlib.Core.Bool.{Bool, true, false, cond, _&&_, _||_, false≢true, true≢false}
 use mathlib.Core.Path.{_≡_, refl, sym, ap, _∙_}
 use Prim.Native.Nat.{ℕ, _+_, _*_, _≤_, _<_}
 use native.Mathlib.Nat.{zero-mul}
 use native.Mathlib.Omega.{arith}
 use lib.Ieee.{Float, nan, inf, fin, up, down, lt, isNan, ofBits}
 use borrow.Author.Tests.{ltb-true, ltb-false, le-ltb}
-use Rattle.scalar.specs.F32.{_-f_, _≥f_}
+use Rattle.scalar.specs.F32.{_-f_, _≤f_, _≥f_}
 use Rattle.scalar.specs.Literals.{f0}
 use Rattle.scalar.specs.Scalar.{orSecond, maxOf}
 use Rattle.scalar.proofs.Order.{not-less-than-nan}
-use Rattle.profile.specs.Density.{eFootBy, fneOf, tailBy, fndOf, candidatesOf, largestOf, densityOf}
+use Rattle.profile.specs.Density.{fneOf, fndOf, candidatesOf, largestOf, densityOf}
 use Rattle.profile.specs.declared.Curves.{Curves}
 
 -- a number, and not below zero
@@ -64,10 +64,11 @@ max-zero a = go (isNan a) (lt a f0) refl refl
     go false true n e = rw (n, e) zero
     go false false n e = rw (n, e) (n, e)
 
-tail-or-e : (t : Bool) (c : Curves) (h : Float) → Least (maxOf (tailBy t c h) (eFootBy t c h))
-tail-or-e true c h = max-least f0 (eFootBy true c h) zero
-tail-or-e false c h = max-zero (tailBy false c h)
+-- the tail's and E's values, by E's two tests
+tail-or-e : (t u : Bool) (x y : Float) → Least (maxOf (cond t f0 x) (cond (t && u) y f0))
+tail-or-e true u x y = max-least f0 (cond u y f0) zero
+tail-or-e false u x y = max-zero x
 
 pub density-least : (c : Curves) (h : Float) → Least (densityOf c h)
 unfolding densityOf largestOf candidatesOf fndOf fneOf
-density-least c h = max-least _ _ (max-least _ _ (max-least _ _ (tail-or-e (h -f c .hex ≥f f0) c h)))
+density-least c h = max-least _ _ (max-least _ _ (max-least _ _ (tail-or-e (h -f c .hex ≥f f0) (h -f c .hte ≤f f0) _ _)))

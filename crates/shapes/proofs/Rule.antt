@@ -16,7 +16,7 @@ use Rattle.scalar.proofs.Nan.{differs-is-nan}
 use Rattle.scalar.proofs.Order.{in-order, equal-not-less}
 use Rattle.scalar.proofs.MinMax.{min-max}
 use Rattle.layers.specs.declared.IonoState.{IonoState}
-use Rattle.profile.specs.Density.{valleyTopBy, valleyFootBy, fnvalOf, eTopBy, eFootBy, fneOf, tailBy, fndOf, f1TopBy, f1FootBy, f1OnBy, fn1Of, f2FootBy, fn2Of, candidatesOf, largestOf, densityOf}
+use Rattle.profile.specs.Density.{fnvalOf, fneOf, fndOf, fn1Of, fn2Of, candidatesOf, largestOf, densityOf}
 use Rattle.profile.specs.Lecden.{suppliedOf, lecdenOf}
 use Rattle.profile.specs.declared.Curves.{Curves}
 use Rattle.profile.specs.declared.Candidates.{Candidates}
@@ -28,38 +28,18 @@ use Rattle.shapes.proofs.NotBelow.{Least, density-least}
 
 -- ---- what is not worked out is 0
 
-tail-else : (t : Bool) (c : Curves) (h : Float) → not t ≡ false → tailBy t c h ≡ f0
-tail-else true c h e = refl
-tail-else false c h e = absurd (true≢false e)
-
-e-else : (t u : Bool) (c : Curves) (h : Float) → (h -f c .hte ≤f f0) ≡ u → (t && u) ≡ false → eFootBy t c h ≡ f0
-e-else true true c h i e = absurd (true≢false e)
-e-else true false c h i e = rw i
-e-else false u c h i e = refl
-
-valley-else : (t u : Bool) (c : Curves) (h : Float) → (h -f c .hup <f f0) ≡ u → (t && u) ≡ false → valleyFootBy t c h ≡ f0
-valley-else true true c h i e = absurd (true≢false e)
-valley-else true false c h i e = rw i
-valley-else false u c h i e = refl
-
-f1-else : (t u v : Bool) (c : Curves) (h : Float) → (c .hb1 -f h ≤f f0) ≡ u → (h -f c .ht1 ≤f f0) ≡ v → (t && (u && v)) ≡ false → f1OnBy t c h ≡ f0
-f1-else true true true c h i j e = absurd (true≢false e)
-f1-else true true false c h i j e = rw (i, j)
-f1-else true false v c h i j e = rw i
-f1-else false u v c h i j e = refl
-
-f2-else : (t : Bool) (c : Curves) (h : Float) → t ≡ false → f2FootBy t c h ≡ f0
-f2-else true c h e = absurd (true≢false e)
-f2-else false c h e = refl
+tail-else : (t : Bool) (x : Float) → not t ≡ false → cond t f0 x ≡ f0
+tail-else true x e = refl
+tail-else false x e = absurd (true≢false e)
 
 else-zero : (c : Curves) (h : Float) (m : Mark) → workedOut m c h ≡ false → valueOf m c h ≡ f0
 unfolding fndOf fneOf fnvalOf fn1Of fn2Of
 else-zero c h Mark.None e = refl
-else-zero c h Mark.Tail e = tail-else (h -f c .hex ≥f f0) c h e
-else-zero c h Mark.E e = e-else (h -f c .hex ≥f f0) (h -f c .hte ≤f f0) c h refl e
-else-zero c h Mark.Valley e = valley-else (h -f c .hlow >f f0) (h -f c .hup <f f0) c h refl e
-else-zero c h Mark.F1 e = f1-else (c .fi1 >f f0) (c .hb1 -f h ≤f f0) (h -f c .ht1 ≤f f0) c h refl refl e
-else-zero c h Mark.F2 e = f2-else (c .hb2v -f h ≤f f0) c h e
+else-zero c h Mark.Tail e = tail-else (h -f c .hex ≥f f0) _ e
+else-zero c h Mark.E e = rw e
+else-zero c h Mark.Valley e = rw e
+else-zero c h Mark.F1 e = rw e
+else-zero c h Mark.F2 e = rw e
 else-zero c h Mark.Gap e = refl
 
 never-both-by : (t u : Bool) → (not t && (t && u)) ≡ false

@@ -1,3 +1,2 @@
--- Lengths of text, and how many slots.
-pub mod Lengths
+-- How many slots.
 pub mod SlotCount

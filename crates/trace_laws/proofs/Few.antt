@@ -6,8 +6,9 @@ use mathlib.Core.List.{List}
 use native.Mathlib.Omega.{arith}
 use lib.IntN.{ℤ}
 use lib.ListN.{length}
-use Rattle.traces.specs.Lines.{traceLines, ready, comparedBy, comparedOf, countIn}
-use Rattle.traces.specs.declared.Line.{Line}
+use Rattle.trace_lines.specs.Lines.{traceLines}
+use Rattle.traces.specs.Lines.{ready, comparedBy, comparedOf, countIn}
+use Rattle.trace_lines.specs.declared.Line.{Line}
 use Rattle.traces.proofs.Answers.{ready-facts}
 use Rattle.trace_laws.proofs.OnlyLines.{lines-count}
 

@@ -10,13 +10,13 @@ use native.Mathlib.Omega.{arith}
 use lib.Dec.{eqb, ltb}
 use lib.ListN.{length, getD, length-map, List·getD-map}
 use borrow.Author.Tests.{eqb-true, eqb-false}
-use Rattle.traces.specs.Trace.{heightAt}
-use Rattle.traces.specs.Lines.{put, listed, lineBy, traceLine, traceLines, lineAt}
+use Rattle.trace_lines.specs.Trace.{heightAt}
+use Rattle.trace_lines.specs.Lines.{put, listed, lineBy, traceLine, traceLines, lineAt}
 use Rattle.trace_laws.specs.Held.{Has, Row, True, OneLine, khzOf, Held, LinesHold}
-use Rattle.traces.specs.Trace.{Rows}
+use Rattle.trace_lines.specs.Trace.{Rows}
 use Rattle.trace_laws.specs.Held.True.{both, first, second}
-use Rattle.traces.specs.declared.Line.{Line}
-use Rattle.traces.proofs.Places.{Above, Up, up, up-rises, listed-up}
+use Rattle.trace_lines.specs.declared.Line.{Line}
+use Rattle.trace_lines.proofs.Places.{Above, Up, up, up-rises, listed-up}
 
 -- ---- membership
 

@@ -10,13 +10,13 @@ use lib.Dec.{eqb}
 use lib.IntN.{pos, _-ℤ_}
 use lib.ListN.{length, getD, drop, length-map, length-drop}
 use lib.Seq.{ext-getD}
-use Rattle.traces.specs.Lines.{inBoth, inFirst, inSecond, ofFirst, ofSecond, listed, traceLines, lineAt}
+use Rattle.trace_lines.specs.Lines.{inBoth, inFirst, inSecond, ofFirst, ofSecond, listed, traceLines, lineAt}
 use Rattle.trace_laws.specs.Held.{Has, Row, True, khzOf, shared, Held, LinesCount}
 use Rattle.trace_laws.specs.Held as specs
 use Rattle.trace_laws.specs.Held.True.{both, first, second}
-use Rattle.traces.specs.declared.Line.{Line}
-use Rattle.traces.proofs.Places.{Above, Up, up, up-drop}
-use Rattle.traces.proofs.Steps.{goes}
+use Rattle.trace_lines.specs.declared.Line.{Line}
+use Rattle.trace_lines.proofs.Places.{Above, Up, up, up-drop}
+use Rattle.trace_lines.proofs.Steps.{goes}
 use Rattle.trace_laws.proofs.Held.{In, has-in, in-has, khz-at, one-place, held}
 
 above-in : (z f : ℕ) (l : List ℕ) → Above z l → In f l → z < f

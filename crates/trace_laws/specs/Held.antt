@@ -7,9 +7,9 @@ use mathlib.Core.List.{List, [], _∷_, map}
 use lib.Dec.{eqb}
 use lib.IntN.{pos, _-ℤ_}
 use lib.ListN.{length, getD}
-use Rattle.traces.specs.Trace.{rises, Rows}
-use Rattle.traces.specs.Lines.{inBoth, inFirst, inSecond, traceLines, lineAt}
-use Rattle.traces.specs.declared.Line.{Line}
+use Rattle.trace_lines.specs.Trace.{rises, Rows}
+use Rattle.trace_lines.specs.Lines.{inBoth, inFirst, inSecond, traceLines, lineAt}
+use Rattle.trace_lines.specs.declared.Line.{Line}
 
 -- one of the numbers is f
 pub record Has (xs : List ℕ) (f : ℕ) : Type 0 where

@@ -8,11 +8,12 @@ use lib.IntN.{ℤ}
 use lib.ListN.{length}
 use borrow.Author.Tests.{eqb-true, leb-true}
 use Rattle.refusal.specs.declared.Refusal.{Refusal}
-use Rattle.traces.specs.Trace.{rises, fit}
-use Rattle.traces.specs.Lines.{traceLines, ready, column, comparedOf}
-use Rattle.traces.specs.Trace.{Rows}
+use Rattle.trace_lines.specs.Trace.{rises, fit}
+use Rattle.trace_lines.specs.Lines.{traceLines}
+use Rattle.traces.specs.Lines.{ready, column, comparedOf}
+use Rattle.trace_lines.specs.Trace.{Rows}
 use Rattle.traces.specs.declared.Comparison.{Comparison}
-use Rattle.traces.proofs.Places.{both}
+use Rattle.trace_lines.proofs.Places.{both}
 use Rattle.traces.proofs.Merged.{khzIn, whichIn, differenceIn}
 
 fit-facts : (xs hs : List ℕ) → fit xs hs ≡ true → Rows xs hs × (length xs ≤ 512)

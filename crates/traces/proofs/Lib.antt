@@ -1,6 +1,4 @@
--- Two traces: places and steps of the merge, the cells written, the answers.
-pub mod Places
-pub mod Steps
+-- Two traces: the cells written, what the loop keeps, the answers.
 pub mod Cells
 mod Merged
 pub mod Answers

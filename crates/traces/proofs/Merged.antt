@@ -7,11 +7,12 @@ use native.Mathlib.Numerals.{add-one}
 use lib.IntN.{ℤ}
 use lib.ListN.{length, drop, set, length-drop, drop-of-length-le}
 use lib.Seq.{drop-drop}
-use Rattle.traces.specs.Lines.{ofFirst, ofSecond, listed, traceLines, lineAt, column}
-use Rattle.traces.specs.Trace.{Rows}
-use Rattle.traces.specs.declared.Line.{Line}
-use Rattle.traces.proofs.Places.{up, up-drop}
-use Rattle.traces.proofs.Steps.{Goes, goes}
+use Rattle.trace_lines.specs.Lines.{ofFirst, ofSecond, listed, traceLines, lineAt}
+use Rattle.traces.specs.Lines.{column}
+use Rattle.trace_lines.specs.Trace.{Rows}
+use Rattle.trace_lines.specs.declared.Line.{Line}
+use Rattle.trace_lines.proofs.Places.{up, up-drop}
+use Rattle.trace_lines.proofs.Steps.{Goes, goes}
 use Rattle.traces.proofs.Cells.{head-drop, sofar, sofar-more, sofar-all, sofar-length}
 
 abbrev pub khzIn : Line → ℕ

@@ -1,4 +1,2 @@
--- Two traces held against one another: when a list of rows is a trace (Trace), which lines they have and what is answered and
--- left (Lines).
-pub mod Trace
+-- What a comparison of two traces answers and leaves.
 pub mod Lines

@@ -1,21 +1,12 @@
 // Two traces held against one another: every kHz of either, rising, with the difference of the heights where both have it.
 ghost use mathlib.Core.Path.{_≡_};
-ghost use Prim.Native.Nat.{_+_, _≤_, _<_};
-ghost use lib.IntN.{pos, _-ℤ_};
-ghost use lib.ListN.{length, drop};
+ghost use Prim.Native.Nat.{_+_, _≤_};
+ghost use lib.ListN.{length};
 ghost use denote.Ref.{now};
-ghost use Rattle.traces.specs.Trace.{rises as risesOf, fit as fitOf};
-ghost use Rattle.traces.specs.Lines.{ofFirst, ofSecond, traceLines, lineAt, column, ready as readyOf, comparedOf, numberIn, countIn};
-ghost use Rattle.traces.specs.Trace.{Rows};
+ghost use Rattle.trace_lines.specs.Trace.{rises as risesOf, fit as fitOf, Rows};
+ghost use Rattle.trace_lines.specs.Lines.{traceLines};
+ghost use Rattle.traces.specs.Lines.{column, ready as readyOf, comparedOf, numberIn, countIn};
 use refusal::Refusal;
-
-pub struct Line {
-    pub khz: u32,
-    // 0 in both, 1 in the first only, 2 in the second only
-    pub which: u32,
-    // the first's height less the second's, in tenths of a kilometre; 0 where there is one only
-    pub difference: i64,
-}
 
 pub enum Comparison {
     // how many
@@ -71,73 +62,6 @@ fn fit(khz: &[u32], height: &[u32]) -> bool
     rises(khz)
 }
 
-fn less(h: u32, k: u32) -> i64
-    ensures { λ r. ⌜ r ≡ pos h -ℤ pos k ⌝ }
-{
-    h as i64 - k as i64
-}
-
-fn of_first(which: u32) -> usize
-    ensures { λ r. ⌜ r ≡ ofFirst which ⌝ }
-{
-    if which == 2 {
-        return 0;
-    }
-    1
-}
-
-fn of_second(which: u32) -> usize
-    ensures { λ r. ⌜ r ≡ ofSecond which ⌝ }
-{
-    if which == 1 {
-        return 0;
-    }
-    1
-}
-
-// The first line of what is left: the first's rows from i on, the second's from j on.
-fn next(a: &[u32], ah: &[u32], b: &[u32], bh: &[u32], i: usize, j: usize) -> Line
-    requires { ⌜ Rows (now a) (now ah) × Rows (now b) (now bh) × (i ≤ length (now a)) × (j ≤ length (now b)) × (i + j < length (now a) + length (now b)) ⌝ }
-    ensures { λ r. ⌜ r ≡ lineAt (traceLines (drop i (now (a .entry))) (drop i (now (ah .entry))) (drop j (now (b .entry))) (drop j (now (bh .entry)))) 0 ⌝ }
-{
-    if i == a.len() {
-        return Line {
-            khz: b[j],
-            which: 2,
-            difference: 0,
-        };
-    }
-    if j == b.len() {
-        return Line {
-            khz: a[i],
-            which: 1,
-            difference: 0,
-        };
-    }
-    let f = a[i];
-    let g = b[j];
-    if f < g {
-        return Line {
-            khz: f,
-            which: 1,
-            difference: 0,
-        };
-    }
-    if g < f {
-        return Line {
-            khz: g,
-            which: 2,
-            difference: 0,
-        };
-    }
-    let d = less(ah[i], bh[j]);
-    Line {
-        khz: f,
-        which: 0,
-        difference: d,
-    }
-}
-
 fn lines(
     a: &[u32],
     ah: &[u32],
@@ -157,14 +81,14 @@ fn lines(
     let mut j: usize = 0;
     let mut n: usize = 0;
     while i + j < a.len() + b.len() {
-        let l = next(a, ah, b, bh, i, j);
+        let l = trace_lines::next(a, ah, b, bh, i, j);
         let w = l.which;
         let d = l.difference;
         khz[n] = l.khz;
         which[n] = w;
         difference[n] = d;
-        i += of_first(w);
-        j += of_second(w);
+        i += trace_lines::of_first(w);
+        j += trace_lines::of_second(w);
         n += 1;
     }
     n

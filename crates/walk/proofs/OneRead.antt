@@ -2,7 +2,7 @@
 -- segment that rises the tests on differences are comparisons, and the scan stops at the first segment whose upper end is above the read, which is where the cursor stops.
 use mathlib.Core.Path.{_≡_, refl, sym, ap, _∙_, subst}
 use mathlib.Core.Logic.{inl, inr}
-use mathlib.Core.Bool.{Bool, true, false, not, _&&_}
+use mathlib.Core.Bool.{Bool, true, false, not, cond, _&&_}
 use mathlib.Core.List.{List}
 use Prim.Native.Nat.{ℕ, zero, suc, _+_, _-_, _≤_, _<_, zero-le}
 use native.Mathlib.Nat.{le-trans, le-of-eq, le-refl, eq-or-lt-of-le}
@@ -15,7 +15,7 @@ use Rattle.scalar.specs.Literals.{f0}
 use Rattle.order.proofs.Tests.{nought-is, sub-lt, sub-le, sameInf, le-real, lt-real}
 use Rattle.order.proofs.Chains.{lt→le, le-lt, lt-le, lt-not-le, not-le-lt}
 use borrow.Author.Tests.{ltb-false}
-use Rattle.readings.specs.Scan.{segmentNumber, interpolated, hitIf, risingBy, segmentBy, segmentOf, orOn, scanFrom, readingBy, readingOf}
+use Rattle.readings.specs.Scan.{segmentNumber, interpolated, segmentOf, orOn, scanFrom, readingBy, readingOf}
 use Rattle.readings.specs.Cursor.{countOf, stoppedBy, stoppedAt, readOnBy, readOnOf}
 use Rattle.readings.specs.declared.Hit.{Hit}
 use Rattle.readings.specs.declared.Hit.the-variants.{At, Miss}
@@ -51,23 +51,30 @@ lt-not-same (inf s) (fin t n d) h = tt
 lt-not-same (fin s m e) y h = tt
 
 -- ---- one segment of a rising profile
-rises-so : (x0 x1 y0 y1 z : Float) → T (fits binary32 x0) → T (fits binary32 x1) → T (lt x0 x1) → segmentOf x0 x1 y0 y1 z ≡ risingBy (le (x0 -f z) f0) x0 x1 y0 y1 z
-unfolding segmentOf
-rises-so x0 x1 y0 y1 z p q h = ap (λ (b : Bool). segmentBy b x0 x1 y0 y1 z) (less x0 x1 p q ∙ is-true (lt x0 x1) h)
+-- what is left of the tests there: x0 - z <= 0, z - x1 < 0
+rising : Bool → Bool → Float → Hit
+rising upto below y = cond upto (cond below (At y) Miss) (At y)
+
+rises-so : (x0 x1 y0 y1 z : Float) → T (fits binary32 x0) → T (fits binary32 x1) → T (lt x0 x1) → segmentOf x0 x1 y0 y1 z ≡ rising (le (x0 -f z) f0) (lt (z -f x1) f0) (interpolated x0 x1 y0 y1 z)
+unfolding segmentOf rising
+rises-so x0 x1 y0 y1 z p q h = rw (less x0 x1 p q ∙ is-true (lt x0 x1) h)
 
 missed : (x0 x1 y0 y1 z : Float) → T (fits binary32 x0) → T (fits binary32 x1) → T (fits binary32 z) → T (lt x0 x1) → T (le x1 z) → segmentOf x0 x1 y0 y1 z ≡ Miss
+unfolding rising
 missed x0 x1 y0 y1 z p q r h k =
     let l = lt-le binary32 x0 x1 z p q r h k in
+    let y = interpolated x0 x1 y0 y1 z in
     rises-so x0 x1 y0 y1 z p q h
-    ∙ ap (λ (b : Bool). risingBy b x0 x1 y0 y1 z) (upto x0 z p r ∙ is-true (le x0 z && not (sameInf x0 z)) (and-i (le x0 z) (not (sameInf x0 z)) (lt→le binary32 x0 z p r l) (lt-not-same x0 z l)))
-    ∙ ap (λ (b : Bool). hitIf b (interpolated x0 x1 y0 y1 z)) (less z x1 r q ∙ is-false (lt z x1) (not-T (lt z x1) (λ (t : T (lt z x1)). lt-not-le binary32 z x1 r q t k)))
+    ∙ ap (λ (b : Bool). rising b (lt (z -f x1) f0) y) (upto x0 z p r ∙ is-true (le x0 z && not (sameInf x0 z)) (and-i (le x0 z) (not (sameInf x0 z)) (lt→le binary32 x0 z p r l) (lt-not-same x0 z l)))
+    ∙ ap (λ (b : Bool). rising true b y) (less z x1 r q ∙ is-false (lt z x1) (not-T (lt z x1) (λ (t : T (lt z x1)). lt-not-le binary32 z x1 r q t k)))
 
 held : (x0 x1 y0 y1 z : Float) → T (fits binary32 x0) → T (fits binary32 x1) → T (fits binary32 z) → T (lt x0 x1) → T (not (le x1 z)) → segmentOf x0 x1 y0 y1 z ≡ At (interpolated x0 x1 y0 y1 z)
+unfolding rising
 held x0 x1 y0 y1 z p q r h k = rises-so x0 x1 y0 y1 z p q h ∙ go (le (x0 -f z) f0) (λ t. and-l (le x0 z) (not (sameInf x0 z)) (subst (λ (b : Bool). T b) (upto x0 z p r) t))
   where
-    go : (b : Bool) → (T b → T (le x0 z)) → risingBy b x0 x1 y0 y1 z ≡ At (interpolated x0 x1 y0 y1 z)
+    go : (b : Bool) → (T b → T (le x0 z)) → rising b (lt (z -f x1) f0) (interpolated x0 x1 y0 y1 z) ≡ At (interpolated x0 x1 y0 y1 z)
     go false f = refl
-    go true f = ap (λ (b : Bool). hitIf b (interpolated x0 x1 y0 y1 z)) (less z x1 r q ∙ is-true (lt z x1) (not-le-lt binary32 x1 z q r (lt-real x0 x1 h .1) (le-real x0 z (f tt) .1) k))
+    go true f = ap (λ (b : Bool). rising true b (interpolated x0 x1 y0 y1 z)) (less z x1 r q ∙ is-true (lt z x1) (not-le-lt binary32 x1 z q r (lt-real x0 x1 h .1) (le-real x0 z (f tt) .1) k))
 
 -- ---- the scan stops where the cursor does
 scan-reads : (htr fnsq : List Float) (z : Float) (c : ℕ) → Held htr → T (fits binary32 z) → Rising htr → Stops htr z 49 0 c → (n i : ℕ) → i + n ≡ 49 → i ≤ c → scanFrom htr fnsq z n i ≡ stoppedAt htr fnsq z c

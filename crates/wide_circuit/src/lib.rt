@@ -5,11 +5,11 @@ mod numbers;
 ghost use mathlib.Core.Path.{_≡_};
 ghost use Rattle.record_chain.specs.Chain.{chainOf};
 ghost use Rattle.circuit_write.specs.Written.{answerOf, leftOf};
+ghost use Rattle.wide_form.specs.Form128.{form128};
 ghost use Rattle.wide_circuit.specs.Wide.{wideOf};
 use circuit::Circuit;
 use circuit_write::WriteAnswer;
 use record_chain::Chain;
-use records::Form;
 use refusal::Outcome;
 
 // Beside a refusal every number is zero. F2M3 past the km points is zero too.
@@ -19,22 +19,11 @@ pub struct WideAnswer {
     pub f2m3: [u32; 5],
 }
 
-// The form of these files.
-pub fn form128() -> Form
-    ensures { λ o. ⌜ o ≡ Rattle.wide_circuit.specs.Wide.form128 ⌝ }
-{
-    Form {
-        size: 128,
-        first: 4,
-        extra: 1,
-    }
-}
-
 // The chain of a file, or where it is turned away.
 fn follow(file: &[u8]) -> Chain
-    ensures { λ c. ⌜ c ≡ chainOf Rattle.wide_circuit.specs.Wide.form128 (now (file .entry)) ⌝ }
+    ensures { λ c. ⌜ c ≡ chainOf form128 (now (file .entry)) ⌝ }
 {
-    record_chain::follow_form(form128(), file)
+    record_chain::follow_form(wide_form::form128(), file)
 }
 
 // The circuit of a file and its F2M3, or where it is turned away. Records off the chain are not looked at.
@@ -67,8 +56,8 @@ pub fn read(file: &[u8]) -> WideAnswer
 // Writes the file of a circuit and the F2M3 of its points into the cells lent. Cells past its end, and all cells at a refusal,
 // stay.
 pub fn write(c: Circuit, f2m3: [u32; 5], out: &mut [u8]) -> WriteAnswer
-    ensures { λ a. ⌜ a ≡ answerOf Rattle.wide_circuit.specs.Wide.form128 c (now (out .entry)) ⌝ }
-    ensures { λ _. ⌜ now (out .exit) ≡ leftOf Rattle.wide_circuit.specs.Wide.form128 c f2m3 (now (out .entry)) ⌝ }
+    ensures { λ a. ⌜ a ≡ answerOf form128 c (now (out .entry)) ⌝ }
+    ensures { λ _. ⌜ now (out .exit) ≡ leftOf form128 c f2m3 (now (out .entry)) ⌝ }
 {
-    circuit_write::write_form(form128(), c, &f2m3, out)
+    circuit_write::write_form(wide_form::form128(), c, &f2m3, out)
 }

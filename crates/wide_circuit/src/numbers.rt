@@ -1,12 +1,11 @@
 // The numbers of a circuit and its F2M3, read along a chain of 128-byte records.
 ghost use mathlib.Core.Path.{_≡_};
 ghost use Prim.Native.Nat.{ℕ, _+_, _*_, _≤_};
-ghost use lib.ListN.{length, getD, drop};
+ghost use lib.ListN.{length, getD};
 ghost use Rattle.refusal.specs.declared.Outcome.{Outcome};
-ghost use Rattle.records.specs.Record.{wordsOf};
 ghost use Rattle.record_chain.specs.Chain.{chainOf, padded};
 ghost use Rattle.circuit.specs.Read.{numbersOf, circuitOf, besideOf};
-ghost use Rattle.wide_circuit.specs.Wide.{form128};
+ghost use Rattle.wide_form.specs.Form128.{form128};
 use circuit::Circuit;
 use record_chain::Chain;
 
@@ -51,14 +50,6 @@ pub fn circuit(file: &[u8], c: Chain) -> Circuit
     circuit::joined(head, points, deciles)
 }
 
-// F2M3 of a point, the word after its fifteen.
-fn read_f2m3(r: &[u8], out: &mut [u32])
-    requires { ⌜ (68 ≤ length (now r)) × (length (now out) ≡ 1) ⌝ }
-    ensures { λ _. ⌜ now (out .exit) ≡ drop 15 (wordsOf (now (r .entry)) 16) ⌝ }
-{
-    out[0] = records::word(r, 64);
-}
-
 fn f2m3s(file: &[u8], order: &[usize], km: usize) -> [u32; 5]
     requires { ⌜ (km ≤ 5) × (length (now order) ≡ 64) × ((i : ℕ) → 128 * getD (now order) i 0 + 128 ≤ length (now file)) ⌝ }
     ensures { λ p. ⌜ p ≡ padded 5 (numbersOf form128 (now (file .entry)) (now (order .entry)) 1 15 1 km) ⌝ }
@@ -67,7 +58,7 @@ fn f2m3s(file: &[u8], order: &[usize], km: usize) -> [u32; 5]
     let mut i = 0;
     while i < km {
         let n = order[1 + i];
-        read_f2m3(&file[128 * n..128 * n + 128], &mut out[i..i + 1]);
+        wide_form::read_f2m3(&file[128 * n..128 * n + 128], &mut out[i..i + 1]);
         i += 1;
     }
     out

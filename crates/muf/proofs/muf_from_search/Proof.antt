@@ -4,7 +4,7 @@ use Prim.Native.Nat.{_<_}
 use native.Mathlib.Omega.{arith}
 use mir.Facts.{fits-le, fits-lit}
 use Rattle.layer_mufs.proofs.Small.{controlling-small}
-use Rattle.muf.proofs.Lists.{lists-reach}
+use Rattle.muf_domain.proofs.Lists.{lists-reach}
 use Rattle.muf.specs.Curmuf.{mufFromSearchWith}
 use borrow.Author.Needs.{needs}
 use Rattle.muf.proofs.muf_from_search.Statement.{statement}

@@ -66,7 +66,8 @@ use Rattle.muf.proofs.AnswerAndRow.Laws as Do′
 use Rattle.muf.specs.declared.MufAnswer.{MufAnswer}
 use Rattle.muf.proofs.MufAnswer as An
 use Rattle.muf.proofs.MufAnswer.Laws as An′
-use Rattle.muf_records.specs.Records.{recordAt, recordsAnswerWith, recordsAnswerOf, recordsBy}
+use Rattle.es_records.specs.Records.{recordsBy}
+use Rattle.muf_records.specs.Records.{recordAt, recordsAnswerWith, recordsAnswerOf}
 use Rattle.muf_records.proofs.Rows.{records-below}
 use Rattle.muf_records.proofs.search as search′
 use Rattle.muf_records.proofs.search.Symbol as search-def
@@ -76,10 +77,10 @@ use Rattle.muf.proofs.muf_from_search as from-search
 use Rattle.muf.proofs.muf_from_search.Symbol as from-search-def
 use Rattle.muf.proofs.muf_from_search.Symbol.{name as #from-search}
 use Rattle.muf.proofs.muf_from_search.Met as from-search-thm
-use Rattle.muf_records.proofs.rewrite as rewrite′
-use Rattle.muf_records.proofs.rewrite.Symbol as rewrite-def
-use Rattle.muf_records.proofs.rewrite.Symbol.{name as #rewrite}
-use Rattle.muf_records.proofs.rewrite.Met as rewrite-thm
+use Rattle.es_records.proofs.rewrite as rewrite′
+use Rattle.es_records.proofs.rewrite.Symbol as rewrite-def
+use Rattle.es_records.proofs.rewrite.Symbol.{name as #rewrite}
+use Rattle.es_records.proofs.rewrite.Met as rewrite-thm
 use Rattle.muf_records.proofs.curmuf_records.Key.{name as #curmuf-records}
 use Rattle.muf_records.proofs.curmuf_records as records
 use Rattle.muf_records.proofs.curmuf_records.Statement as stated
@@ -357,4 +358,4 @@ curmuf-records-spec 𝓤 H 𝓜 𝓖 𝓡 =
     (records-meets 𝓤 H (𝓖 .A) (givenOf 𝓤 H 𝓜 𝓖) (𝓜 .mem) (𝓡 .run) (tablesOf 𝓤 H 𝓜 (tables 𝓤 H 𝓜 𝓡 code.env))
     (cited 𝓤 H (Search 𝓤 H (𝓖 .A) (𝓜 .mem) (𝓡 .run)) 𝓜 𝓡 code.env #search search-def.routine code.calls-muf-records·search (search-thm.met 𝓤 H 𝓜 𝓖 𝓡))
     (cited 𝓤 H (FromSearch 𝓤 H (𝓖 .A) (𝓜 .mem) (𝓡 .run)) 𝓜 𝓡 code.env #from-search from-search-def.routine code.calls-muf·muf-from-search (from-search-thm.met 𝓤 H 𝓜 𝓖 𝓡))
-    (cited 𝓤 H (Rewrite 𝓤 H (𝓖 .A) (𝓜 .mem) (𝓡 .run)) 𝓜 𝓡 code.env #rewrite rewrite-def.routine code.calls-muf-records·rewrite (rewrite-thm.met 𝓤 H 𝓜 𝓖 𝓡)))
+    (cited 𝓤 H (Rewrite 𝓤 H (𝓖 .A) (𝓜 .mem) (𝓡 .run)) 𝓜 𝓡 code.env #rewrite rewrite-def.routine code.calls-es-records·rewrite (rewrite-thm.met 𝓤 H 𝓜 𝓖 𝓡)))

@@ -57,15 +57,16 @@ use Rattle.layer_mufs.proofs.PathNumbers.Laws as Ci′
 use Rattle.sporadic.specs.declared.EsRow.{EsRow}
 use Rattle.sporadic.specs.declared.EsStep.{EsStep}
 use Rattle.sporadic.specs.Sporadic.{nextBy, esFrom, startOf}
-use Rattle.muf.specs.Curmuf.{takenRows}
+use Rattle.muf_domain.specs.Domain.{takenRows}
 use Rattle.muf.proofs.Rows.{taken-there}
 use Rattle.sporadic.proofs.EsStep as St
 use Rattle.sporadic.proofs.EsStep.Laws as St′
-use Rattle.muf_records.specs.Records.{noEs, recordAt, turnOf}
-use Rattle.muf.proofs.rows_taken as rows-taken
-use Rattle.muf.proofs.rows_taken.Symbol as rows-taken-def
-use Rattle.muf.proofs.rows_taken.Symbol.{name as #rows-taken}
-use Rattle.muf.proofs.rows_taken.Met as rows-taken-thm
+use Rattle.es_records.specs.Records.{noEs}
+use Rattle.muf_records.specs.Records.{recordAt, turnOf}
+use Rattle.muf_domain.proofs.rows_taken as rows-taken
+use Rattle.muf_domain.proofs.rows_taken.Symbol as rows-taken-def
+use Rattle.muf_domain.proofs.rows_taken.Symbol.{name as #rows-taken}
+use Rattle.muf_domain.proofs.rows_taken.Met as rows-taken-thm
 use Rattle.muf_records.proofs.first as first
 use Rattle.muf_records.proofs.first.Symbol as first-def
 use Rattle.muf_records.proofs.first.Symbol.{name as #first}
@@ -385,6 +386,6 @@ search-spec 𝓤 H 𝓜 𝓖 𝓡 =
     entered 𝓤 H (tripleOf 𝓤 H (𝓖 .A) search′.signature (search′.spec 𝓤 H (𝓖 .A) (𝓜 .mem) (𝓡 .run)))
     (tables 𝓤 H 𝓜 𝓡 code.env .C) (tables 𝓤 H 𝓜 𝓡 code.env .Λ) #search code.function (code.unfolded 𝓤 H 𝓜 𝓡)
     (search-meets 𝓤 H (𝓖 .A) (givenOf 𝓤 H 𝓜 𝓖) (𝓜 .mem) (𝓡 .run) (tablesOf 𝓤 H 𝓜 (tables 𝓤 H 𝓜 𝓡 code.env))
-    (cited 𝓤 H (RowsTaken 𝓤 H (𝓖 .A) (𝓜 .mem) (𝓡 .run)) 𝓜 𝓡 code.env #rows-taken rows-taken-def.routine code.calls-muf·rows-taken (rows-taken-thm.met 𝓤 H 𝓜 𝓖 𝓡))
+    (cited 𝓤 H (RowsTaken 𝓤 H (𝓖 .A) (𝓜 .mem) (𝓡 .run)) 𝓜 𝓡 code.env #rows-taken rows-taken-def.routine code.calls-muf-domain·rows-taken (rows-taken-thm.met 𝓤 H 𝓜 𝓖 𝓡))
     (cited 𝓤 H (First 𝓤 H (𝓖 .A) (𝓜 .mem) (𝓡 .run)) 𝓜 𝓡 code.env #first first-def.routine code.calls-muf-records·first (first-thm.met 𝓤 H 𝓜 𝓖 𝓡))
     (cited 𝓤 H (Turn 𝓤 H (𝓖 .A) (𝓜 .mem) (𝓡 .run)) 𝓜 𝓡 code.env #turn turn-def.routine code.calls-muf-records·turn (turn-thm.met 𝓤 H 𝓜 𝓖 𝓡)))

@@ -5,7 +5,7 @@ use lib.Ieee.{Float, ofBits, lt}
 use borrow.Author.Needs.{needs}
 use Rattle.scalar.specs.Literals.{f0, f6·3, f40100}
 use Rattle.layer_mufs.specs.declared.PathNumbers.{PathNumbers}
-use Rattle.muf.specs.Curmuf.{withinOf, inDomain}
+use Rattle.muf_domain.specs.Domain.{withinOf, inDomain}
 use Rattle.nominal.specs.Nommuf.{pathTaken}
 use Rattle.nominal.proofs.path_taken.Statement.{statement}
 use Rattle.nominal.proofs.path_taken.Tie as tie

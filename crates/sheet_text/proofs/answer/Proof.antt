@@ -5,7 +5,7 @@ use borrow.Author.Needs.{needs}
 use Rattle.lines.proofs.Placing.{fits}
 use Rattle.lines.proofs.Sizes.{refused}
 use Rattle.sheet_text.specs.SheetText.{answeredText, sheetText}
-use Rattle.sheet_text.proofs.Lengths.{answered-most}
+use Rattle.sheet_lines.proofs.Lengths.{answered-most}
 use Rattle.sheet_text.proofs.SlotCount.{three-slots}
 use Rattle.sheet_text.proofs.answer.Statement.{statement}
 use Rattle.sheet_text.proofs.answer.Tie as tie

@@ -6,7 +6,7 @@ use mir.Val.{toZ, ofZ}
 use mir.Syntax.{w64}
 use borrow.Author.Needs.{needs}
 use lib.ListN.{length, set}
-use Rattle.traces.specs.Lines.{ofFirst, ofSecond}
+use Rattle.trace_lines.specs.Lines.{ofFirst, ofSecond}
 use Rattle.traces.proofs.Merged.{Kept, more, more-rows, ended, lengths, all-left}
 use Rattle.traces.proofs.lines.Statement.{statement}
 use Rattle.traces.proofs.lines.Tie as tie

@@ -8,7 +8,7 @@ use native.Mathlib.Numerals.{add-one}
 use lib.Dec.{ltb}
 use lib.ListN.{length, getD, drop}
 use borrow.Author.Tests.{lt-ltb, le-ltb}
-use Rattle.traces.specs.Trace.{rises as risesOf}
+use Rattle.trace_lines.specs.Trace.{rises as risesOf}
 use Rattle.traces.proofs.rises.Statement.{statement}
 use Rattle.traces.proofs.rises.Tie as tie
 

@@ -3,7 +3,7 @@ use mathlib.Core.Path.{refl}
 use Prim.Native.Nat.{_≤_}
 use borrow.Author.Tests.{lt-ltb, le-ltb}
 use Rattle.port_ionogram.specs.Exports.{portSelmod}
-use Rattle.port_ionogram.proofs.Ranges.{selmod-range}
+use Rattle.ionogram_words.proofs.Ranges.{selmod-range}
 use borrow.Author.Needs.{needs}
 use Rattle.port_ionogram.proofs.exports.port_selmod.Statement.{statement}
 use Rattle.port_ionogram.proofs.exports.port_selmod.Tie as tie

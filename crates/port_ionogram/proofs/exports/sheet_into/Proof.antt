@@ -9,7 +9,8 @@ use Rattle.layers.specs.declared.LayerMuf.{LayerMuf}
 use Rattle.slot_sheet.specs.Sheet.{slotSheetOf, sheetCellsOf}
 use Rattle.slot_sheet.specs.declared.SlotSheet.{SlotSheet}
 use Rattle.port_state.specs.State.{stateOf, stateInto}
-use Rattle.port_layouts.specs.Layouts.{cellsOf, cellsInto, ionogramInto, marksInto, linesOf}
+use Rattle.line_words.specs.Lines.{linesOf}
+use Rattle.port_layouts.specs.Layouts.{cellsOf, cellsInto, ionogramInto, marksInto}
 use Rattle.port_ionogram.specs.Exports.{sheetOn, sheetCellsOn}
 use borrow.Author.Needs.{needs}
 use Rattle.port_ionogram.proofs.exports.sheet_into.Statement.{statement}

@@ -6,7 +6,7 @@ use native.Mathlib.Omega.{arith}
 use mir.Facts.{fits-le, fits-lit}
 use Rattle.layer_mufs.proofs.Small.{controlling-small}
 use Rattle.muf.proofs.Rows.{rows-there}
-use Rattle.muf.proofs.Lists.{deciles-whole, lists-reach}
+use Rattle.muf_domain.proofs.Lists.{deciles-whole, lists-reach}
 use borrow.Author.Needs.{needs}
 use Rattle.port_muf.proofs.Floats.{not-in-domain, lists-short, taken-up}
 use Rattle.port_muf.proofs.hour.called.Statement.{statement}

@@ -4,7 +4,7 @@ use Prim.Native.Nat.{_≤_, _-_}
 use native.Mathlib.Omega.{arith}
 use borrow.Author.Needs.{needs}
 use Rattle.sporadic.specs.Sporadic.{rowAt, esFrom, startOf}
-use Rattle.port_muf.specs.Exports.{floats}
+use Rattle.deviation_words.specs.Floats.{floats}
 use Rattle.sporadic.proofs.Searches.{one-more, none-left}
 use Rattle.port_muf.proofs.hour.word_rows.Statement.{statement}
 use Rattle.port_muf.proofs.hour.word_rows.Tie as tie

@@ -1,0 +1,2 @@
+-- Es records rewritten.
+pub mod Records

@@ -1,0 +1,15 @@
+-- The code follows the definition; each call is what its contract says.
+use Rattle.height_words.specs.Words.{heightsInto}
+use borrow.Author.Needs.{needs}
+use Rattle.height_words.proofs.heights_into.Statement.{statement}
+use Rattle.height_words.proofs.heights_into.Tie as tie
+
+returns : tie.Need-returns
+unfolding heightsInto
+returns c = rw (← c .before .before .floats-into .ensures)
+
+pub heights-into-spec : {M : Type 1} → statement M
+heights-into-spec =
+    tie.close
+    (tie.spec (λ c. search needs) (λ c κs. search needs) (λ c. search needs) (λ c. search needs) (λ c. search needs)
+    (λ c. search needs) returns)

@@ -1,0 +1,2 @@
+-- Rules of the layers.
+pub mod Rules

@@ -1,0 +1,2 @@
+-- Layer lines as words.
+pub mod Lines

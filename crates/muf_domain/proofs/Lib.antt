@@ -1,0 +1,2 @@
+-- The lists that a MUF reads are there.
+pub mod Lists

@@ -1,0 +1,2 @@
+-- A MUF's domain.
+pub mod Domain

@@ -1,0 +1,2 @@
+-- The literals of `nommuf`.
+pub mod Coefficients

@@ -1,0 +1,2 @@
+-- The form with F2M3.
+pub mod Form128
