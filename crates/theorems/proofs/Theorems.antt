@@ -55,7 +55,9 @@ use Rattle.computed_trace.proofs.Computed.{trace-fits}
 use Rattle.first_difference.proofs.Laws.{difference-laws}
 use Rattle.marking.proofs.Laws.{marking-laws, marking-cases}
 use Rattle.starred.proofs.Starred.{starred-trials}
-use Rattle.call_lists.proofs.Lists.{lists-of-calls, any-list}
+use Rattle.call_lists.proofs.Lists.{lists-of-calls, any-list, read-all}
+use Rattle.call_lists.proofs.OnlyState.{only-state}
+use Rattle.call_lists.proofs.PaperWords.{paper-words, refusal-by-arguments, with-contracts}
 use Rattle.call_lists.proofs.SameLists.{lists-of-calls-same}
 use Rattle.call_lists.proofs.Nominal.{nominal-anywhere}
 use Rattle.theorems.specs.Theorems.{Theorems}
@@ -158,6 +160,11 @@ theorems =
       lists-of-calls = lists-of-calls;
       any-list = any-list;
       lists-of-calls-same = lists-of-calls-same;
+      paper-words = paper-words;
+      refusal-by-arguments = refusal-by-arguments;
+      with-contracts = with-contracts;
+      only-state = only-state;
+      read-all = read-all;
       nominal-anywhere = nominal-anywhere;
       layers-unowned = layers-unowned;
       ionset-disowns = ionset-disowns;

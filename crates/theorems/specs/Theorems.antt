@@ -37,7 +37,8 @@ use Rattle.nominal.specs.Angles.{NominalNeverRefused13}
 use Rattle.nominal.specs.Inputs.{ReadsOnly, EsRewritten}
 use Rattle.starred.specs.Starred.{Holds, starred}
 use Rattle.heights.specs.SameReads.{WalkSameAsScan}
-use Rattle.call_lists.specs.Lists.{ListsOfCalls}
+use Rattle.call_lists.specs.Lists.{ListsOfCalls, OnlyState, ReadAll}
+use Rattle.call_lists.specs.PaperWords.{PaperWords, RefusalByArguments, WithContracts}
 use Rattle.call_lists.specs.SameLists.{SameListsOfCalls}
 use Rattle.call_lists.specs.Nominal.{NominalAnywhere}
 use Rattle.arc_series.specs.OwnSeries.{AtanOwnSeries}
@@ -229,5 +230,13 @@ pub record Theorems : Type 0 where
   -- the same for any first state, and all of it by bits
   pub any-list : AnyList
   pub lists-of-calls-same : SameListsOfCalls
+  -- in the paper's own words: it holds of every list with at most one circuit MUF, at most one answered sheet of each slot and none of the slot that the MUF picks
+  pub paper-words : PaperWords
+  -- a sheet's outcome depends on its arguments alone, so "answered" means one thing; the calls are those of the contracts
+  pub refusal-by-arguments : RefusalByArguments
+  pub with-contracts : WithContracts
+  -- what is said of the state left is all of it: no two states are so; and the profiles that are said to be read are all that are read
+  pub only-state : OnlyState
+  pub read-all : ReadAll
   -- a nominal MUF put anywhere into any list changes nothing else and answers as alone
   pub nominal-anywhere : NominalAnywhere
