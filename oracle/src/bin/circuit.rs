@@ -137,11 +137,15 @@ fn write_case(
     let mut wanted = got.clone();
     wanted[..written.len()].copy_from_slice(&written);
     let (answer, said) = ours(given, &mut got);
-    let bytes = if number == 0 { written.len() as u32 } else { MARK };
+    let wrote = if number == 0 {
+        written.len() as u32
+    } else {
+        MARK
+    };
     let differs = if answer != number {
         Some(format!("answer {answer}, not {number}"))
-    } else if said.is_some_and(|n| n != bytes) {
-        Some(format!("length {said:?}, not {bytes}"))
+    } else if said.is_some_and(|n| n != wrote) {
+        Some(format!("length {said:?}, not {wrote}"))
     } else {
         (0..length)
             .find(|&i| got[i] != wanted[i])
