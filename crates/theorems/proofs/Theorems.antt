@@ -76,6 +76,7 @@ use Rattle.heights.proofs.Segments.{segments-found}
 use Rattle.sounding.proofs.Prepared.{genion-prepared}
 use Rattle.slot_sheet.proofs.Owned.{sheet-never-refused-19, sheet-owned, sheet-by-genion}
 use Rattle.shapes.proofs.Rule.{mark-rule, slot-marks}
+use Rattle.deciles.proofs.NanRow.{nan-middle}
 
 pub theorems : Theorems
 theorems =
@@ -153,6 +154,7 @@ theorems =
       nominal-never-refused-13 = nominal-never-refused-13;
       reads-only = reads-only;
       es-rewritten = es-rewritten;
+      nan-middle = nan-middle;
       nearest-rule = nearest-rule;
       five-characters = five-characters;
       jump = jump;

@@ -54,6 +54,7 @@ use Rattle.height_integral.specs.Lowest.{AboveLowest, LastFromOne}
 use Rattle.heights.specs.Segments.{SegmentsFound}
 use Rattle.sounding.specs.Prepared.{GenionPrepared}
 use Rattle.slot_sheet.specs.Owned.{SheetNeverRefused19, SheetOwned, SheetByGenion}
+use Rattle.deciles.specs.NanRow.{NanMiddle}
 
 pub record Theorems : Type 0 where
   -- ---- Rounding, in both formats
@@ -184,6 +185,8 @@ pub record Theorems : Type 0 where
   -- it reads the critical frequencies of E and F2 and the medians and heights of the Es rows, and nothing else, so a circuit MUF before it changes nothing
   pub reads-only : ReadsOnly
   pub es-rewritten : EsRewritten
+  -- a NaN sunspot number takes the middle row of the deciles
+  pub nan-middle : NanMiddle
   -- ---- The printed figure and the price
   -- rounding to a whole number is to the nearest, an exact half to the even one, and no other number is that
   pub nearest-rule : NearestRule
