@@ -59,9 +59,10 @@ extern "C" {
 #define FS_SHEET_WORDS 200
 #define FS_DECILES 576
 
-/* Circuit files. A file is written into as many bytes as it takes. */
+/* Circuit files. A file is written into as many bytes as it takes; port_write: out 1: how
+ * many those are. */
 uint32_t port_read(const uint8_t *file, size_t file_len, uint32_t *out, size_t out_len);
-uint32_t port_write(const uint32_t *words, size_t words_len, uint8_t *file, size_t file_len);
+uint32_t port_write(const uint32_t *words, size_t words_len, uint8_t *file, size_t file_len, uint32_t *out, size_t out_len);
 uint32_t port_read128(const uint8_t *file, size_t file_len, uint32_t *out, size_t out_len);
 uint32_t port_write128(const uint32_t *words, size_t words_len, uint8_t *file, size_t file_len);
 

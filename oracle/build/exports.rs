@@ -75,7 +75,7 @@ const EXPORTS: [Export; 40] = [
     Export(
         "port_circuit",
         "port_write",
-        &[Words, LentBytes],
+        &[Words, LentBytes, Lent],
         "u32",
         NONE,
     ),

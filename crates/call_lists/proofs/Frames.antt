@@ -58,17 +58,21 @@ abbrev pub preparedIf : Bool → IonoState → ℕ → IonoState
 preparedIf true t k = lecdenOf t k
 preparedIf false t k = t
 
--- `find` agrees with `gethpOf` on every profile that `lecden` makes of t
-abbrev pub AgreesOn : Finder → IonoState → Type 0
-AgreesOn find t = (k : ℕ) → Agree find gethpOf (lecdenOf t k)
+-- `find` agrees with `gethpOf` on the profile that `lecden` makes of t for slot k
+abbrev pub AgreesAt : Finder → IonoState → ℕ → Type 0
+AgreesAt find t k = Agree find gethpOf (lecdenOf t k)
 
-itself : (t : IonoState) → AgreesOn gethpOf t
-itself t k f = (refl, refl, refl)
+-- for the slot that c picks, if it picks one
+abbrev pub AgreesFor : Finder → IonoState → IonoState → Call → Type 0
+AgreesFor find s t c = (k : ℕ) → pick s c ≡ some k → AgreesAt find t k
 
-found-alike : (find : Finder) (s t : IonoState) (k : ℕ) → AgreesOn find t → Alike (lecdenOf t k) (lecdenOf s k) k → FindAlike find (lecdenOf t k) gethpOf (lecdenOf s k)
+itself : (s t : IonoState) (c : Call) → AgreesFor gethpOf s t c
+itself s t c k e f = (refl, refl, refl)
+
+found-alike : (find : Finder) (s t : IonoState) (k : ℕ) → AgreesAt find t k → Alike (lecdenOf t k) (lecdenOf s k) k → FindAlike find (lecdenOf t k) gethpOf (lecdenOf s k)
 found-alike find s t k agree a f =
     let e = gethp-same (lecdenOf t k) (lecdenOf s k) (a .htr-same) (a .fnsq-same) (a .exact-same) f in
-    (agree k f .0 ∙ ap (λ (h : Heights). h .hp) e, agree k f .1 ∙ ap (λ (h : Heights). h .ht) e, agree k f .2 ∙ ap (λ (h : Heights). h .segment) e)
+    (agree f .0 ∙ ap (λ (h : Heights). h .hp) e, agree f .1 ∙ ap (λ (h : Heights). h .ht) e, agree f .2 ∙ ap (λ (h : Heights). h .segment) e)
 
 -- ---- the circuit MUF
 
@@ -99,7 +103,7 @@ three-follows : (x : RegularAnswer) (s t : IonoState) (l : Slot) (k : ℕ) (step
 three-follows (RegularAnswer.Found m) s t l k step = es-follows step s t (l .fi0) m k
 three-follows (RegularAnswer.Refused r) s t l k step = refused-follows s t k r
 
-slot-follows : (find : Finder) (s t : IonoState) (k : ℕ) (step : EsStep) (f2d : List Float) (clat clck : Float) (c : PathNumbers) → AgreesOn find t → Alike (lecdenOf t k) (lecdenOf s k) k → Follows (mufAtSlotWith find t k step f2d clat clck c) (mufAtSlotWith gethpOf s k step f2d clat clck c) t k
+slot-follows : (find : Finder) (s t : IonoState) (k : ℕ) (step : EsStep) (f2d : List Float) (clat clck : Float) (c : PathNumbers) → AgreesAt find t k → Alike (lecdenOf t k) (lecdenOf s k) k → Follows (mufAtSlotWith find t k step f2d clat clck c) (mufAtSlotWith gethpOf s k step f2d clat clck c) t k
 unfolding mufAtSlotWith
 slot-follows find s t k step f2d clat clck c agree a =
     let l = slotAt (lecdenOf s k) k in
@@ -123,26 +127,28 @@ deciles-right : (n k lats clocks : ℕ) → (eqb n 576 && ltb k lats && ltb k cl
 deciles-right n k lats clocks e = first-of (eqb n 576) (ltb k lats) (first-of (eqb n 576 && ltb k lats) (ltb k clocks) e)
 
 -- by domain, deciles and reach: where lecden is reached at all, the MUF has picked the slot
-done-by : (d r : Bool) (find : Finder) (s t : IonoState) (step : EsStep) (f2d clat clck : List Float) (c : PathNumbers) → AgreesOn find t → Common s t → (d ≡ true → r ≡ true → slotAt t (controllingOf s) ≡ slotAt s (controllingOf s)) → Follows (mufFromSearchBy d r find t step f2d clat clck c) (mufFromSearchBy d r gethpOf s step f2d clat clck c) t (controllingOf s)
+done-by : (d r : Bool) (find : Finder) (s t : IonoState) (step : EsStep) (f2d clat clck : List Float) (c : PathNumbers) → (d ≡ true → r ≡ true → AgreesAt find t (controllingOf s)) → Common s t → (d ≡ true → r ≡ true → slotAt t (controllingOf s) ≡ slotAt s (controllingOf s)) → Follows (mufFromSearchBy d r find t step f2d clat clck c) (mufFromSearchBy d r gethpOf s step f2d clat clck c) t (controllingOf s)
 done-by true true find s t step f2d clat clck c agree g fresh =
     let k = controllingOf s in
     subst (λ (j : ℕ). Follows (mufAtSlotWith find t j step f2d (at clat j) (at clck j) c) (mufAtSlotWith gethpOf s k step f2d (at clat k) (at clck k) c) t k) (sym (controlling-same s t g))
-    (slot-follows find s t k step f2d (at clat k) (at clck k) c agree (lecden-alike s t k g (fresh refl refl)))
+    (slot-follows find s t k step f2d (at clat k) (at clck k) c (agree refl refl) (lecden-alike s t k g (fresh refl refl)))
 done-by true false find s t step f2d clat clck c agree g fresh = refused-follows s t (controllingOf s) Refusal.MufLists
 done-by false r find s t step f2d clat clck c agree g fresh = refused-follows s t (controllingOf s) Refusal.MufInput
 
 picked : (d e : Bool) (k : ℕ) → d ≡ true → e ≡ true → pickIf (d && e) k ≡ some k
 picked d e k hd he = rw (hd, he)
 
-done-follows : (find : Finder) (s t : IonoState) (n : ℕ) (row : ℕ → EsRow) (f2d clat clck : List Float) (c : PathNumbers) → AgreesOn find t → Common s t → ((k : ℕ) → pickIf (inDomain c && eqb (length f2d) 576) (controllingOf s) ≡ some k → slotAt t k ≡ slotAt s k) → Follows (mufOfRowsWith find t n row f2d clat clck c) (mufOfRowsWith gethpOf s n row f2d clat clck c) t (controllingOf s)
+done-follows : (find : Finder) (s t : IonoState) (n : ℕ) (row : ℕ → EsRow) (f2d clat clck : List Float) (c : PathNumbers) → ((k : ℕ) → pickIf (inDomain c && eqb (length f2d) 576) (controllingOf s) ≡ some k → AgreesAt find t k) → Common s t → ((k : ℕ) → pickIf (inDomain c && eqb (length f2d) 576) (controllingOf s) ≡ some k → slotAt t k ≡ slotAt s k) → Follows (mufOfRowsWith find t n row f2d clat clck c) (mufOfRowsWith gethpOf s n row f2d clat clck c) t (controllingOf s)
 unfolding mufOfRowsWith mufFromSearchWith listsReach
 done-follows find s t n row f2d clat clck c agree g fresh =
     let step = esFrom row c n 0 startOf in
     let reach : ℕ → Bool = λ k. eqb (length f2d) 576 && ltb k (length clat) && ltb k (length clck) in
+    let has-picked : inDomain c ≡ true → reach (controllingOf s) ≡ true → pickIf (inDomain c && eqb (length f2d) 576) (controllingOf s) ≡ some (controllingOf s) =
+    λ hd hr. picked (inDomain c) (eqb (length f2d) 576) (controllingOf s) hd (deciles-right (length f2d) (controllingOf s) (length clat) (length clck) hr) in
     subst (λ (k : ℕ). Follows (mufFromSearchBy (inDomain c) (reach k) find t step f2d clat clck c) (mufFromSearchBy (inDomain c) (reach (controllingOf s)) gethpOf s step f2d clat clck c) t (controllingOf s)) (sym (controlling-same s t g))
-    (done-by (inDomain c) (reach (controllingOf s)) find s t step f2d clat clck c agree g (λ hd hr. fresh (controllingOf s) (picked (inDomain c) (eqb (length f2d) 576) (controllingOf s) hd (deciles-right (length f2d) (controllingOf s) (length clat) (length clck) hr))))
+    (done-by (inDomain c) (reach (controllingOf s)) find s t step f2d clat clck c (λ hd hr. agree (controllingOf s) (has-picked hd hr)) g (λ hd hr. fresh (controllingOf s) (has-picked hd hr)))
 
-muf-follows : (es : EsRows) (find : Finder) (s t : IonoState) (f2d clat clck : List Float) (c : PathNumbers) → AgreesOn find t → Common s t → FreshFor s t (aMuf es f2d clat clck c) → Follows (mufWith find t es f2d clat clck c) (mufWith gethpOf s es f2d clat clck c) t (controllingOf s)
+muf-follows : (es : EsRows) (find : Finder) (s t : IonoState) (f2d clat clck : List Float) (c : PathNumbers) → AgreesFor find s t (aMuf es f2d clat clck c) → Common s t → FreshFor s t (aMuf es f2d clat clck c) → Follows (mufWith find t es f2d clat clck c) (mufWith gethpOf s es f2d clat clck c) t (controllingOf s)
 unfolding mufWith flatWith recordsAnswerWith pick
 muf-follows (flat es) find s t f2d clat clck c agree g fresh =
     subst (λ (m : ℕ). Follows (mufOfRowsWith find t (rowCountOf (length es) m) (rowAt es) f2d clat clck c) (mufOfRowsWith gethpOf s (rowCountOf (length es) (s .km)) (rowAt es) f2d clat clck c) t (controllingOf s)) (sym (g .km-common))
@@ -178,14 +184,14 @@ marks-same : (s t : IonoState) (k : ℕ) → Common s t → slotAt t k ≡ slotA
 unfolding marksOf suppliedOf slotAt
 marks-same s t k g e = rw (g .ielect-common, e)
 
-sheet-seen : (a b : Bool) (find : Finder) (s t : IonoState) (k nang : ℕ) (layers : List LayerMuf) (cells : List ℤ) → AgreesOn find t → Common s t → (a ≡ true → b ≡ true → slotAt t k ≡ slotAt s k)
+sheet-seen : (a b : Bool) (find : Finder) (s t : IonoState) (k nang : ℕ) (layers : List LayerMuf) (cells : List ℤ) → (a ≡ true → b ≡ true → AgreesAt find t k) → Common s t → (a ≡ true → b ≡ true → slotAt t k ≡ slotAt s k)
     → (sheetBy a b find t k layers .outcome ≡ sheetBy a b gethpOf s k layers .outcome) × (sheetBy a b find t k layers .ion ≡ sheetBy a b gethpOf s k layers .ion) × (sheetBy a b find t k layers .marks ≡ sheetBy a b gethpOf s k layers .marks) × (cellsBy a b find t k nang cells ≡ cellsBy a b gethpOf s k nang cells)
 sheet-seen true true find s t k nang layers cells agree c same =
     let u = lecdenOf t k in
     let v = lecdenOf s k in
     let e = same refl refl in
     let a = lecden-alike s t k c e in
-    let g = genion-same find gethpOf u v k a (found-alike find s t k agree a) in
+    let g = genion-same find gethpOf u v k a (found-alike find s t k (agree refl refl) a) in
     (refl, alosfv-same u v k a (genionWith find u k) layers ∙ ap (λ (ion : Ionogram). alosfvOf v k ion layers) g, marks-same s t k c e, ap (λ (ion : Ionogram). anglesInto ion cells nang) g)
 sheet-seen true false find s t k nang layers cells agree c same = (refl, refl, refl, refl)
 sheet-seen false b find s t k nang layers cells agree c same = (refl, refl, refl, refl)
@@ -201,11 +207,6 @@ sheet-answered true true s k layers = refl
 sheet-answered true false s k layers = refl
 sheet-answered false b s k layers = refl
 
-pub refusal-by-arguments : (s t : IonoState) (k nang : ℕ) (layers : List LayerMuf) (cells : List ℤ) → answered t (aSheet k nang layers cells) ≡ answered s (aSheet k nang layers cells)
-unfolding answered answerWith slotSheetWith
-refusal-by-arguments s t k nang layers cells =
-    sheet-answered (leb k 2) (roomFor nang cells) t k layers ∙ sym (sheet-answered (leb k 2) (roomFor nang cells) s k layers)
-
 both-true : (a b : Bool) → a ≡ true → b ≡ true → (a && b) ≡ true
 both-true a b ha hb = rw (ha, hb)
 
@@ -217,18 +218,19 @@ slotOf s (aMuf es f2d clat clck c) = controllingOf s
 slotOf s (aSheet k nang layers cells) = k
 slotOf s (aNominal points f2m3 es km gcd gcdkm) = 0
 
-same-answer : (c : Call) (find : Finder) (s t : IonoState) → AgreesOn find t → Common s t → FreshFor s t c → answerWith find t c ≡ answerOf s c
+same-answer : (c : Call) (find : Finder) (s t : IonoState) → AgreesFor find s t c → Common s t → FreshFor s t c → answerWith find t c ≡ answerOf s c
 unfolding answerWith slotSheetWith sheetCellsWith pick answered
 same-answer (aMuf es f2d clat clck c) find s t agree g fresh =
     ap (λ (x : Seen). ofMuf (x .outcome) (x .hour) (esAfter es (x .rewrites) (x .ksx) (x .lower))) (muf-follows es find s t f2d clat clck c agree g fresh .0)
 same-answer (aSheet k nang layers cells) find s t agree g fresh =
     let a = leb k 2 in
     let b = roomFor nang cells in
-    let h = sheet-seen a b find s t k nang layers cells agree g (λ ha hb. fresh k (ap (λ (x : Bool). pickIf x k) (sheet-answered a b s k layers ∙ both-true a b ha hb))) in
+    let has-picked : a ≡ true → b ≡ true → pick s (aSheet k nang layers cells) ≡ some k = λ ha hb. ap (λ (x : Bool). pickIf x k) (sheet-answered a b s k layers ∙ both-true a b ha hb) in
+    let h = sheet-seen a b find s t k nang layers cells (λ ha hb. agree k (has-picked ha hb)) g (λ ha hb. fresh k (has-picked ha hb)) in
     rw (h .0, h .1, h .2, h .3)
 same-answer (aNominal points f2m3 es km gcd gcdkm) find s t agree g fresh = refl
 
-same-left : (c : Call) (find : Finder) (s t : IonoState) → AgreesOn find t → Common s t → FreshFor s t c → afterWith find t c ≡ preparedIf (prepares s c) t (slotOf s c)
+same-left : (c : Call) (find : Finder) (s t : IonoState) → AgreesFor find s t c → Common s t → FreshFor s t c → afterWith find t c ≡ preparedIf (prepares s c) t (slotOf s c)
 unfolding afterWith prepares answered answerWith slotSheetWith pick
 same-left (aMuf es f2d clat clck c) find s t agree g fresh = muf-follows es find s t f2d clat clck c agree g fresh .1
 same-left (aSheet k nang layers cells) find s t agree g fresh = sheet-left (leb k 2) (roomFor nang cells) find s t k layers
@@ -236,13 +238,13 @@ same-left (aNominal points f2m3 es km gcd gcdkm) find s t agree g fresh = refl
 
 -- every call leaves the state that it got, or that with a slot prepared
 pub call-leaves : (c : Call) (t : IonoState) → afterOf t c ≡ preparedIf (prepares t c) t (slotOf t c)
-call-leaves c t = same-left c gethpOf t t (itself t) (common-self t) (λ k e. refl)
+call-leaves c t = same-left c gethpOf t t (itself t t c) (common-self t) (λ k e. refl)
 
 -- by another way of finding heights: the same answer, and the same state left
-pub answer-with : (c : Call) (find : Finder) (t : IonoState) → AgreesOn find t → answerWith find t c ≡ answerOf t c
+pub answer-with : (c : Call) (find : Finder) (t : IonoState) → AgreesFor find t t c → answerWith find t c ≡ answerOf t c
 answer-with c find t agree = same-answer c find t t agree (common-self t) (λ k e. refl)
 
-pub after-with : (c : Call) (find : Finder) (t : IonoState) → AgreesOn find t → afterWith find t c ≡ afterOf t c
+pub after-with : (c : Call) (find : Finder) (t : IonoState) → AgreesFor find t t c → afterWith find t c ≡ afterOf t c
 after-with c find t agree = same-left c find t t agree (common-self t) (λ k e. refl) ∙ sym (call-leaves c t)
 
 pub picks-own : (c : Call) (s : IonoState) → prepares s c ≡ true → pick s c ≡ some (slotOf s c)
@@ -302,4 +304,4 @@ stepped-by false s t c j eb et es picks small same g fresh =
 
 pub one-step : (s t : IonoState) (c : Call) → Common s t → FreshFor s t c → Stepped s t c
 one-step s t c g fresh =
-    stepped-by (prepares s c) s t c (slotOf s c) refl (same-left c gethpOf s t (itself t) g fresh) (call-leaves c s) (picks-own c s) (slot-small c s) (same-answer c gethpOf s t (itself t) g fresh) g fresh
+    stepped-by (prepares s c) s t c (slotOf s c) refl (same-left c gethpOf s t (itself s t c) g fresh) (call-leaves c s) (picks-own c s) (slot-small c s) (same-answer c gethpOf s t (itself s t c) g fresh) g fresh

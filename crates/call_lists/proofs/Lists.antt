@@ -10,15 +10,15 @@ use Rattle.layers.specs.Owners.{ownerOf}
 use Rattle.layers.specs.Ionset.{ionsetOf}
 use Rattle.profile.specs.Lecden.{slotAt, lecdenOf}
 use Rattle.profile.proofs.Owns.{lecden-owner}
-use Rattle.heights.specs.Gethp.{Finder, gethpScanOf}
+use Rattle.heights.specs.Gethp.{Finder, gethpOf, gethpScanOf}
 use Rattle.heights.specs.Walk.{gethpWalkOf}
 use Rattle.heights.proofs.Whole.{forty-reads}
-use Rattle.heights.proofs.Finders.{walks-agree, scans-agree}
+use Rattle.heights.proofs.Finders.{Agree, walks-agree, scans-agree}
 use Rattle.call_lists.specs.Calls.{Call, Answer, answerOf, afterOf, afterWith, prepares, pick}
-use Rattle.call_lists.specs.Lists.{runOf, answersOf, runWith, answersWith, withPicked, readOf, Every, Together, Allowed, picks, orElse, own, laterOr, onlyIf, lastOf, alone, SameProfile, ownerPicked, lastOwner, ReadsWell, Numbers, ListOfCalls, ListsOfCalls}
+use Rattle.call_lists.specs.Lists.{runOf, answersOf, runWith, answersWith, withPicked, readOf, Every, Together, Allowed, picks, orElse, own, laterOr, onlyIf, lastOf, alone, SameProfile, ownerPicked, lastOwner, ReadsWell, Numbers, ListOfCalls, ListsOfCalls, ReadAll, HeldState}
 use Rattle.call_lists.proofs.Prepared.{Common, common-self}
 use Rattle.call_lists.proofs.Numbers.{lecden-numbers, ionset-numbers}
-use Rattle.call_lists.proofs.Frames.{not-both, FreshFor, preparedIf, AgreesOn, slotOf, call-leaves, answer-with, after-with, picks-own, some-same, one-step}
+use Rattle.call_lists.proofs.Frames.{not-both, FreshFor, preparedIf, AgreesAt, slotOf, call-leaves, answer-with, after-with, picks-own, some-same, one-step}
 
 -- ---- who picks a slot
 
@@ -97,37 +97,63 @@ after-numbers t c n = subst Numbers (sym (call-leaves c t)) (prepared-numbers (p
 
 -- ---- other ways of finding heights
 
--- P holds of every state that the list comes through, and where it holds `find` agrees with `gethpOf`
-module _ (find : Finder) (P : IonoState → Type 0) (stays : (t : IonoState) (c : Call) → P t → P (afterOf t c)) (agree : (t : IonoState) → P t → AgreesOn find t) where
-  run-with : (cs : List Call) (t : IonoState) → P t → runWith find t cs ≡ runOf t cs
-  unfolding runWith
-  run-with [] t p = refl
-  run-with (c ∷ cs) t p = ap (λ (w : IonoState). runWith find w cs) (after-with c find t (agree t p)) ∙ run-with cs (afterOf t c) (stays t c p)
+-- `find` agrees with `gethpOf` on every profile that is read
+abbrev AgreesAll : Finder → List IonoState → Type 0
+AgreesAll find us = Every (λ u. Agree find gethpOf u) us
 
-  answers-with : (cs : List Call) (t : IonoState) → P t → answersWith find t cs ≡ answersOf t cs
-  unfolding answersWith
-  answers-with [] t p = refl
-  answers-with (c ∷ cs) t p =
-      ap (λ (a : Answer). a ∷ answersWith find (afterWith find t c) cs) (answer-with c find t (agree t p))
-      ∙ ap (λ (w : IonoState). answerOf t c ∷ answersWith find w cs) (after-with c find t (agree t p))
-      ∙ ap (λ (rest : List Answer). answerOf t c ∷ rest) (answers-with cs (afterOf t c) (stays t c p))
+picked-agree : (o : Option ℕ) (find : Finder) (t : IonoState) (rest : List IonoState) → AgreesAll find (withPicked o t rest) → ((k : ℕ) → o ≡ some k → AgreesAt find t k) × AgreesAll find rest
+picked-agree none find t rest h = (λ k e. absurd (Option·none-ne-some k e), h)
+picked-agree (some j) find t rest h = (λ k e. subst (λ (i : ℕ). AgreesAt find t i) (some-same j k e) (h .0), h .1)
 
-by-walks : (t : IonoState) → Numbers t → AgreesOn gethpWalkOf t
-by-walks t n k = walks-agree (lecdenOf t k) (lecden-numbers t k n .htr-held)
+run-with : (find : Finder) (cs : List Call) (t : IonoState) → AgreesAll find (readOf t cs) → runWith find t cs ≡ runOf t cs
+unfolding runWith readOf
+run-with find [] t h = refl
+run-with find (c ∷ cs) t h =
+    let p = picked-agree (pick t c) find t (readOf (afterOf t c) cs) h in
+    ap (λ (w : IonoState). runWith find w cs) (after-with c find t (p .0)) ∙ run-with find cs (afterOf t c) (p .1)
 
-by-scans : (t : IonoState) → Unit {0} → AgreesOn gethpScanOf t
-by-scans t u k = scans-agree (lecdenOf t k)
+answers-with : (find : Finder) (cs : List Call) (t : IonoState) → AgreesAll find (readOf t cs) → answersWith find t cs ≡ answersOf t cs
+unfolding answersWith readOf
+answers-with find [] t h = refl
+answers-with find (c ∷ cs) t h =
+    let p = picked-agree (pick t c) find t (readOf (afterOf t c) cs) h in
+    ap (λ (a : Answer). a ∷ answersWith find (afterWith find t c) cs) (answer-with c find t (p .0))
+    ∙ ap (λ (w : IonoState). answerOf t c ∷ answersWith find w cs) (after-with c find t (p .0))
+    ∙ ap (λ (rest : List Answer). answerOf t c ∷ rest) (answers-with find cs (afterOf t c) (p .1))
+
+pub read-all : ReadAll
+read-all find s calls h = (answers-with find calls s h, run-with find calls s h)
 
 -- ---- the reads
 
-picked-reads : (o : Option ℕ) (t : IonoState) (rest : List IonoState) → Numbers t → Every ReadsWell rest → Every ReadsWell (withPicked o t rest)
-picked-reads none t rest n h = h
-picked-reads (some k) t rest n h = (λ f rises. forty-reads (lecdenOf t k) f (lecden-numbers t k n .htr-held) rises, h)
+-- P holds of every state that a list comes through, and so Q of every profile that is read
+module _ (P Q : IonoState → Type 0) (stays : (t : IonoState) (c : Call) → P t → P (afterOf t c)) (prepared : (t : IonoState) (k : ℕ) → P t → Q (lecdenOf t k)) where
+  picked-reads : (o : Option ℕ) (t : IonoState) (rest : List IonoState) → P t → Every Q rest → Every Q (withPicked o t rest)
+  picked-reads none t rest p h = h
+  picked-reads (some k) t rest p h = (prepared t k p, h)
 
-every-reads : (cs : List Call) (t : IonoState) → Numbers t → Every ReadsWell (readOf t cs)
-unfolding readOf
-every-reads [] t n = tt
-every-reads (c ∷ cs) t n = picked-reads (pick t c) t (readOf (afterOf t c) cs) n (every-reads cs (afterOf t c) (after-numbers t c n))
+  every-read : (cs : List Call) (t : IonoState) → P t → Every Q (readOf t cs)
+  unfolding readOf
+  every-read [] t p = tt
+  every-read (c ∷ cs) t p = picked-reads (pick t c) t (readOf (afterOf t c) cs) p (every-read cs (afterOf t c) (stays t c p))
+
+by-walks : (cs : List Call) (t : IonoState) → Numbers t → AgreesAll gethpWalkOf (readOf t cs)
+by-walks cs t n = every-read Numbers (λ u. Agree gethpWalkOf gethpOf u) after-numbers (λ t k n. walks-agree (lecdenOf t k) (lecden-numbers t k n .htr-held)) cs t n
+
+by-scans : (cs : List Call) (t : IonoState) → AgreesAll gethpScanOf (readOf t cs)
+by-scans cs t = every-read (λ t. Unit {0}) (λ u. Agree gethpScanOf gethpOf u) (λ t c u. tt) (λ t k u. scans-agree (lecdenOf t k)) cs t tt
+
+reads-well-all : (cs : List Call) (t : IonoState) → Numbers t → Every ReadsWell (readOf t cs)
+reads-well-all cs t n = every-read Numbers ReadsWell after-numbers (λ t k n f rises. forty-reads (lecdenOf t k) f (lecden-numbers t k n .htr-held) rises) cs t n
+
+pub numbers-walk : (s : IonoState) → Numbers s → HeldState s
+numbers-walk s n =
+    record {
+      numbers = n;
+      answers-walked = λ calls. answers-with gethpWalkOf calls s (by-walks calls s n);
+      state-walked = λ calls. run-with gethpWalkOf calls s (by-walks calls s n);
+      reads-well = λ calls. reads-well-all calls s n;
+    }
 
 -- ---- the whole
 
@@ -172,26 +198,29 @@ any-list s calls allowed =
     let c = r .all-common in
     record {
       answers-alone = r .all-answers;
-      slots-left = λ k h. r .all-slots k ∙ ap (λ (w : IonoState). slotAt w k) (left-alone (own s calls k) s);
-      profile-left = subst (λ (w : IonoState). SameProfile (runOf s calls) w) (left-alone (lastOf s calls) s) (r .the-profile);
-      owner-left =
-          same-owner (runOf s calls) (alone s (lastOf s calls)) (c .ielect-common ∙ sym (alone-ielect s (lastOf s calls))) (subst (λ (w : IonoState). SameProfile (runOf s calls) w) (left-alone (lastOf s calls) s) (r .the-profile) .3)
-          ∙ last-owner s calls;
-      supplied-left = c .supplied;
-      fi-left = c .fi-common;
-      yi-left = (c .yi-long, c .yi-upper);
-      hi-left = (c .hi-long, c .hi-upper);
-      fsecv-left = c .fsecv-long;
-      km-left = c .km-common;
-      kfx-left = c .kfx-common;
-      iedp-left = c .iedp-common;
-      ielect-left = c .ielect-common;
-      exact-left = c .exact-common;
-      answers-walked = λ n. answers-with gethpWalkOf Numbers after-numbers by-walks calls s n;
-      state-walked = λ n. run-with gethpWalkOf Numbers after-numbers by-walks calls s n;
-      answers-scanned = answers-with gethpScanOf (λ t. Unit {0}) (λ t c u. tt) by-scans calls s tt;
-      state-scanned = run-with gethpScanOf (λ t. Unit {0}) (λ t c u. tt) by-scans calls s tt;
-      reads-well = λ n. every-reads calls s n;
+      state-left =
+          record {
+            slots-left = λ k h. r .all-slots k ∙ ap (λ (w : IonoState). slotAt w k) (left-alone (own s calls k) s);
+            profile-left = subst (λ (w : IonoState). SameProfile (runOf s calls) w) (left-alone (lastOf s calls) s) (r .the-profile);
+            owner-left =
+                same-owner (runOf s calls) (alone s (lastOf s calls)) (c .ielect-common ∙ sym (alone-ielect s (lastOf s calls))) (subst (λ (w : IonoState). SameProfile (runOf s calls) w) (left-alone (lastOf s calls) s) (r .the-profile) .3)
+                ∙ last-owner s calls;
+            supplied-left = c .supplied;
+            fi-left = c .fi-common;
+            yi-left = (c .yi-long, c .yi-upper);
+            hi-left = (c .hi-long, c .hi-upper);
+            fsecv-left = c .fsecv-long;
+            km-left = c .km-common;
+            kfx-left = c .kfx-common;
+            iedp-left = c .iedp-common;
+            ielect-left = c .ielect-common;
+            exact-left = c .exact-common;
+          };
+      answers-walked = λ n. numbers-walk s n .answers-walked calls;
+      state-walked = λ n. numbers-walk s n .state-walked calls;
+      answers-scanned = answers-with gethpScanOf calls s (by-scans calls s);
+      state-scanned = run-with gethpScanOf calls s (by-scans calls s);
+      reads-well = λ n. numbers-walk s n .reads-well calls;
     }
 
 pub lists-of-calls : ListsOfCalls

@@ -1,14 +1,9 @@
 -- By induction over the calls before it; it leaves the state that it got.
 use mathlib.Core.List.{List, [], _∷_, _++_}
 use mathlib.Core.Path.{_≡_, refl, ap}
-use Prim.Native.Nat.{ℕ}
-use lib.Ieee.{Float}
 use Rattle.layers.specs.declared.IonoState.{IonoState}
-use Rattle.layers.specs.declared.LayerParams.{LayerParams}
-use Rattle.layers.specs.declared.EsParams.{EsParams}
 use Rattle.heights.specs.Gethp.{Finder}
-use Rattle.nominal.specs.Nommuf.{nommufOf}
-use Rattle.call_lists.specs.Calls.{Call, Answer, aNominal, ofNominal, answerWith, afterWith}
+use Rattle.call_lists.specs.Calls.{Call, Answer, answerWith, afterWith}
 use Rattle.call_lists.specs.Lists.{runWith, answersWith}
 use Rattle.call_lists.specs.Nominal.{NominalAnywhere}
 

@@ -89,14 +89,15 @@ reads-so (u ∷ us) h = (λ f rises. same-reads u f (h .0 f rises), reads-so us 
 
 pub list-same : (s : IonoState) (calls : List Call) → ListOfCalls s calls → SameListOfCalls s calls
 list-same s calls l =
+    let left = l .state-left in
     record {
       answers-alone = answers-so _ _ (l .answers-alone);
-      slots-left = λ k h. slot-so _ _ (l .slots-left k h);
-      profile-left = profile-so (runOf s calls) (alone s (lastOf s calls)) (l .profile-left);
-      supplied-left = λ e. state-so _ _ (l .supplied-left e);
-      fi-left = equal-all _ _ (l .fi-left);
-      yi-left = λ i h. equal-same _ _ (l .yi-left .1 i h);
-      hi-left = λ i h. equal-same _ _ (l .hi-left .1 i h);
+      slots-left = λ k h. slot-so _ _ (left .slots-left k h);
+      profile-left = profile-so (runOf s calls) (alone s (lastOf s calls)) (left .profile-left);
+      supplied-left = λ e. state-so _ _ (left .supplied-left e);
+      fi-left = equal-all _ _ (left .fi-left);
+      yi-left = λ i h. equal-same _ _ (left .yi-left .1 i h);
+      hi-left = λ i h. equal-same _ _ (left .hi-left .1 i h);
       answers-walked = λ n. answers-so _ _ (l .answers-walked n);
       state-walked = λ n. state-so _ _ (l .state-walked n);
       answers-scanned = answers-so _ _ (l .answers-scanned);

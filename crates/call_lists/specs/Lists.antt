@@ -18,6 +18,7 @@ use Rattle.profile.specs.Lecden.{slotAt, lecdenOf}
 use Rattle.profile.specs.Rising.{risesOf}
 use Rattle.walk.specs.Walk.{Held}
 use Rattle.heights.specs.Gethp.{Finder, gethpOf, gethpScanOf}
+use Rattle.heights.specs.declared.Heights.{Heights}
 use Rattle.heights.specs.Walk.{gethpWalkOf}
 use Rattle.heights.specs.Reads.{FortyReads}
 use Rattle.call_lists.specs.Calls.{Call, Answer, answerOf, afterOf, answerWith, afterWith, prepares, pick}
@@ -126,7 +127,7 @@ lastOwner s (some c) = ownerPicked (s .ielect) (pick s c)
 abbrev pub ReadsWell : IonoState → Type 0
 ReadsWell u = (f : Float) → T (risesOf (u .htr)) → FortyReads u f
 
--- The definitions' numbers are of any precision, those of a state that a program holds are f32. It is asked of the first state only where a walk depends on it: semi-thicknesses, layers' heights and the profile's heights. `ionset` and every call keep it.
+-- The definitions' numbers are of any precision, those of a state that a program holds are f32 (`held`). It is asked of the first state only where a walk depends on it: semi-thicknesses, layers' heights and the profile's heights. `ionset` and every call keep it.
 pub record Numbers (s : IonoState) : Type 0 where
   pub yi-held : Held (s .yi)
   pub hi-held : Held (s .hi)
@@ -134,25 +135,30 @@ pub record Numbers (s : IonoState) : Type 0 where
 
 -- ---- the claim
 
+-- what is said of the state u that the list leaves
+pub record StateLeft (s : IonoState) (calls : List Call) (u : IonoState) : Type 0 where
+  -- (ii) each slot, its nine layer numbers and `fsecv[k]`, is what its own call alone leaves, or as it was; also at or above kfx
+  pub slots-left : (k : ℕ) → k < 3 → slotAt u k ≡ slotAt (alone s (own s calls k)) k
+  -- (iii) the profile, its rising mark and its owner are those that the last answered MUF or sheet alone leaves, or s's; the owner that counts is that call's slot, or s's own
+  pub profile-left : SameProfile u (alone s (lastOf s calls))
+  pub owner-left : ownerOf u ≡ lastOwner s (lastOf s calls)
+  pub supplied-left : s .ielect ≡ true → u ≡ s
+  -- (iv) all else is s's: rows 3 and 4 of the tables, the critical frequencies, the counts, the switches
+  pub fi-left : u .fi ≡ s .fi
+  pub yi-left : (length (u .yi) ≡ length (s .yi)) × ((i : ℕ) → 9 ≤ i → at (u .yi) i ≡ at (s .yi) i)
+  pub hi-left : (length (u .hi) ≡ length (s .hi)) × ((i : ℕ) → 9 ≤ i → at (u .hi) i ≡ at (s .hi) i)
+  pub fsecv-left : length (u .fsecv) ≡ length (s .fsecv)
+  pub km-left : u .km ≡ s .km
+  pub kfx-left : u .kfx ≡ s .kfx
+  pub iedp-left : u .iedp ≡ s .iedp
+  pub ielect-left : u .ielect ≡ s .ielect
+  pub exact-left : u .«exact_virtual_height» ≡ s .«exact_virtual_height»
+
 pub record ListOfCalls (s : IonoState) (calls : List Call) : Type 0 where
   -- (i) every answer, refusals included, its Es rows, its marks and its cells are those of the call alone
   pub answers-alone : answersOf s calls ≡ map (answerOf s) calls
-  -- (ii) each slot, its nine layer numbers and `fsecv[k]`, is what its own call alone leaves, or as it was; also at or above kfx
-  pub slots-left : (k : ℕ) → k < 3 → slotAt (runOf s calls) k ≡ slotAt (alone s (own s calls k)) k
-  -- (iii) the profile, its rising mark and its owner are those that the last answered MUF or sheet alone leaves, or s's; the owner that counts is that call's slot, or s's own
-  pub profile-left : SameProfile (runOf s calls) (alone s (lastOf s calls))
-  pub owner-left : ownerOf (runOf s calls) ≡ lastOwner s (lastOf s calls)
-  pub supplied-left : s .ielect ≡ true → runOf s calls ≡ s
-  -- (iv) all else is s's: rows 3 and 4 of the tables, the critical frequencies, the counts, the switches
-  pub fi-left : runOf s calls .fi ≡ s .fi
-  pub yi-left : (length (runOf s calls .yi) ≡ length (s .yi)) × ((i : ℕ) → 9 ≤ i → at (runOf s calls .yi) i ≡ at (s .yi) i)
-  pub hi-left : (length (runOf s calls .hi) ≡ length (s .hi)) × ((i : ℕ) → 9 ≤ i → at (runOf s calls .hi) i ≡ at (s .hi) i)
-  pub fsecv-left : length (runOf s calls .fsecv) ≡ length (s .fsecv)
-  pub km-left : runOf s calls .km ≡ s .km
-  pub kfx-left : runOf s calls .kfx ≡ s .kfx
-  pub iedp-left : runOf s calls .iedp ≡ s .iedp
-  pub ielect-left : runOf s calls .ielect ≡ s .ielect
-  pub exact-left : runOf s calls .«exact_virtual_height» ≡ s .«exact_virtual_height»
+  -- (ii) to (iv)
+  pub state-left : StateLeft s calls (runOf s calls)
   -- (v) read by walks, as the code does where it reads, every answer (rows with their segments, marks, cells, hours, Es rows) and the state left are these; and they are the same with forty full scans in place of each walk
   pub answers-walked : Numbers s → answersWalkOf s calls ≡ answersOf s calls
   pub state-walked : Numbers s → runWalkOf s calls ≡ runOf s calls
@@ -166,3 +172,21 @@ abbrev pub ListsOfCalls : Type 0
 ListsOfCalls =
     (first : IonoState) → T (countTaken (first .km)) → (calls : List Call) → Allowed (ionsetOf first .state) calls
     → ListOfCalls (ionsetOf first .state) calls × (Numbers first → Numbers (ionsetOf first .state))
+
+-- what `only-state` says: (ii) to (iv) leave nothing of the state unsaid. One state alone is so, of those whose `fsecv` has three numbers, as every state of the code has.
+abbrev pub OnlyState : Type 0
+OnlyState = (s : IonoState) (calls : List Call) → length (s .fsecv) ≡ 3 → (u v : IonoState) → StateLeft s calls u → StateLeft s calls v → u ≡ v
+
+-- what `read-all` says: these are all the profiles that are read. Whoever finds heights on them as the contracts say, in whatever way, has all answers and the state left.
+abbrev pub FindsAs : Finder → IonoState → Type 0
+FindsAs find u = (f : Float) → (find u f .hp ≡ gethpOf u f .hp) × (find u f .ht ≡ gethpOf u f .ht) × (find u f .segment ≡ gethpOf u f .segment)
+
+abbrev pub ReadAll : Type 0
+ReadAll = (find : Finder) (s : IonoState) (calls : List Call) → Every (FindsAs find) (readOf s calls) → (answersWith find s calls ≡ answersOf s calls) × (runWith find s calls ≡ runOf s calls)
+
+-- what `held` promises of every state that code holds, whoever made it: its numbers are f32, so what is said of walks holds of every list of calls on it, with nothing assumed
+pub record HeldState (s : IonoState) : Type 0 where
+  pub numbers : Numbers s
+  pub answers-walked : (calls : List Call) → answersWalkOf s calls ≡ answersOf s calls
+  pub state-walked : (calls : List Call) → runWalkOf s calls ≡ runOf s calls
+  pub reads-well : (calls : List Call) → Every ReadsWell (readOf s calls)

@@ -120,10 +120,31 @@ fn chains() {
     print(b"49 decile records\n", more, 3264);
 }
 
+// Where a step and the record that it starts from, or the length of the chain, are wrong at once: a step is looked at before
+// what it leads to, a record before its own step.
+fn collisions() {
+    let mut short = record(smallest(), 1, 2, 2);
+    short[4] = 2;
+    print(b"a point too few, and past the last record\n", short, 128);
+    let kind = record(smallest(), 1, 3, 9);
+    print(b"no point, and then past the last record\n", kind, 128);
+    let past = record(with_deciles(48), 49, 3, 60);
+    print(
+        b"after 48 decile records past the last record\n",
+        past,
+        3200,
+    );
+    let again = record(with_deciles(48), 49, 3, 2);
+    print(b"after 48 decile records one met again\n", again, 3200);
+    let back = record(with_deciles(48), 5, 2, 1);
+    print(b"a decile record of kind 2 that leads back\n", back, 3200);
+}
+
 fn main() {
     lengths();
     first_record();
     steps();
     records();
     chains();
+    collisions();
 }

@@ -1,3 +1,4 @@
--- Words copied, and a circuit laid out in words.
+-- Words copied, a circuit laid out in words, and how long a file is.
 mod Copies
 mod Laid
+mod Short

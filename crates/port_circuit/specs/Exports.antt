@@ -1,9 +1,9 @@
 -- The calls on words and bytes: the number answered, 0 or the refusal's, and the words or bytes lent, afterwards. The count of words is looked at first; a refused call leaves everything.
-use mathlib.Core.Bool.{Bool, true, false}
+use mathlib.Core.Bool.{Bool, true, false, _&&_}
 use mathlib.Core.List.{List, []}
 use Prim.Native.Nat.{ℕ}
 use lib.Dec.{leb}
-use lib.ListN.{length}
+use lib.ListN.{length, set}
 use Rattle.refusal.specs.Number.{numberOf}
 use Rattle.refusal.specs.declared.Refusal.{Refusal}
 use Rattle.refusal.specs.declared.Outcome.{Outcome}
@@ -12,6 +12,7 @@ use Rattle.circuit.specs.Read.{readOf}
 use Rattle.circuit.specs.declared.Circuit.{Circuit}
 use Rattle.circuit.specs.declared.ReadAnswer.{ReadAnswer}
 use Rattle.circuit_write.specs.Written as written
+use Rattle.circuit_write.specs.declared.WriteAnswer.{WriteAnswer}
 use Rattle.port_circuit.specs.Words.{circuitOf, circuitInto}
 
 pub record Ported : Type 0 where
@@ -35,10 +36,22 @@ readBy false file w = refusedWith Refusal.Length w
 unfoldable pub portRead : List ℕ → List ℕ → Ported
 portRead file w = readBy (leb 657 (length w)) file w
 
-abbrev pub writeBy : Bool → Circuit → List ℕ → Ported
-writeBy true c file =
-    record { number = written.numberIn (written.answerOf form64 c file); cells = written.leftOf form64 c [] file }
-writeBy false c file = refusedWith Refusal.Length file
+-- the writer's: its number, the bytes lent and the words lent, afterwards
+pub record Wrote : Type 0 where
+  pub number : ℕ
+  pub cells : List ℕ
+  pub words : List ℕ
 
-unfoldable pub portWrite : List ℕ → List ℕ → Ported
-portWrite words file = writeBy (leb 657 (length words)) (circuitOf words) file
+-- how many bytes were written stands in the first word; at a refusal nothing does
+abbrev pub lengthInto : WriteAnswer → List ℕ → List ℕ
+lengthInto (WriteAnswer.Written n) out = set out 0 n
+lengthInto (WriteAnswer.Refused r) out = out
+
+abbrev pub writeBy : Bool → Circuit → List ℕ → List ℕ → Wrote
+writeBy true c file out =
+    let a = written.answerOf form64 c file in
+    record { number = written.numberIn a; cells = written.leftOf form64 c [] file; words = lengthInto a out }
+writeBy false c file out = record { number = numberOf Refusal.Length; cells = file; words = out }
+
+unfoldable pub portWrite : List ℕ → List ℕ → List ℕ → Wrote
+portWrite words file out = writeBy (leb 657 (length words) && leb 1 (length out)) (circuitOf words) file out

@@ -5,9 +5,11 @@ ghost use Prim.Native.Nat.{_+_, _≤_};
 ghost use lib.ListN.{length};
 ghost use denote.Ref.{now};
 ghost use Rattle.port_circuit.specs.Words.{wordsOf, wordsInto, circuitOf, numbersOf, circuitInto};
-ghost use Rattle.port_circuit.specs.Exports.{answerOf, portRead, portWrite};
+ghost use Rattle.circuit_write.specs.Written.{numberIn, lengthIn};
+ghost use Rattle.port_circuit.specs.Exports.{answerOf, lengthInto, portRead, portWrite};
 use circuit::Circuit;
 use circuit::ReadAnswer;
+use circuit_write::WriteAnswer;
 use refusal::Outcome;
 
 // The words from `from` on.
@@ -139,15 +141,34 @@ pub extern "C" fn port_read(file: &[u8], out: &mut [u32]) -> u32
     1
 }
 
-// The file of the circuit that 657 words hold.
-#[no_mangle]
-pub extern "C" fn port_write(words: &[u32], file: &mut [u8]) -> u32
-    ensures { λ r. ⌜ r ≡ portWrite (now (words .entry)) (now (file .entry)) .number ⌝ ∗ ⌜ now (file .exit) ≡ portWrite (now (words .entry)) (now (file .entry)) .cells ⌝ }
+// What the writer answered, as its number; how many bytes it wrote, into the word lent, which stays at a refusal.
+fn length_into(a: WriteAnswer, out: &mut [u32]) -> u32
+    requires { ⌜ (1 ≤ length (now out)) × (lengthIn a ≤ 4096) ⌝ }
+    ensures { λ r. ⌜ (r ≡ numberIn a) × (now (out .exit) ≡ lengthInto a (now (out .entry))) ⌝ }
 {
-    if 657 <= words.len() {
-        let c = circuit_of(words);
-        let a = circuit_write::write(c, file);
-        return circuit_write::number(a);
+    match a {
+        WriteAnswer::Written(n) => {
+            out[0] = n as u32;
+            0
+        }
+        WriteAnswer::Refused(r) => refusal::number(r),
     }
-    1
+}
+
+// The file of the circuit that 657 words hold, and into `out` how many bytes it has.
+#[no_mangle]
+pub extern "C" fn port_write(words: &[u32], file: &mut [u8], out: &mut [u32]) -> u32
+    ensures { λ r. ⌜ r ≡ portWrite (now (words .entry)) (now (file .entry)) (now (out .entry)) .number ⌝ }
+    ensures { λ _. ⌜ now (file .exit) ≡ portWrite (now (words .entry)) (now (file .entry)) (now (out .entry)) .cells ⌝ }
+    ensures { λ _. ⌜ now (out .exit) ≡ portWrite (now (words .entry)) (now (file .entry)) (now (out .entry)) .words ⌝ }
+{
+    if words.len() < 657 {
+        return 1;
+    }
+    if out.len() < 1 {
+        return 1;
+    }
+    let c = circuit_of(words);
+    let a = circuit_write::write(c, file);
+    length_into(a, out)
 }

@@ -1,4 +1,5 @@
--- Signs as words, words copied, and owners read back.
+-- Signs as words, words copied, owners read back, and whole states.
 pub mod Signs
 mod Copies
 mod Owners
+pub mod ReadBack

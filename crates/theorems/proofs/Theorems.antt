@@ -31,14 +31,20 @@ use Rattle.circuit_laws.proofs.WrittenRead.{written-read}
 use Rattle.circuit_laws.proofs.Carried.{carried}
 use Rattle.circuit_laws.proofs.Off.{off-chain}
 use Rattle.circuit_laws.proofs.Paper.{paper-laws}
+use Rattle.chain_laws.proofs.Longer.{longer-file, records-appended}
+use Rattle.chain_laws.proofs.Printed.{printed-alike, printed-appended}
+use Rattle.chain_laws.proofs.Order.{writer-order}
+use Rattle.sheet_refusals.proofs.Sheet.{chain-refusals, sheet-refusals, sheet-printed}
 use Rattle.wide_circuit.proofs.Laws.{wide-laws}
 use Rattle.circuit_turn.proofs.Laws.{turn-laws}
 use Rattle.profile.proofs.Keeps.{lecden-keeps, lecden-supplied}
 use Rattle.profile.proofs.NeverBoth.{never-both}
+use Rattle.walk.proofs.Walks.{distance-rule}
 use Rattle.heights.proofs.Whole.{forty-reads, mark-unread, exact-rule}
 use Rattle.heights.proofs.SameReads.{walk-same-as-scan}
 use Rattle.angles.proofs.Angles.{sin-answers, cos-answers, never-refused-13}
 use Rattle.angles.proofs.Reflectrix.{fobby-small, fobby-answers}
+use Rattle.any_waves.proofs.AnyWaves.{any-waves, mark-unmet}
 use Rattle.nominal.proofs.Coefficients.{coefficients-nearest}
 use Rattle.nominal.proofs.Angles.{nominal-never-refused-13}
 use Rattle.nominal.proofs.Inputs.{reads-only, es-rewritten}
@@ -55,7 +61,10 @@ use Rattle.computed_trace.proofs.Computed.{trace-fits}
 use Rattle.first_difference.proofs.Laws.{difference-laws}
 use Rattle.marking.proofs.Laws.{marking-laws, marking-cases}
 use Rattle.starred.proofs.Starred.{starred-trials}
-use Rattle.call_lists.proofs.Lists.{lists-of-calls, any-list}
+use Rattle.call_lists.proofs.Lists.{lists-of-calls, any-list, read-all}
+use Rattle.call_lists.proofs.OnlyState.{only-state}
+use Rattle.port_state.proofs.ReadBack.{state-read-back, words-suffice}
+use Rattle.call_lists.proofs.PaperWords.{paper-words, refusal-by-arguments, with-contracts}
 use Rattle.call_lists.proofs.SameLists.{lists-of-calls-same}
 use Rattle.call_lists.proofs.Nominal.{nominal-anywhere}
 use Rattle.theorems.specs.Theorems.{Theorems}
@@ -67,6 +76,7 @@ use Rattle.heights.proofs.Segments.{segments-found}
 use Rattle.sounding.proofs.Prepared.{genion-prepared}
 use Rattle.slot_sheet.proofs.Owned.{sheet-never-refused-19, sheet-owned, sheet-by-genion}
 use Rattle.shapes.proofs.Rule.{mark-rule, slot-marks}
+use Rattle.deciles.proofs.NanRow.{nan-middle}
 
 pub theorems : Theorems
 theorems =
@@ -115,6 +125,14 @@ theorems =
       written-read = written-read;
       carried = carried;
       off-chain = off-chain;
+      longer-file = longer-file;
+      records-appended = records-appended;
+      printed-alike = printed-alike;
+      printed-appended = printed-appended;
+      writer-order = writer-order;
+      chain-refusals = chain-refusals;
+      sheet-refusals = sheet-refusals;
+      sheet-printed = sheet-printed;
       paper-laws = paper-laws;
       wide-laws = wide-laws;
       turn-laws = turn-laws;
@@ -123,16 +141,20 @@ theorems =
       never-both = never-both;
       forty-reads = forty-reads;
       walk-same-as-scan = walk-same-as-scan;
+      distance-rule = distance-rule;
       mark-unread = mark-unread;
       sin-answers = sin-answers;
       cos-answers = cos-answers;
       never-refused-13 = never-refused-13;
+      any-waves = any-waves;
+      mark-unmet = mark-unmet;
       fobby-small = fobby-small;
       fobby-answers = fobby-answers;
       coefficients-nearest = coefficients-nearest;
       nominal-never-refused-13 = nominal-never-refused-13;
       reads-only = reads-only;
       es-rewritten = es-rewritten;
+      nan-middle = nan-middle;
       nearest-rule = nearest-rule;
       five-characters = five-characters;
       jump = jump;
@@ -158,6 +180,13 @@ theorems =
       lists-of-calls = lists-of-calls;
       any-list = any-list;
       lists-of-calls-same = lists-of-calls-same;
+      paper-words = paper-words;
+      refusal-by-arguments = refusal-by-arguments;
+      with-contracts = with-contracts;
+      only-state = only-state;
+      read-all = read-all;
+      state-read-back = state-read-back;
+      words-suffice = words-suffice;
       nominal-anywhere = nominal-anywhere;
       layers-unowned = layers-unowned;
       ionset-disowns = ionset-disowns;

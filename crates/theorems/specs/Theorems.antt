@@ -18,6 +18,8 @@ use Rattle.exact_arcs.specs.Asin.{AsinNear}
 use Rattle.exact_arcs.specs.Atan.{AtanNear}
 use Rattle.circuit_laws.specs.Laws.{EveryForm, ReadWritten, ReadSame, WrittenLength, WrittenInForm, WrittenRead, Carried, OffChain}
 use Rattle.circuit_laws.specs.Paper.{PaperLaws}
+use Rattle.chain_laws.specs.Laws.{LongerFile, RecordsAppended, PrintedAlike, PrintedAppended, WriterOrder}
+use Rattle.sheet_refusals.specs.Refusals.{ChainRefusals, SheetRefusals, SheetPrinted}
 use Rattle.wide_circuit.specs.Laws.{WideLaws}
 use Rattle.circuit_turn.specs.Laws.{TurnLaws}
 use Rattle.figures.specs.Nearest.{NearestRule}
@@ -32,12 +34,16 @@ use Rattle.computed_trace.specs.Computed.{TraceFits}
 use Rattle.first_difference.specs.Laws.{DifferenceLaws}
 use Rattle.marking.specs.Laws.{MarkingLaws, MarkingCases}
 use Rattle.angles.specs.Angles.{SinAnswers, CosAnswers, NeverRefused13, FobbySmall, FobbyAnswers}
+use Rattle.any_waves.specs.AnyWaves.{AnyWaves, MarkUnmet}
 use Rattle.nominal.specs.Coefficients.{CoefficientsNearest}
 use Rattle.nominal.specs.Angles.{NominalNeverRefused13}
 use Rattle.nominal.specs.Inputs.{ReadsOnly, EsRewritten}
 use Rattle.starred.specs.Starred.{Holds, starred}
+use Rattle.walk.specs.Walk.{DistanceRule}
 use Rattle.heights.specs.SameReads.{WalkSameAsScan}
-use Rattle.call_lists.specs.Lists.{ListsOfCalls}
+use Rattle.port_state.specs.ReadBack.{StateReadBack, WordsSufficeRead}
+use Rattle.call_lists.specs.Lists.{ListsOfCalls, OnlyState, ReadAll}
+use Rattle.call_lists.specs.PaperWords.{PaperWords, RefusalByArguments, WithContracts}
 use Rattle.call_lists.specs.SameLists.{SameListsOfCalls}
 use Rattle.call_lists.specs.Nominal.{NominalAnywhere}
 use Rattle.arc_series.specs.OwnSeries.{AtanOwnSeries}
@@ -48,6 +54,7 @@ use Rattle.height_integral.specs.Lowest.{AboveLowest, LastFromOne}
 use Rattle.heights.specs.Segments.{SegmentsFound}
 use Rattle.sounding.specs.Prepared.{GenionPrepared}
 use Rattle.slot_sheet.specs.Owned.{SheetNeverRefused19, SheetOwned, SheetByGenion}
+use Rattle.deciles.specs.NanRow.{NanMiddle}
 
 pub record Theorems : Type 0 where
   -- ---- Rounding, in both formats
@@ -129,6 +136,17 @@ pub record Theorems : Type 0 where
   pub carried : EveryForm (λ o. EveryForm (Carried o))
   -- records that no chain reaches don't matter
   pub off-chain : OffChain
+  -- nor do those that follow the records of an accepted file, nor in what `chain` prints
+  pub longer-file : LongerFile
+  pub records-appended : RecordsAppended
+  pub printed-alike : PrintedAlike
+  pub printed-appended : PrintedAppended
+  -- the writer refuses a wrong km or shape before too little room
+  pub writer-order : WriterOrder
+  -- `chain` is refused 1 to 4 and nothing else, `sheet` 1 to 4, 7, 9, 11, 12 and nothing else; the mode of an answered sheet is 1 to 3, its controlling slot 0 to 2
+  pub chain-refusals : ChainRefusals
+  pub sheet-refusals : SheetRefusals
+  pub sheet-printed : SheetPrinted
   -- all of these at the paper's layout, and at the one that carries F2M3
   pub paper-laws : PaperLaws
   pub wide-laws : WideLaws
@@ -145,6 +163,8 @@ pub record Theorems : Type 0 where
   pub forty-reads : ReadsOfWalk
   -- by bits, each reading of the walk is the scan's, and the heights found by walks and by scans are the contract's
   pub walk-same-as-scan : WalkSameAsScan
+  -- the distance that the cursor's moves sum: the lesser and the distance are the greater, both ways
+  pub distance-rule : DistanceRule
   -- the stored rising mark does not matter
   pub mark-unread : MarkUnread
   -- ---- Arguments of sine and cosine
@@ -153,6 +173,9 @@ pub record Theorems : Type 0 where
   pub cos-answers : CosAnswers
   -- on the MUF's domain every argument of sine and cosine is such, whatever the state, and so are those of the reflectrix: 13 is never answered
   pub never-refused-13 : NeverRefused13
+  -- and these are all: the circuit MUF over any sine and cosine that are ours from -4 to 4, whatever they answer outside, is ours, so that a mark in their place is never met
+  pub any-waves : AnyWaves
+  pub mark-unmet : MarkUnmet
   pub fobby-small : FobbySmall
   pub fobby-answers : FobbyAnswers
   -- ---- The nominal MUF
@@ -162,6 +185,8 @@ pub record Theorems : Type 0 where
   -- it reads the critical frequencies of E and F2 and the medians and heights of the Es rows, and nothing else, so a circuit MUF before it changes nothing
   pub reads-only : ReadsOnly
   pub es-rewritten : EsRewritten
+  -- a NaN sunspot number takes the middle row of the deciles
+  pub nan-middle : NanMiddle
   -- ---- The printed figure and the price
   -- rounding to a whole number is to the nearest, an exact half to the even one, and no other number is that
   pub nearest-rule : NearestRule
@@ -229,5 +254,16 @@ pub record Theorems : Type 0 where
   -- the same for any first state, and all of it by bits
   pub any-list : AnyList
   pub lists-of-calls-same : SameListsOfCalls
+  -- in the paper's own words: it holds of every list with at most one circuit MUF, at most one answered sheet of each slot and none of the slot that the MUF picks
+  pub paper-words : PaperWords
+  -- a sheet's outcome depends on its arguments alone, so "answered" means one thing; the calls are those of the contracts
+  pub refusal-by-arguments : RefusalByArguments
+  pub with-contracts : WithContracts
+  -- what is said of the state left is all of it: no two states are so; and the profiles that are said to be read are all that are read
+  pub only-state : OnlyState
+  pub read-all : ReadAll
+  -- a state put into words, as the exports do between calls, is read back as it was, where the words suffice, which they do for every state that was read from words
+  pub state-read-back : StateReadBack
+  pub words-suffice : WordsSufficeRead
   -- a nominal MUF put anywhere into any list changes nothing else and answers as alone
   pub nominal-anywhere : NominalAnywhere

@@ -10,9 +10,12 @@ use lib.Ieee.{Float, binary32, fits}
 use Rattle.readings.specs.Scan.{segmentNumber}
 use Rattle.readings.specs.Cursor.{countOf}
 use Rattle.readings.specs.declared.Read.{Read}
-use Rattle.walk.specs.Walk.{Held, Rising, Orderly, cursorBefore, walkRead, scannedRead, distance, movesOf}
+use Rattle.walk.specs.Walk.{Held, Rising, Orderly, cursorBefore, walkRead, scannedRead, distance, DistanceRule, movesOf}
 use Rattle.walk.proofs.Cursor.{count-mono, count-bound}
 use Rattle.walk.proofs.OneRead.{read-is-scan, segment-counts}
+
+pub distance-rule : DistanceRule
+distance-rule a b = (λ h. omega arith, λ h. omega arith)
 
 module _ (htr fnsq : List Float) (z : ℕ → Float) (n : ℕ) (held : Held htr) (rising : Rising htr) (fine : (k : ℕ) → T (fits binary32 (z k))) (order : Orderly z n) where
   -- the cursor before a read is not above the count of its height
@@ -44,10 +47,7 @@ module _ (htr fnsq : List Float) (z : ℕ → Float) (n : ℕ) (held : Held htr)
   moves-are zero h = unfold cursorBefore in refl
   moves-are (suc k) h =
       let k< : k < n = omega arith in
-      summed (movesOf htr fnsq z k) (cursorBefore htr fnsq z k) (cursorBefore htr fnsq z (suc k)) (moves-are k (omega arith)) (rises-so k k<)
-    where
-      summed : (m a b : ℕ) → m ≡ a → a ≤ b → m + distance a b ≡ b
-      summed m a b e h = omega arith
+      ap (λ (m : ℕ). m + distance (cursorBefore htr fnsq z k) (cursorBefore htr fnsq z (suc k))) (moves-are k (omega arith)) ∙ distance-rule _ _ .0 (rises-so k k<)
 
   last-bound : (k : ℕ) → k ≤ n → cursorBefore htr fnsq z k ≤ 49
   last-bound zero h = unfold cursorBefore in zero-le

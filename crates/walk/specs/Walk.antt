@@ -1,7 +1,8 @@
 -- A walk: reads of the heights z 0, z 1 .. in turn, each on from the cursor that the one before left, the first from 0.
 use mathlib.Core.Bool.{_||_}
 use mathlib.Core.List.{List}
-use Prim.Native.Nat.{ℕ, zero, suc, _+_, _-_, _<_}
+use mathlib.Core.Path.{_≡_}
+use Prim.Native.Nat.{ℕ, zero, suc, _+_, _-_, _<_, _≤_}
 use lib.Dec.{T}
 use lib.Ieee.{Float, binary32, fits, isNan}
 use Rattle.scalar.specs.F32.{_<f_, _≤f_, at}
@@ -37,6 +38,10 @@ scannedRead htr fnsq zi = record { reading = readingOf htr fnsq zi; cursor = cou
 -- the cursor's moves over the first n reads: the sum of its distances from before to after
 abbrev pub distance : ℕ → ℕ → ℕ
 distance a b = (a - b) + (b - a)
+
+-- what `distance-rule` says: the lesser and the distance are the greater, both ways; so a move back counts as a move on does
+abbrev pub DistanceRule : Type 0
+DistanceRule = (a b : ℕ) → (a ≤ b → a + distance a b ≡ b) × (b ≤ a → b + distance a b ≡ a)
 
 unfoldable pub movesOf : List Float → List Float → (ℕ → Float) → ℕ → ℕ
 movesOf htr fnsq z zero = 0

@@ -40,7 +40,8 @@ fn compare(name: &'static str, cases: u64, seed: u64, case: Case) -> Verdict {
 }
 
 type Read = fn(&[u8], &mut [u32]) -> u32;
-type Write = fn(&[u32], &mut [u8]) -> u32;
+/// The number answered, and the word that has the length, where one is lent.
+type Write = fn(&[u32], &mut [u8]) -> (u32, Option<u32>);
 
 fn old_read(r: &mut Random) -> (u32, Option<String>) {
     let file = files::any(r);
@@ -95,7 +96,11 @@ fn old_write(r: &mut Random) -> (u32, Option<String>) {
     let mut given = files::circuit(r).to_words();
     spoil(r, &mut given);
     let file = Circuit::of_words(&padded(&given)).map(|c| c.written());
-    write_case(r, &given, circuit::WORDS, file, ours::port_write)
+    write_case(r, &given, circuit::WORDS, file, |words, file| {
+        let mut length = [MARK];
+        let number = ours::port_write(words, file, &mut length);
+        (number, Some(length[0]))
+    })
 }
 
 fn wide_write(r: &mut Random) -> (u32, Option<String>) {
@@ -106,7 +111,9 @@ fn wide_write(r: &mut Random) -> (u32, Option<String>) {
         given[circuit::WORDS..].fill_with(|| r.word());
     }
     let file = Wide::of_words(&padded(&given)).map(|w| w.written());
-    write_case(r, &given, wide::WORDS, file, ours::port_write128)
+    write_case(r, &given, wide::WORDS, file, |words, file| {
+        (ours::port_write128(words, file), None)
+    })
 }
 
 /// Words that were cut off are looked at by no one.
@@ -129,9 +136,16 @@ fn write_case(
     let mut got = vec![BYTE; length];
     let mut wanted = got.clone();
     wanted[..written.len()].copy_from_slice(&written);
-    let answer = ours(given, &mut got);
+    let (answer, said) = ours(given, &mut got);
+    let wrote = if number == 0 {
+        written.len() as u32
+    } else {
+        MARK
+    };
     let differs = if answer != number {
         Some(format!("answer {answer}, not {number}"))
+    } else if said.is_some_and(|n| n != wrote) {
+        Some(format!("length {said:?}, not {wrote}"))
     } else {
         (0..length)
             .find(|&i| got[i] != wanted[i])
