@@ -245,7 +245,10 @@ impl Counts {
         };
         kind[usize::from(done.answer != 0)] += 1;
         if let Call::Muf(hour) = call {
-            let rows = hour.es.chunks_exact(ES_ROW).zip(done.wrote[0].chunks_exact(ES_ROW));
+            let rows = hour
+                .es
+                .chunks_exact(ES_ROW)
+                .zip(done.wrote[0].chunks_exact(ES_ROW));
             self.records[0] += rows.len() as u64;
             self.records[1] += rows.filter(|(before, after)| before != after).count() as u64;
         }
@@ -302,7 +305,10 @@ fn main() {
     } = counts;
     println!("  MUFs answered {}, refused {}", mufs[0], mufs[1]);
     println!("  sheets answered {}, refused {}", sheets[0], sheets[1]);
-    println!("  nominal MUFs answered {}, refused {}", nominals[0], nominals[1]);
+    println!(
+        "  nominal MUFs answered {}, refused {}",
+        nominals[0], nominals[1]
+    );
     println!("  Es records lent {}, rewritten {}", records[0], records[1]);
     println!("  exact rule off {}, on {}", settings[0], settings[1]);
     finish(&[verdict])
