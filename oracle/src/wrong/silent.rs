@@ -6,6 +6,44 @@ use super::search::{unprinted, Search};
 /// Edits that no sheet can show, by the beginning of their names after the
 /// function's, and why.
 const SILENT: &[(&str, &[&str], &str)] = &[
+    ("muf::ionset", &["> 1 at equals"], NO_F1),
+    ("muf::lecden", &["> 2 at equals", "> 5 ", "1 37 and"], NO_F1),
+    ("muf::curmuf", &["> 1 at equals"], NO_F1),
+    (
+        "muf::lecden",
+        &["max 6 NaN"],
+        "the D-E tail and E are worked out at different heights",
+    ),
+    ("muf::lecden", &["store 53 "], SCANS),
+    ("muf::rises_throughout", &["< 1 never"], SCANS),
+    ("muf::hop_geometry", &["max 1 the second"], ZERO_ANGLE),
+    ("muf::curmuf", &["max 6 the second"], ZERO_ANGLE),
+    ("muf::curmuf", &["0.0 3 ", "0.0 4 "], GIVEN),
+    ("muf::curmuf", &["== 1 never"], "there is one slot"),
+    (
+        "muf::curmuf",
+        &["1000.0 1 "],
+        "a sporadic E of 1,000 MHz and more counts as none",
+    ),
+    (
+        "muf::curmuf",
+        &[
+            "0.9 1 ", "1.1 1 ", "* 30 ", "* 31 ", "max 3 ", "max 4 ", "0.1 4 ", "- 39 ", "0.1 5 ",
+            "- 40 ", "+ 28 ", "+ 29 ", "/ 32 ", "2.0 4 ", "* 60 ", "* 61 ", "- 41 ", "< 7 ",
+            "< 8 ", "min 1 ", "max 7 ", "max 8 ", "max 11 ", "max 12 ",
+        ],
+        "deviations and deciles are not printed",
+    ),
+    (
+        "predict::curmuf",
+        &["check 2 ", "10 1 "],
+        "a file has 576 deciles or none, and a place at each point",
+    ),
+    (
+        "circuit::take",
+        &["< 2 always", "< 2 at equals", "DECILES 1 "],
+        "the end of the chain refuses it too",
+    ),
     (
         "muf::from_layers",
         &["0 1 "],
@@ -151,6 +189,9 @@ const SILENT: &[(&str, &[&str], &str)] = &[
 ];
 
 const NOT_READ: &str = "fsecv is neither read nor printed";
+const NO_F1: &str = "an F1 of zero is none: what is worked out of it is not read, or zero";
+const SCANS: &str = "scans read what the walk reads";
+const ZERO_ANGLE: &str = "neither a cosine nor a difference sees the sign of an angle of zero";
 const FLOOR: &str = "the floor of the factor hides it";
 const GIVEN: &str = "it is given a value before it is read";
 
