@@ -1,11 +1,13 @@
 //! Prepares what the oracle is made of, all of it into OUT_DIR:
 //! the Rust modules as they stand, the same with their elementary functions
-//! routed to ours, and a wrapper for each function that our static libraries
+//! routed to ours, these with wrong edits to choose from, and a wrapper for each function that our static libraries
 //! export.
 
 mod exports;
 mod modules;
 mod routing;
+mod tokens;
+mod wrong;
 
 use std::path::PathBuf;
 use std::{env, fs};
@@ -18,6 +20,7 @@ fn main() {
     write(&out, "perf.rs", &source.perf());
     write(&out, "voacap.rs", &source.native());
     write(&out, "routed.rs", &source.routed());
+    write(&out, "wrong.rs", &source.wrong(&here().join("src")));
     write(&out, "exports.rs", &exports::wrappers(&library_folder()));
 }
 

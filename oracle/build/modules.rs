@@ -1,6 +1,7 @@
 //! The Rust's files, and the two sets of modules made of them.
 
 use crate::routing;
+use crate::wrong::{edited, Edits, Part};
 use std::fs;
 use std::path::Path;
 
@@ -43,6 +44,67 @@ pub fn figure(muf: R) -> String {
     f(muf, 5, 1)
 }
 ";
+
+/// What is edited of each text: the functions whose answers reach a sheet.
+const MUF: Part = Part {
+    name: "muf",
+    functions: &[
+        "from_layers",
+        "ionset",
+        "lecden",
+        "profile_interpolate",
+        "rising_interpolate",
+        "rises_throughout",
+        "bendy",
+        "pen",
+        "gethp_densities",
+        "gethp",
+        "hop_geometry",
+        "curmuf",
+    ],
+    numbers: &[
+        "D2R", "R2D", "PIO2", "RZ", "TWDIV", "XNPL", "FQDEL", "AE", "A1", "A2", "DZF", "BEX",
+    ],
+    wholes: &["NPL", "NFQ"],
+    tables: &[("XT", 20), ("WT", 20)],
+    floats: true,
+};
+const IONOGRAM: Part = Part {
+    name: "ionogram",
+    functions: &["genion", "alosfv"],
+    numbers: &[],
+    wholes: &[],
+    tables: &[("HTE", 10), ("HPE", 10)],
+    floats: true,
+};
+const XLIN: Part = Part {
+    name: "sigdis",
+    functions: &["xlin"],
+    numbers: &[],
+    wholes: &[],
+    tables: &[],
+    floats: true,
+};
+
+/// The oracle's own reading of the paper.
+const fn own(name: &'static str, functions: &'static [&'static str]) -> Part {
+    Part {
+        name,
+        functions,
+        numbers: &[],
+        wholes: &["RECORD", "DECILES"],
+        tables: &[],
+        floats: false,
+    }
+}
+const CIRCUIT: Part = own("circuit", &["read", "first_record", "take", "complete"]);
+const PREDICT: Part = own(
+    "predict",
+    &["sang", "domain", "time_block", "hops", "curmuf"],
+);
+const MARKS: Part = own("marks", &["mark", "makes"]);
+const PROGRAMS: Part = own("programs", &["sheet_of", "slots", "hour"]);
+const WHOLE: Part = own("", &[]);
 
 impl Source {
     /// Reads the files below `folder`; cuts the items that are needed out of
@@ -92,18 +154,61 @@ impl Source {
         [
             "pub use crate::voacap::{con, ionosphere};\n".to_string(),
             module("sigdis", &with_r(&xlin)),
-            module(
-                "muf",
-                &(muf + "\nuse crate::routing::{Elementary, Order};\n" + REACH),
-            ),
-            module(
-                "ionogram",
-                &(ionogram + "\nuse crate::routing::{Elementary, Order};\n"),
-            ),
+            module("muf", &(muf + ROUTES + REACH)),
+            module("ionogram", &(ionogram + ROUTES)),
         ]
         .concat()
     }
+
+    /// The routed modules and the oracle's own, with wrong edits to choose from,
+    /// and the list of these.
+    pub fn wrong(&self, own: &Path) -> String {
+        let mut edits = Edits::default();
+        let mut rust = |name: &str, text: &str, part: &Part| {
+            edited(&routing::routed(name, text), part, &mut edits)
+        };
+        let muf = rust("muf.rs", &self.muf, &MUF) + REACH;
+        let ionogram = rust("ionogram.rs", &self.ionogram, &IONOGRAM);
+        let xlin = rust("sigdis.rs", &self.xlin, &XLIN);
+        let mut text = [
+            "pub use crate::voacap::{con, ionosphere};\n".to_string(),
+            module("sigdis", &(with_r(&xlin) + METHODS)),
+            module("muf", &(muf + METHODS + ROUTES)),
+            module("ionogram", &(ionogram + METHODS + ROUTES)),
+            "mod noted { pub use super::routing::*; }\n".to_string(),
+        ]
+        .concat();
+        let parts = [
+            ("circuit", CIRCUIT),
+            ("predict", PREDICT),
+            ("marks", MARKS),
+            ("programs", PROGRAMS),
+            ("wide", WHOLE),
+            ("routing", WHOLE),
+            ("side", WHOLE),
+        ];
+        for (name, part) in &parts {
+            let whole = read(&own.join(format!("{name}.rs")));
+            let body = whole.split("#[cfg(test)]").next().unwrap();
+            text += &module(name, &(edited(body, part, &mut edits) + METHODS));
+        }
+        for (name, _) in &parts {
+            text = text.replace(
+                &format!("crate::{name}"),
+                &format!("crate::wrong::made::{name}"),
+            );
+        }
+        text = text.replace("crate::routed::", "crate::wrong::made::");
+        let list: String = edits.list.iter().map(|e| format!("    {e:?},\n")).collect();
+        text + &format!("/// Function, and what is wrong in it.\npub const EDITS: &[(&str, &str)] = &[\n{list}];\n")
+    }
 }
+
+/// Where routed methods come from.
+const ROUTES: &str = "\nuse crate::routing::{Elementary, Order};\n";
+
+/// Where wrong methods come from.
+const METHODS: &str = "\nuse crate::wrong::Methods;\n";
 
 fn read(path: &Path) -> String {
     println!("cargo:rerun-if-changed={}", path.display());

@@ -21,5 +21,6 @@ pub mod traces;
 pub mod voacap;
 pub mod wide;
 pub mod words;
+pub mod wrong;
 
 include!(concat!(env!("OUT_DIR"), "/perf.rs"));

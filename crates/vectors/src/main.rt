@@ -1,5 +1,5 @@
 // Replays stored hours: circuit files, and what the sheet of each is by the paper and the Rust. The list on
-// standard input is written by the oracle's program `vectors` (oracle/README.md), again whenever an elementary
+// standard input is written by the oracle's program `wrong` (oracle/README.md), again whenever an elementary
 // function changes its answers. An hour is two lengths of two bytes, of the file and of the text, then both.
 ghost use Prim.Native.Nat.{_≤_};
 use sheet_text::INPUT;

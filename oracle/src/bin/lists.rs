@@ -1,7 +1,7 @@
 //! Lists of calls on one state, each given the state that the one before
-//! returned, against the same calls alone on what `ionset` answered: answers,
-//! lent words, slots, profile and all else, as the paper's demand on lists
-//! says.
+//! returned, against the same calls alone on what `ionset` answered, ours and the
+//! routed Rust's: answers, lent words, Es records, slots, profile and all else, as
+//! the paper's demand on lists says.
 //!
 //! lists [CASES] [SEED]: 10^5 lists by default.
 
@@ -23,10 +23,11 @@ enum Call {
     Nominal(Nominal),
 }
 
-/// A call's answer, what it wrote, and the state that it returned.
+/// A call's answer, what it wrote, and the state that it returned. What is
+/// written is two lists: Es records and the hour, or cells and the slot's sheet.
 struct Done {
     answer: u32,
-    wrote: Vec<u32>,
+    wrote: [Vec<u32>; 2],
     state: State,
 }
 
@@ -48,7 +49,7 @@ impl Call {
                     &hour.numbers,
                     &mut out,
                 );
-                (answer, [es, out].concat())
+                (answer, [es, out])
             }
             Call::Sheet {
                 k,
@@ -58,12 +59,12 @@ impl Call {
             } => {
                 let (mut cells, mut out) = (vec![MARK; *lent], vec![MARK; SHEET]);
                 let answer = ours::port_sheet(&mut state, *k, *nang, layers, &mut cells, &mut out);
-                (answer, [cells, out].concat())
+                (answer, [cells, out])
             }
             Call::Nominal(n) => {
                 let mut out = vec![MARK; HOUR];
                 let answer = ours::port_nommuf(&n.points, &n.f2m3, &n.es, &n.numbers, &mut out);
-                (answer, out)
+                (answer, [Vec::new(), out])
             }
         };
         Done {
@@ -71,6 +72,68 @@ impl Call {
             wrote,
             state,
         }
+    }
+
+    /// The same by the routed Rust, the refusals by the paper.
+    fn by_the_rust(&self, state: &State) -> Done {
+        let answered = match self {
+            Call::Muf(hour) => predict::curmuf(state, hour).map(|()| {
+                let (after, es, out) = side::curmuf(state, hour);
+                ([es, out], after)
+            }),
+            Call::Sheet {
+                k,
+                nang,
+                layers,
+                lent,
+            } => predict::slot(&[*k])
+                .and_then(|()| predict::cells(*nang, *lent))
+                .map(|()| {
+                    let (k, nang) = (*k as usize, *nang as usize);
+                    let (after, rows, cells) = side::sheet(state, k, nang, layers);
+                    ([cells, [rows, side::marks(state, k)].concat()], after)
+                }),
+            Call::Nominal(n) => {
+                predict::nommuf(n).map(|()| ([Vec::new(), side::nommuf(n)], *state))
+            }
+        };
+        match answered {
+            Ok((wrote, state)) => Done {
+                answer: 0,
+                wrote,
+                state,
+            },
+            Err(answer) => Done {
+                answer,
+                wrote: self.lent(),
+                state: *state,
+            },
+        }
+    }
+
+    /// What is lent, as it is before the call.
+    fn lent(&self) -> [Vec<u32>; 2] {
+        match self {
+            Call::Muf(hour) => [hour.es.clone(), vec![MARK; HOUR]],
+            Call::Sheet { lent, .. } => [vec![MARK; *lent], vec![MARK; SHEET]],
+            Call::Nominal(_) => [Vec::new(), vec![MARK; HOUR]],
+        }
+    }
+
+    /// Which of the words written are floats.
+    fn floats(&self) -> [Floats; 2] {
+        match self {
+            // of an Es record only the lower decile is ever written
+            Call::Muf(_) => [|i| i % ES_ROW == 0, hour_floats],
+            Call::Sheet { .. } => [no_floats, row_floats],
+            Call::Nominal(_) => [no_floats, hour_floats],
+        }
+    }
+
+    fn same(&self, a: &Done, b: &Done) -> bool {
+        let floats = self.floats();
+        let wrote = |i: usize| difference(&a.wrote[i], &b.wrote[i], floats[i]).is_none();
+        a.answer == b.answer && wrote(0) && wrote(1)
     }
 
     /// The slot that this is the own call of: an answered sheet's, or the
@@ -169,6 +232,8 @@ struct Counts {
     nominals: [u64; 2],
     /// Lists with the switch of the exact height rule off, and on.
     settings: [u64; 2],
+    /// Es records that a MUF was lent, and those of them that it rewrote.
+    records: [u64; 2],
 }
 
 impl Counts {
@@ -179,6 +244,14 @@ impl Counts {
             Call::Nominal(_) => &mut self.nominals,
         };
         kind[usize::from(done.answer != 0)] += 1;
+        if let Call::Muf(hour) = call {
+            let rows = hour
+                .es
+                .chunks_exact(ES_ROW)
+                .zip(done.wrote[0].chunks_exact(ES_ROW));
+            self.records[0] += rows.len() as u64;
+            self.records[1] += rows.filter(|(before, after)| before != after).count() as u64;
+        }
     }
 }
 
@@ -187,18 +260,22 @@ fn case(r: &mut Random, counts: &mut Counts) -> Option<String> {
     let list = calls(r, &first);
     counts.settings[usize::from(first[EXACT] != 0)] += 1;
     let alone: Vec<Done> = list.iter().map(|c| c.on(&first)).collect();
-    for (call, done) in list.iter().zip(&alone) {
+    let rust: Vec<Done> = list.iter().map(|c| c.by_the_rust(&first)).collect();
+    for (call, done) in list.iter().zip(&rust) {
         counts.add(call, done);
     }
     let mut state = first;
-    for (n, (call, wanted)) in list.iter().zip(&alone).enumerate() {
+    for (n, call) in list.iter().enumerate() {
         let done = call.on(&state);
         state = done.state;
-        if done.answer != wanted.answer || done.wrote != wanted.wrote {
+        if !call.same(&done, &alone[n]) {
             return Some(format!("call {n} is not as alone\n    {}", hex(&first)));
         }
+        if !call.same(&done, &rust[n]) {
+            return Some(format!("call {n} is not the Rust's\n    {}", hex(&first)));
+        }
     }
-    let wanted = state_after(&first, &list, &alone);
+    let wanted = state_after(&first, &list, &rust);
     difference(&state, &wanted, state_floats).map(|i| {
         format!(
             "state word {i} after {} calls\n    {}",
@@ -224,10 +301,15 @@ fn main() {
         sheets,
         nominals,
         settings,
+        records,
     } = counts;
     println!("  MUFs answered {}, refused {}", mufs[0], mufs[1]);
     println!("  sheets answered {}, refused {}", sheets[0], sheets[1]);
-    println!("  nominal MUFs answered {}, refused {}", nominals[0], nominals[1]);
+    println!(
+        "  nominal MUFs answered {}, refused {}",
+        nominals[0], nominals[1]
+    );
+    println!("  Es records lent {}, rewritten {}", records[0], records[1]);
     println!("  exact rule off {}, on {}", settings[0], settings[1]);
     finish(&[verdict])
 }

@@ -1,0 +1,225 @@
+//! Why an edit is not told.
+
+use super::name;
+use super::search::{unprinted, Search};
+
+/// Edits that no sheet can show, by the beginning of their names after the
+/// function's, and why.
+const SILENT: &[(&str, &[&str], &str)] = &[
+    ("muf::ionset", &["> 1 at equals"], NO_F1),
+    ("muf::lecden", &["> 2 at equals", "> 5 ", "1 37 and"], NO_F1),
+    ("muf::curmuf", &["> 1 at equals"], NO_F1),
+    (
+        "muf::lecden",
+        &["max 6 NaN"],
+        "the D-E tail and E are worked out at different heights",
+    ),
+    ("muf::lecden", &["store 53 "], SCANS),
+    ("muf::rises_throughout", &["< 1 never"], SCANS),
+    ("muf::hop_geometry", &["max 1 the second"], ZERO_ANGLE),
+    ("muf::curmuf", &["max 6 the second"], ZERO_ANGLE),
+    ("muf::curmuf", &["0.0 3 ", "0.0 4 "], GIVEN),
+    ("muf::curmuf", &["== 1 never"], "there is one slot"),
+    (
+        "muf::curmuf",
+        &["1000.0 1 "],
+        "a sporadic E of 1,000 MHz and more counts as none",
+    ),
+    (
+        "muf::curmuf",
+        &[
+            "0.9 1 ", "1.1 1 ", "* 30 ", "* 31 ", "max 3 ", "max 4 ", "0.1 4 ", "- 39 ", "0.1 5 ",
+            "- 40 ", "+ 28 ", "+ 29 ", "/ 32 ", "2.0 4 ", "* 60 ", "* 61 ", "- 41 ", "< 7 ",
+            "< 8 ", "min 1 ", "max 7 ", "max 8 ", "max 11 ", "max 12 ",
+        ],
+        "deviations and deciles are not printed",
+    ),
+    (
+        "predict::curmuf",
+        &["check 2 ", "10 1 "],
+        "a file has 576 deciles or none, and a place at each point",
+    ),
+    (
+        "circuit::take",
+        &["< 2 always", "< 2 at equals", "DECILES 1 "],
+        "the end of the chain refuses it too",
+    ),
+    (
+        "muf::from_layers",
+        &["0 1 "],
+        "ionset sets the number of slots",
+    ),
+    (
+        "muf::from_layers",
+        &["0.0 4 ", "0.0 5 ", "false 1 "],
+        "lecden writes the profile before it is read",
+    ),
+    ("muf::from_layers", &["0.0 6 "], NOT_READ),
+    (
+        "muf::ionset",
+        &["store 29 ", "store 30 ", "0.0 2 ", "0.0 3 "],
+        "height and thickness of an F1 that is not there are not read",
+    ),
+    (
+        "muf::lecden",
+        &["0.0 1 ", "> 1 always", "> 1 at equals", "> 1 at NaN"],
+        "the valley's slope is read only where it has a height",
+    ),
+    (
+        "muf::lecden",
+        &["false 1 ", "0.0 2 ", "0.0 3 ", "0.0 4 "],
+        GIVEN,
+    ),
+    (
+        "muf::lecden",
+        &["store 4 ", "store 11 "],
+        "the flag is down already",
+    ),
+    (
+        "muf::lecden",
+        &[
+            "store 6 ",
+            "minus 1 ",
+            "1.0 8 ",
+            "store 13 ",
+            "minus 2 ",
+            "1.0 11 ",
+            "store 15 ",
+            "sqrt 4 ",
+        ],
+        NOT_READ,
+    ),
+    (
+        "muf::lecden",
+        &["store 34 "],
+        "the bottom of F2 is that already",
+    ),
+    (
+        "muf::lecden",
+        &[
+            "< 4 never",
+            "< 4 at NaN",
+            "store 47 ",
+            "* 27 ",
+            "* 28 ",
+            "* 29 ",
+            "- 51 ",
+            "exp 2 ",
+        ],
+        "the test around it excludes the case",
+    ),
+    (
+        "muf::lecden",
+        &[
+            "max 6 the second",
+            "max 7 the second",
+            "max 8 the second",
+            "max 9 the second",
+        ],
+        "the sign of a density of zero reaches no row",
+    ),
+    ("muf::gethp_densities", &["0.0 1 "], GIVEN),
+    (
+        "muf::gethp",
+        &["> 1 ", "0 5 ", "0 6 ", "+ 1 ", "+ 2 "],
+        "the programs run with the exact height rule off",
+    ),
+    (
+        "muf::gethp",
+        &["* 3 is /", "* 3 taken first"],
+        "it is times one",
+    ),
+    ("muf::gethp", &["0.0 1 "], GIVEN),
+    (
+        "muf::curmuf",
+        &["as i32 1 ", "as i32 2 ", "as i32 3 ", "as i32 5 "],
+        "a count of hops is whole",
+    ),
+    (
+        "muf::curmuf",
+        &["0.0 1 ", "0.0 8 ", "0.0 9 ", "0.0 10 "],
+        GIVEN,
+    ),
+    ("muf::curmuf", &["store 22 "], "the line is zeros already"),
+    (
+        "ionogram::genion",
+        &["0.0 1 ", "0.0 2 ", "0.0 3 ", "0.0 4 "],
+        GIVEN,
+    ),
+    ("ionogram::alosfv", &["0.0 6 "], GIVEN),
+    (
+        "ionogram::alosfv",
+        &[
+            "store 1 ",
+            "store 5 ",
+            "store 6 ",
+            "store 9 ",
+            "store 10 ",
+            "store 15 ",
+            "store 16 ",
+        ],
+        "the factor is zero already",
+    ),
+    (
+        "ionogram::alosfv",
+        &[
+            "12 3 and", "12 4 and", "12 7 and", "12 8 and", "22 3 and", "22 4 and",
+        ],
+        "the cusp's last row is zero before and after",
+    ),
+    (
+        "ionogram::alosfv",
+        &[
+            "10.0 3 ",
+            "10.0 5 ",
+            "10.0 8 ",
+            "max 4 left",
+            "max 4 NaN",
+            "max 8 left",
+            "max 8 NaN",
+        ],
+        FLOOR,
+    ),
+    ("ionogram::alosfv", &["max 14 left", "max 14 NaN"], FLOOR),
+    (
+        "circuit::read",
+        &["128 1 less 1", "4096 1 and 1"],
+        "not a multiple of a record's length",
+    ),
+];
+
+const NOT_READ: &str = "fsecv is neither read nor printed";
+const NO_F1: &str = "an F1 of zero is none: what is worked out of it is not read, or zero";
+const SCANS: &str = "scans read what the walk reads";
+const ZERO_ANGLE: &str = "neither a cosine nor a difference sees the sign of an angle of zero";
+const FLOOR: &str = "the floor of the factor hides it";
+const GIVEN: &str = "it is given a value before it is read";
+
+/// Why no sheet can show an edit, if none can.
+pub fn why(edit: usize) -> Option<&'static str> {
+    let name = name(edit);
+    let (function, what) = name.split_once(": ").unwrap();
+    let is = |begins: &[&str]| begins.iter().any(|b| what.starts_with(b));
+    let found = SILENT
+        .iter()
+        .find(|(f, begins, _)| *f == function && is(begins));
+    found.map(|(_, _, why)| *why)
+}
+
+pub fn reason(edit: usize, search: &Search) -> String {
+    if let Some(why) = why(edit) {
+        return format!("can't show: {why}");
+    }
+    let (tried, halted) = (search.tried[edit], search.halted[edit]);
+    if tried == 0 {
+        return "make no difference where they stand, in any hour".to_string();
+    }
+    if tried == halted {
+        return "leave their array, or do not end".to_string();
+    }
+    if search.kept.iter().any(|file| unprinted(file, edit)) {
+        "show in answers that the sheet doesn't print".to_string()
+    } else {
+        "are not told".to_string()
+    }
+}
