@@ -1,0 +1,5 @@
+-- That the test of a cell suffices.
+pub mod Near
+pub mod Chain
+pub mod Steps
+pub mod Test

@@ -1,0 +1,2 @@
+-- A cell of the reflectrix by its test.
+pub mod Cell

@@ -1,0 +1,1 @@
+// A cell of the reflectrix, guessed and tested.
