@@ -3,3 +3,5 @@ pub mod Near
 pub mod Chain
 pub mod Steps
 pub mod Test
+pub mod Cosine
+mod Numbers

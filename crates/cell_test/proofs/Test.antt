@@ -219,3 +219,46 @@ module _ (fvv s : Float) (f : Sized fvv (2 ^ 139) (2 ^ 159)) (c : Sized s (2 ^ 1
         let test = ordered ((f1000 *f fvv) *f (f1000 *f fvv) *f ofBits binary32 0x3f800007) (x *f x *f s) (g .X) (b .X) (g .is) (b .is) (bound-pos C (g .X) (lit≤ tt) (g .within) (lit≤ tt)) B-pos t in
         chain.below L 16777216 16777215 16777217 C n S F W K (g .X) A (b .X) (root .doubled) R Q P (lit< tt)
         (p .within .high) (q .within .high) (root .rounded .within .low) (root .is .low) (a .within .high) (b .within .high) (g .within .low) (k .within .low) (w .within .low) test (mul-pos (mul-pos n-pos (pow-pos 149)) R-pos) (lit< tt)
+
+-- ---- the test
+at-most-nan : (x : Float) → T (le x nan) → ⊥
+unfolding le
+at-most-nan nan h = h
+at-most-nan (inf s) h = h
+at-most-nan (fin s m e) h = h
+
+tame-size : (fvv : Float) → T (fits binary32 fvv) → T (tame fvv) → Sized fvv (2 ^ 139) (2 ^ 159)
+unfolding tame
+tame-size fvv f t =
+    let a = ofBits binary32 0x3a800000 in
+    let b = ofBits binary32 0x44800000 in
+    sized a fvv b (2 ^ 139) (2 ^ 159) f least-mhz most-mhz (pow-pos 139) (pow-pos 159) (and-l (le a fvv) (le fvv b) t) (and-r (le a fvv) (le fvv b) t)
+
+cosine-size : (s : Float) → T (fits binary32 s) → T (f0·000001 ≤f s) → T (s ≤f f1) → Sized s (2 ^ 129) (2 ^ 149)
+cosine-size s f l m =
+    let z = sized f0·000001 s f1 (8796093 * 2 ^ 106) (2 ^ 149) f millionth one (lit< tt) (pow-pos 149) l m in
+    record { size = z .size; is = z .is; least = le-trans (lit≤ {n = 8796093 * 2 ^ 106} tt) (z .least); most = z .most }
+
+pub told : (fvv s : Float) (n : ℕ) → T (fits binary32 fvv) → T (fits binary32 s) → T (f0·000001 ≤f s) → T (s ≤f f1) → n < 4194304
+    → T (ofInt binary32 (pos n) *f ofInt binary32 (pos n) *f s ≤f lowOf fvv) → T (highOf fvv ≤f ofInt binary32 (pos (n + 1)) *f ofInt binary32 (pos (n + 1)) *f s) → khzOf fvv s ≡ pos n
+unfolding khzOf lowOf highOf squareOf
+told fvv s n f g a b l below-high above-low = go (tame fvv) (tame-size fvv f) below-high
+  where
+    c : Sized s (2 ^ 129) (2 ^ 149)
+    c = cosine-size s g a b
+
+    low-end : (z : Sized fvv (2 ^ 139) (2 ^ 159)) (n : ℕ) → n < 4194304 → T (ofInt binary32 (pos n) *f ofInt binary32 (pos n) *f s ≤f ((f1000 *f fvv) *f (f1000 *f fvv) *f ofBits binary32 0x3f7ffff2)) → n * L ≤ P fvv s z c
+    low-end z zero l t = le-trans (le-of-eq (zero-mul L)) zero-le
+    low-end z (suc n) l t = not-above fvv s z c (suc n) (zero-lt-suc n) (le-of-lt l) t
+
+    go : (t : Bool) → (T t → Sized fvv (2 ^ 139) (2 ^ 159)) → T (ofInt binary32 (pos n) *f ofInt binary32 (pos n) *f s ≤f cond t ((f1000 *f fvv) *f (f1000 *f fvv) *f ofBits binary32 0x3f7ffff2) nan)
+        → truncOf (f1000 *f (fvv /f sqrtOf s)) ≡ pos n
+    go false z t = absurd (at-most-nan (ofInt binary32 (pos n) *f ofInt binary32 (pos n) *f s) t)
+    go true z t =
+        let y = z tt in
+        cut (f1000 *f (fvv /f sqrtOf s)) (P fvv s y c) n (p fvv s y c .is) (low-end y n l t)
+        (subst (λ (m : ℕ). P fvv s y c < m * L) (native.Mathlib.Numerals.add-one n) (below fvv s y c (n + 1) (subst (λ (m : ℕ). 0 < m) (sym (native.Mathlib.Numerals.add-one n)) (zero-lt-suc n)) (up-to n l) above-low))
+        (le-trans (le-of-lt l) (lit≤ tt))
+      where
+        up-to : (n : ℕ) → n < 4194304 → n + 1 ≤ 4194304
+        up-to n l = omega arith

@@ -4,9 +4,9 @@ use mathlib.Core.Bool.{Bool, _&&_, cond}
 use Prim.Native.Nat.{ℕ, _≤_, _<_}
 use lib.IntN.{ℤ, pos}
 use lib.Ieee.{Float, nan, binary32, ofBits}
-use Rattle.scalar.specs.F32.{_*f_, _/f_, _≤f_}
-use Rattle.scalar.specs.Literals.{f1000}
-use Rattle.scalar.specs.Scalar.{truncOf}
+use Rattle.scalar.specs.F32.{_-f_, _*f_, _/f_, _≤f_}
+use Rattle.scalar.specs.Literals.{f0·000001, f1, f1000}
+use Rattle.scalar.specs.Scalar.{maxOf, truncOf}
 use Rattle.scalar.specs.Root.{sqrtOf}
 
 -- what the reflectrix holds: the frequency over the cosine, in kHz, cut to a whole number
@@ -33,3 +33,7 @@ highOf fvv = squareOf fvv *f ofBits binary32 0x3f800007
 pub record Told (fvv sqcos : Float) (r : ℕ) : Type 0 where
   pub most : r ≤ 4194304
   pub right : r < 4194304 → khzOf fvv sqcos ≡ pos r
+
+-- the square of the cosine at the layer, from the sine there, cut at a millionth
+unfoldable pub sqcosOf : Float → Float
+sqcosOf sphe = maxOf (f1 -f sphe *f sphe) f0·000001
