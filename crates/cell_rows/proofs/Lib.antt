@@ -1,0 +1,2 @@
+-- The turns of the loop over an angle's cells.
+mod Turns
