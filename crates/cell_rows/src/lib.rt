@@ -2,10 +2,12 @@
 // so that four places are worked out at once.
 ghost use mathlib.Core.Path.{_≡_};
 ghost use mathlib.Core.List.{map};
-ghost use lib.ListN.{length, take};
+ghost use Prim.Native.Nat.{ℕ, _+_, _≤_, _<_};
+ghost use lib.ListN.{length, take, getD};
 ghost use denote.Ref.{now};
-ghost use Rattle.cell_test.specs.Cell.{lowOf, highOf};
-ghost use Rattle.cell_rows.specs.Row.{RowTold};
+ghost use Rattle.scalar.specs.F32.{_/f_, at};
+ghost use Rattle.cell_test.specs.Cell.{khzOf, sqcosOf, lowOf, highOf, Told};
+ghost use Rattle.cell_rows.specs.Row.{RowTold, rowOf, storedOf};
 
 // Thirty numbers, and two zeros.
 pub fn padded(x: [f32; 30]) -> [f32; 32]
@@ -43,7 +45,7 @@ pub fn highs(fv: [f32; 32]) -> [f32; 32]
 }
 
 // The cells for an angle, 2^22 where one is in doubt, and how many are.
-pub fn row(
+fn row(
     fv: &[f32; 32],
     radii: &[f32; 32],
     low: &[f32; 32],
@@ -62,4 +64,59 @@ pub fn row(
         doubts += r / 0x40_0000;
     }
     doubts
+}
+
+// The cell that was told, and worked out where it is in doubt.
+fn mended(told: u32, fvv: f32, sqcos: f32) -> i32
+    requires { ⌜ Told fvv sqcos told ⌝ }
+    ensures { λ r. ⌜ r ≡ khzOf fvv sqcos ⌝ }
+{
+    if told < 0x40_0000 {
+        return told as i32;
+    }
+    cell_test::khz(fvv, sqcos)
+}
+
+// The thirty cells, none of them in doubt.
+fn store(out: &[u32; 32], from: usize, cells: &mut [i32])
+    requires { ⌜ (from + 30 ≤ length (now cells)) × ((i : ℕ) → i < 32 → getD (now out) i 0 < 4194304) ⌝ }
+    ensures { λ _. ⌜ now (cells .exit) ≡ storedOf (now (out .entry)) from (now (cells .entry)) 30 ⌝ }
+{
+    for i in 0..30 {
+        cells[from + i] = out[i] as i32;
+    }
+}
+
+// And where some are.
+fn mend(fv: &[f32; 32], radii: &[f32; 32], rcosd: f32, out: &[u32; 32], from: usize, cells: &mut [i32])
+    requires { ⌜ (from + 30 ≤ length (now cells)) × ((i : ℕ) → i < 32 → Told (at (now fv) i) (sqcosOf (rcosd /f at (now radii) i)) (getD (now out) i 0)) ⌝ }
+    ensures { λ _. ⌜ now (cells .exit) ≡ rowOf (now (fv .entry)) (now (radii .entry)) rcosd from (now (cells .entry)) 30 ⌝ }
+{
+    for i in 0..30 {
+        let sqcos = cell_test::squared_cosine(rcosd / radii[i]);
+        let c = mended(out[i], fv[i], sqcos);
+        cells[from + i] = c;
+    }
+}
+
+// The thirty cells of an angle, from the cell `from` on.
+pub fn angle_cells(
+    fv: &[f32; 32],
+    radii: &[f32; 32],
+    low: &[f32; 32],
+    high: &[f32; 32],
+    rcosd: f32,
+    from: usize,
+    cells: &mut [i32],
+)
+    requires { ⌜ (from + 30 ≤ length (now cells)) × (now low ≡ map lowOf (now fv)) × (now high ≡ map highOf (now fv)) ⌝ }
+    ensures { λ _. ⌜ now (cells .exit) ≡ rowOf (now (fv .entry)) (now (radii .entry)) rcosd from (now (cells .entry)) 30 ⌝ }
+{
+    let mut out = [0u32; 32];
+    let doubts = row(fv, radii, low, high, rcosd, &mut out);
+    if doubts == 0 {
+        store(&out, from, cells);
+        return;
+    }
+    mend(fv, radii, rcosd, &out, from, cells);
 }

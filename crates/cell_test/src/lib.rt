@@ -5,7 +5,7 @@ ghost use Prim.Native.Nat.{_<_};
 ghost use lib.Dec.{T};
 ghost use Rattle.scalar.specs.F32.{_≤f_};
 ghost use Rattle.scalar.specs.Literals.{f0·000001, f1};
-ghost use Rattle.cell_test.specs.Cell.{sqcosOf, tame, lowOf, highOf, Told};
+ghost use Rattle.cell_test.specs.Cell.{khzOf, sqcosOf, tame, lowOf, highOf, Told};
 
 // The square of the cosine at the layer, from the sine there.
 pub fn squared_cosine(sphe: f32) -> f32
@@ -16,6 +16,15 @@ pub fn squared_cosine(sphe: f32) -> f32
         return sqcos;
     }
     0.000001
+}
+
+// The cell itself, with a root and a division.
+pub fn khz(fvv: f32, sqcos: f32) -> i32
+    ensures { λ r. ⌜ r ≡ khzOf fvv sqcos ⌝ }
+{
+    let cphe = scalar::sqrt(sqcos);
+    let freq = fvv / cphe;
+    scalar::trunc(1000.0 * freq)
 }
 
 // A frequency at which the test can be trusted.
