@@ -1,7 +1,7 @@
 -- The cells of one angle, guessed together: thirty rows and two to spare. Definitions only.
 use mathlib.Core.Path.{_≡_}
 use mathlib.Core.List.{List}
-use Prim.Native.Nat.{ℕ, zero, suc, _+_, _<_}
+use Prim.Native.Nat.{ℕ, zero, suc, _+_, _*_, _<_}
 use lib.IntN.{ℤ, pos}
 use lib.ListN.{getD, set}
 use lib.Ieee.{Float}
@@ -22,3 +22,8 @@ rowOf fv radii rcosd from cells (suc n) = set (rowOf fv radii rcosd from cells n
 unfoldable pub storedOf : List ℕ → ℕ → List ℤ → ℕ → List ℤ
 storedOf out from cells zero = cells
 storedOf out from cells (suc n) = set (storedOf out from cells n) (from + n) (pos (getD out n 0))
+
+-- thirty cells for each of n angles
+unfoldable pub scanOf : List Float → List Float → List Float → List ℤ → ℕ → List ℤ
+scanOf rcosds fv radii cells zero = cells
+scanOf rcosds fv radii cells (suc n) = rowOf fv radii (at rcosds n) (30 * n) (scanOf rcosds fv radii cells n) 30

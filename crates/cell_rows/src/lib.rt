@@ -2,12 +2,12 @@
 // so that four places are worked out at once.
 ghost use mathlib.Core.Path.{_≡_};
 ghost use mathlib.Core.List.{map};
-ghost use Prim.Native.Nat.{ℕ, _+_, _≤_, _<_};
+ghost use Prim.Native.Nat.{ℕ, _+_, _*_, _≤_, _<_};
 ghost use lib.ListN.{length, take, getD};
 ghost use denote.Ref.{now};
 ghost use Rattle.scalar.specs.F32.{_/f_, at};
 ghost use Rattle.cell_test.specs.Cell.{khzOf, sqcosOf, lowOf, highOf, Told};
-ghost use Rattle.cell_rows.specs.Row.{RowTold, rowOf, storedOf};
+ghost use Rattle.cell_rows.specs.Row.{RowTold, rowOf, storedOf, scanOf};
 
 // Thirty numbers, and two zeros.
 pub fn padded(x: [f32; 30]) -> [f32; 32]
@@ -100,7 +100,7 @@ fn mend(fv: &[f32; 32], radii: &[f32; 32], rcosd: f32, out: &[u32; 32], from: us
 }
 
 // The thirty cells of an angle, from the cell `from` on.
-pub fn angle_cells(
+fn angle_cells(
     fv: &[f32; 32],
     radii: &[f32; 32],
     low: &[f32; 32],
@@ -119,4 +119,22 @@ pub fn angle_cells(
         return;
     }
     mend(fv, radii, rcosd, &out, from, cells);
+}
+
+// The cells of the first `nang` angles.
+pub fn scan(
+    rcosds: &[f32; 40],
+    fv: &[f32; 32],
+    radii: &[f32; 32],
+    low: &[f32; 32],
+    high: &[f32; 32],
+    nang: usize,
+    cells: &mut [i32],
+)
+    requires { ⌜ (nang ≤ 40) × (30 * nang ≤ length (now cells)) × (now low ≡ map lowOf (now fv)) × (now high ≡ map highOf (now fv)) ⌝ }
+    ensures { λ _. ⌜ now (cells .exit) ≡ scanOf (now (rcosds .entry)) (now (fv .entry)) (now (radii .entry)) (now (cells .entry)) nang ⌝ }
+{
+    for ia in 0..nang {
+        angle_cells(fv, radii, low, high, rcosds[ia], 30 * ia, cells);
+    }
 }
