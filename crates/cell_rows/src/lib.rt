@@ -9,11 +9,11 @@ ghost use Rattle.scalar.specs.F32.{_/f_, at};
 ghost use Rattle.cell_test.specs.Cell.{khzOf, sqcosOf, lowOf, highOf, Told};
 ghost use Rattle.cell_rows.specs.Row.{RowTold, rowOf, storedOf, scanOf};
 
-// Thirty numbers, and two zeros.
+// Thirty numbers, and two more: as frequency and as height they are in doubt at no angle.
 pub fn padded(x: [f32; 30]) -> [f32; 32]
     ensures { λ r. ⌜ take 30 r ≡ x ⌝ }
 {
-    let mut r = [0.0; 32];
+    let mut r = [0.0123456; 32];
     for i in 0..30 {
         r[i] = x[i];
     }

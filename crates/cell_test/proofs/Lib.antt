@@ -1,7 +1,7 @@
--- That the test of a cell suffices.
-pub mod Near
-pub mod Chain
-pub mod Steps
+-- That the test of a cell suffices, and that the square of the cosine is in its range.
+mod Near
+mod Chain
+mod Steps
 pub mod Test
-pub mod Cosine
+mod Cosine
 mod Numbers

@@ -19,7 +19,8 @@ use Rattle.scalar.specs.F32.{_*f_, _/f_, _≤f_}
 use Rattle.scalar.specs.Literals.{f0·000001, f1, f1000}
 use Rattle.scalar.specs.Root.{sqrtOf}
 use Rattle.scalar.specs.Scalar.{truncOf}
-use Rattle.cell_test.specs.Cell.{khzOf, tame, squareOf, lowOf, highOf}
+use Rattle.cell_test.specs.Cell.{khzOf, tame, squareOf, underOne, overOne, lowOf, highOf}
+use Rattle.cell_test.specs.Laws.{TestSuffices}
 use Rattle.cell_test.proofs.Near.{Within, Rounded, spread}
 use Rattle.cell_test.proofs.Chain as chain
 use Rattle.cell_test.proofs.Steps.{L, Is, product, multiple, whole-square, quotient, Twice, RootOf, root-of, cut, ordered}
@@ -66,11 +67,11 @@ pub most-mhz : Is (ofBits binary32 0x44800000) (2 ^ 159)
 unfolding ofBits
 most-mhz = (refl, refl)
 
-under-one : Is (ofBits binary32 0x3f7ffff2) (16777202 * 2 ^ 125)
+under-one : Is underOne (16777202 * 2 ^ 125)
 unfolding ofBits
 under-one = (refl, refl)
 
-over-one : Is (ofBits binary32 0x3f800007) (16777230 * 2 ^ 125)
+over-one : Is overOne (16777230 * 2 ^ 125)
 unfolding ofBits
 over-one = (refl, refl)
 
@@ -204,19 +205,19 @@ module _ (fvv s : Float) (f : Sized fvv (2 ^ 139) (2 ^ 159)) (c : Sized s (2 ^ 1
     B-pos : 0 < b .X
     B-pos = lt-of-lt-of-le (pow-pos 100) (spread (A * S) L (b .X) (2 ^ 100) (2 ^ 300) (pow-pos 149) (b .within) (le-trans (lit≤ {n = 2 ^ 148 * 2 ^ 129} tt) (mul-le-mul (a-size .0) (c .least))) (le-trans (mul-le-mul (a-size .1) (c .most)) (lit≤ tt)) .0)
 
-    not-above : T (le (x *f x *f s) ((f1000 *f fvv) *f (f1000 *f fvv) *f ofBits binary32 0x3f7ffff2)) → n * L ≤ P
+    not-above : T (le (x *f x *f s) ((f1000 *f fvv) *f (f1000 *f fvv) *f underOne)) → n * L ≤ P
     not-above t =
         let C = 16777202 * 2 ^ 125 in
-        let g = bound (ofBits binary32 0x3f7ffff2) C under-one (lit≤ tt) (lit≤ tt) in
-        let test = ordered (x *f x *f s) ((f1000 *f fvv) *f (f1000 *f fvv) *f ofBits binary32 0x3f7ffff2) (b .X) (g .X) (b .is) (g .is) B-pos (bound-pos C (g .X) (lit≤ tt) (g .within) (lit≤ tt)) t in
+        let g = bound underOne C under-one (lit≤ tt) (lit≤ tt) in
+        let test = ordered (x *f x *f s) ((f1000 *f fvv) *f (f1000 *f fvv) *f underOne) (b .X) (g .X) (b .is) (g .is) B-pos (bound-pos C (g .X) (lit≤ tt) (g .within) (lit≤ tt)) t in
         chain.not-above L 16777216 16777215 16777217 C n S F W K (g .X) A (b .X) (root .doubled) R Q P (lit< tt)
         (p .within .low) (q .within .low) (root .rounded .within .high) (root .is .high) (a .within .low) (b .within .low) (g .within .high) (k .within .high) (w .within .high) test R-pos (lit< tt) (lit≤ tt)
 
-    below : T (le ((f1000 *f fvv) *f (f1000 *f fvv) *f ofBits binary32 0x3f800007) (x *f x *f s)) → P < n * L
+    below : T (le ((f1000 *f fvv) *f (f1000 *f fvv) *f overOne) (x *f x *f s)) → P < n * L
     below t =
         let C = 16777230 * 2 ^ 125 in
-        let g = bound (ofBits binary32 0x3f800007) C over-one (lit≤ tt) (lit≤ tt) in
-        let test = ordered ((f1000 *f fvv) *f (f1000 *f fvv) *f ofBits binary32 0x3f800007) (x *f x *f s) (g .X) (b .X) (g .is) (b .is) (bound-pos C (g .X) (lit≤ tt) (g .within) (lit≤ tt)) B-pos t in
+        let g = bound overOne C over-one (lit≤ tt) (lit≤ tt) in
+        let test = ordered ((f1000 *f fvv) *f (f1000 *f fvv) *f overOne) (x *f x *f s) (g .X) (b .X) (g .is) (b .is) (bound-pos C (g .X) (lit≤ tt) (g .within) (lit≤ tt)) B-pos t in
         chain.below L 16777216 16777215 16777217 C n S F W K (g .X) A (b .X) (root .doubled) R Q P (lit< tt)
         (p .within .high) (q .within .high) (root .rounded .within .low) (root .is .low) (a .within .high) (b .within .high) (g .within .low) (k .within .low) (w .within .low) test (mul-pos (mul-pos n-pos (pow-pos 149)) R-pos) (lit< tt)
 
@@ -239,19 +240,18 @@ cosine-size s f l m =
     let z = sized f0·000001 s f1 (8796093 * 2 ^ 106) (2 ^ 149) f millionth one (lit< tt) (pow-pos 149) l m in
     record { size = z .size; is = z .is; least = le-trans (lit≤ {n = 8796093 * 2 ^ 106} tt) (z .least); most = z .most }
 
-pub told : (fvv s : Float) (n : ℕ) → T (fits binary32 fvv) → T (fits binary32 s) → T (f0·000001 ≤f s) → T (s ≤f f1) → n < 4194304
-    → T (ofInt binary32 (pos n) *f ofInt binary32 (pos n) *f s ≤f lowOf fvv) → T (highOf fvv ≤f ofInt binary32 (pos (n + 1)) *f ofInt binary32 (pos (n + 1)) *f s) → khzOf fvv s ≡ pos n
+pub test-suffices : TestSuffices
 unfolding khzOf lowOf highOf squareOf
-told fvv s n f g a b l below-high above-low = go (tame fvv) (tame-size fvv f) below-high
+test-suffices fvv s n f g a b l below-high above-low = go (tame fvv) (tame-size fvv f) below-high
   where
     c : Sized s (2 ^ 129) (2 ^ 149)
     c = cosine-size s g a b
 
-    low-end : (z : Sized fvv (2 ^ 139) (2 ^ 159)) (n : ℕ) → n < 4194304 → T (ofInt binary32 (pos n) *f ofInt binary32 (pos n) *f s ≤f ((f1000 *f fvv) *f (f1000 *f fvv) *f ofBits binary32 0x3f7ffff2)) → n * L ≤ P fvv s z c
+    low-end : (z : Sized fvv (2 ^ 139) (2 ^ 159)) (n : ℕ) → n < 4194304 → T (ofInt binary32 (pos n) *f ofInt binary32 (pos n) *f s ≤f ((f1000 *f fvv) *f (f1000 *f fvv) *f underOne)) → n * L ≤ P fvv s z c
     low-end z zero l t = le-trans (le-of-eq (zero-mul L)) zero-le
     low-end z (suc n) l t = not-above fvv s z c (suc n) (zero-lt-suc n) (le-of-lt l) t
 
-    go : (t : Bool) → (T t → Sized fvv (2 ^ 139) (2 ^ 159)) → T (ofInt binary32 (pos n) *f ofInt binary32 (pos n) *f s ≤f cond t ((f1000 *f fvv) *f (f1000 *f fvv) *f ofBits binary32 0x3f7ffff2) nan)
+    go : (t : Bool) → (T t → Sized fvv (2 ^ 139) (2 ^ 159)) → T (ofInt binary32 (pos n) *f ofInt binary32 (pos n) *f s ≤f cond t ((f1000 *f fvv) *f (f1000 *f fvv) *f underOne) nan)
         → truncOf (f1000 *f (fvv /f sqrtOf s)) ≡ pos n
     go false z t = absurd (at-most-nan (ofInt binary32 (pos n) *f ofInt binary32 (pos n) *f s) t)
     go true z t =

@@ -89,8 +89,10 @@ pub fn cell(fvv: f32, sqcos: f32, low: f32, high: f32) -> u32
     let n = guess(sqcos, 1000.0 * fvv);
     let x = n as f32;
     let m = (n + 1) as f32;
-    if x * x * sqcos <= low {
-        if high <= m * m * sqcos {
+    let under = x * x * sqcos;
+    let over = m * m * sqcos;
+    if under <= low {
+        if high <= over {
             return n;
         }
     }

@@ -6,7 +6,7 @@ use native.Mathlib.Omega.{arith}
 use borrow.Author.Needs.{needs}
 use lib.Dec.{T, le→leb}
 use lib.Ieee.{inFloat}
-use Rattle.cell_test.proofs.Test.{told}
+use Rattle.cell_test.proofs.Test.{test-suffices}
 use Rattle.cell_test.proofs.cell.Statement.{statement}
 use Rattle.cell_test.proofs.cell.Tie as tie
 
@@ -26,7 +26,7 @@ returns c =
     record {
       most = le-of-lt (n .ensures);
       right = λ h.
-          told (a .fvv) (a .sqcos) (n .result) (subst T (sym (start .good .0 .1)) tt) (subst T (sym (start .good .1 .0 .1)) tt) (start .pre .0) (start .pre .1) h
+          test-suffices (a .fvv) (a .sqcos) (n .result) (subst T (sym (start .good .0 .1)) tt) (subst T (sym (start .good .1 .0 .1)) tt) (start .pre .0) (start .pre .1) h
           (subst T (sym (rw (start .pre .2) at (c .before .if1 .taken))) tt) (subst T (sym (rw (start .pre .3) at (c .if2 .taken))) tt);
     }
 
