@@ -5,7 +5,7 @@ use mathlib.Core.List.{List, map}
 use Prim.Native.Nat.{ℕ, zero, suc, _+_, _*_, _/_, _≤_, _<_}
 use native.Mathlib.Nat.{le-of-suc-le-suc, eq-or-lt-of-le, lt-irrefl, not-suc-le-zero}
 use native.Mathlib.Omega.{arith}
-use lib.Ieee.{Float, nan, mul, le, ofBits}
+use lib.Ieee.{Float, nan, mul, eq, le, ofBits}
 use lib.ListN.{length, getD, set, List·getD-map}
 use lib.Seq.{getD-set-same, getD-set-other}
 use Rattle.scalar.specs.F32.{_/f_, at}
@@ -52,7 +52,7 @@ next fv radii rcosd out doubts i r h t k = record {
 
 -- ---- a bound of the list of bounds
 low-nan : lowOf nan ≡ nan
-unfolding lowOf tame le ofBits
+unfolding lowOf tame eq le ofBits
 low-nan = refl
 
 high-nan : highOf nan ≡ nan

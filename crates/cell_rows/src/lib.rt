@@ -88,7 +88,14 @@ fn store(out: &[u32; 32], from: usize, cells: &mut [i32])
 }
 
 // And where some are.
-fn mend(fv: &[f32; 32], radii: &[f32; 32], rcosd: f32, out: &[u32; 32], from: usize, cells: &mut [i32])
+fn mend(
+    fv: &[f32; 32],
+    radii: &[f32; 32],
+    rcosd: f32,
+    out: &[u32; 32],
+    from: usize,
+    cells: &mut [i32],
+)
     requires { ⌜ (from + 30 ≤ length (now cells)) × ((i : ℕ) → i < 32 → Told (at (now fv) i) (sqcosOf (rcosd /f at (now radii) i)) (getD (now out) i 0)) ⌝ }
     ensures { λ _. ⌜ now (cells .exit) ≡ rowOf (now (fv .entry)) (now (radii .entry)) rcosd from (now (cells .entry)) 30 ⌝ }
 {

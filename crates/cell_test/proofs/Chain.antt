@@ -123,5 +123,5 @@ module _ (L e d u C n S F W K G A B T R Q P : ℕ) (E : 0 < e) where
     below p num =
         lt-of-mul-lt-mul-right R
         (lt-of-not-le (λ (g : n * L * R ≤ P * R).
-            not-le-of-lt (mul-lt-mul-of-pos-left num (mul-pos p p))
-            (le-trans (mul-le-mul-right (C * (d * d * d * d * d * d * d)) (mul-le-mul g g)) high-squares)))
+        not-le-of-lt (mul-lt-mul-of-pos-left num (mul-pos p p))
+        (le-trans (mul-le-mul-right (C * (d * d * d * d * d * d * d)) (mul-le-mul g g)) high-squares)))

@@ -2,6 +2,7 @@
 mod Near
 mod Chain
 mod Steps
+mod Zero
 pub mod Test
 mod Cosine
 mod Numbers

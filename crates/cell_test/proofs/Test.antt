@@ -4,25 +4,29 @@ use mathlib.Core.Logic.{_⊎_, inl, inr}
 use mathlib.Core.Bool.{Bool, true, false, _&&_, cond}
 use Prim.Native.Nat.{ℕ, zero, suc, _+_, _-_, _*_, _/_, _%_, _^_, _≤_, _<_, zero-le}
 use native.Mathlib.Nat.{le-trans, le-of-eq, le-of-lt, lt-of-lt-of-le, lt-of-le-of-lt, mul-pos, mul-le-mul, mul-le-mul-left, mul-le-mul-right, zero-lt-suc, zero-mul}
+use native.Mathlib.Numerals.{add-one}
 use native.Mathlib.Omega.{arith}
 use lib.IntN.{ℤ, pos}
 use lib.Dec.{T, lit≤, lit<}
 use lib.Pow.{pow-pos}
-use lib.Ieee.{Float, nan, inf, fin, binary32, round, ofInt, ofBits, mul, div, le, fits}
+use lib.Ieee.{Float, nan, inf, fin, binary32, round, ofInt, ofBits, mul, div, eq, le, fits}
 use lib.Ieee.Fits.{and-l, and-r}
 use lib.Ieee.Exact.{HasValue}
 use lib.Ieee.Back.{round-whole}
+use lib.Ieee.Scale.{finite}
 use lib.Ieee.Positive.{positive, between, value-pos, positive-of-value}
 use Rattle.rounding.specs.TiesToEven.{limit}
 use Rattle.rounding.proofs.Units.{on-grid}
 use Rattle.scalar.specs.F32.{_*f_, _/f_, _≤f_}
-use Rattle.scalar.specs.Literals.{f0·000001, f1, f1000}
+use Rattle.order.proofs.Keys.{or-split}
+use Rattle.scalar.specs.Literals.{f0, f0·000001, f1, f1000}
 use Rattle.scalar.specs.Root.{sqrtOf}
 use Rattle.scalar.specs.Scalar.{truncOf}
 use Rattle.cell_test.specs.Cell.{khzOf, tame, squareOf, underOne, overOne, lowOf, highOf}
-use Rattle.cell_test.specs.Laws.{TestSuffices}
+use Rattle.cell_test.specs.Laws.{productOf, TestSuffices}
 use Rattle.cell_test.proofs.Near.{Within, Rounded, spread}
 use Rattle.cell_test.proofs.Chain as chain
+use Rattle.cell_test.proofs.Zero.{Zero, zero-real, by-zero, zero-by, zero-over, trunc-zero, not-at-most, eq-zero}
 use Rattle.cell_test.proofs.Steps.{L, Is, product, multiple, whole-square, quotient, Twice, RootOf, root-of, cut, ordered}
 
 -- ---- a value between two others, in units
@@ -50,6 +54,14 @@ sized a x b A B f h k p q l m = go x f l m (between a x b (positive-of-value a A
 thousand : HasValue f1000 false 1000 1
 unfolding ofBits
 thousand = (refl, refl)
+
+thousand-finite : T (finite f1000)
+unfolding ofBits
+thousand-finite = tt
+
+under-finite : T (finite underOne)
+unfolding ofBits
+under-finite = tt
 
 pub one : Is f1 (2 ^ 149)
 unfolding ofBits
@@ -228,12 +240,16 @@ at-most-nan nan h = h
 at-most-nan (inf s) h = h
 at-most-nan (fin s m e) h = h
 
-tame-size : (fvv : Float) → T (fits binary32 fvv) → T (tame fvv) → Sized fvv (2 ^ 139) (2 ^ 159)
+-- what is tame is a zero or in the range
+tame-size : (fvv : Float) → T (fits binary32 fvv) → T (tame fvv) → Zero fvv ⊎ Sized fvv (2 ^ 139) (2 ^ 159)
 unfolding tame
 tame-size fvv f t =
     let a = ofBits binary32 0x3a800000 in
     let b = ofBits binary32 0x44800000 in
-    sized a fvv b (2 ^ 139) (2 ^ 159) f least-mhz most-mhz (pow-pos 139) (pow-pos 159) (and-l (le a fvv) (le fvv b) t) (and-r (le a fvv) (le fvv b) t)
+    elim (or-split (eq fvv f0) (le a fvv && le fvv b) t) [
+      | inl z ↦ inl (eq-zero fvv f z)
+      | inr k ↦ inr (sized a fvv b (2 ^ 139) (2 ^ 159) f least-mhz most-mhz (pow-pos 139) (pow-pos 159) (and-l (le a fvv) (le fvv b) k) (and-r (le a fvv) (le fvv b) k))
+    ]
 
 cosine-size : (s : Float) → T (fits binary32 s) → T (f0·000001 ≤f s) → T (s ≤f f1) → Sized s (2 ^ 129) (2 ^ 149)
 cosine-size s f l m =
@@ -242,23 +258,39 @@ cosine-size s f l m =
 
 pub test-suffices : TestSuffices
 unfolding khzOf lowOf highOf squareOf
-test-suffices fvv s n f g a b l below-high above-low = go (tame fvv) (tame-size fvv f) below-high
+test-suffices fvv s n f g at-least at-most l below-high above-low = go (tame fvv) (tame-size fvv f) below-high
   where
     c : Sized s (2 ^ 129) (2 ^ 149)
-    c = cosine-size s g a b
+    c = cosine-size s g at-least at-most
 
     low-end : (z : Sized fvv (2 ^ 139) (2 ^ 159)) (n : ℕ) → n < 4194304 → T (ofInt binary32 (pos n) *f ofInt binary32 (pos n) *f s ≤f ((f1000 *f fvv) *f (f1000 *f fvv) *f underOne)) → n * L ≤ P fvv s z c
     low-end z zero l t = le-trans (le-of-eq (zero-mul L)) zero-le
     low-end z (suc n) l t = not-above fvv s z c (suc n) (zero-lt-suc n) (le-of-lt l) t
 
-    go : (t : Bool) → (T t → Sized fvv (2 ^ 139) (2 ^ 159)) → T (ofInt binary32 (pos n) *f ofInt binary32 (pos n) *f s ≤f cond t ((f1000 *f fvv) *f (f1000 *f fvv) *f underOne) nan)
-        → truncOf (f1000 *f (fvv /f sqrtOf s)) ≡ pos n
-    go false z t = absurd (at-most-nan (ofInt binary32 (pos n) *f ofInt binary32 (pos n) *f s) t)
-    go true z t =
-        let y = z tt in
+    -- by the numbers of a row at 1 MHz, which the product does not see
+    own : Sized f1 (2 ^ 139) (2 ^ 159)
+    own = record { size = 2 ^ 149; is = one; least = lit≤ tt; most = lit≤ tt }
+
+    nothing : (n : ℕ) → n < 4194304 → Zero fvv → T (productOf n s ≤f ((f1000 *f fvv) *f (f1000 *f fvv) *f underOne)) → truncOf (f1000 *f (fvv /f sqrtOf s)) ≡ pos n
+    nothing zero l z t =
+        trunc-zero (f1000 *f (fvv /f sqrtOf s))
+        (by-zero f1000 (fvv /f sqrtOf s) thousand-finite (zero-over fvv (sqrtOf s) z (positive-of-value (sqrtOf s) (R f1 s own c) L (root f1 s own c .rounded .is) (R-pos f1 s own c))))
+    nothing (suc n) l z t =
+        let w = by-zero f1000 fvv thousand-finite z in
+        let k = zero-by (f1000 *f fvv) (f1000 *f fvv) w (zero-real (f1000 *f fvv) w) in
+        let y = b f1 s own c (suc n) (zero-lt-suc n) (le-of-lt l) in
+        absurd (not-at-most (productOf (suc n) s) ((f1000 *f fvv) *f (f1000 *f fvv) *f underOne) (positive-of-value (productOf (suc n) s) (y .X) L (y .is) (B-pos f1 s own c (suc n) (zero-lt-suc n) (le-of-lt l))) (zero-by ((f1000 *f fvv) *f (f1000 *f fvv)) underOne k under-finite) t)
+
+    within : (y : Sized fvv (2 ^ 139) (2 ^ 159)) → T (productOf n s ≤f ((f1000 *f fvv) *f (f1000 *f fvv) *f underOne)) → truncOf (f1000 *f (fvv /f sqrtOf s)) ≡ pos n
+    within y t =
         cut (f1000 *f (fvv /f sqrtOf s)) (P fvv s y c) n (p fvv s y c .is) (low-end y n l t)
-        (subst (λ (m : ℕ). P fvv s y c < m * L) (native.Mathlib.Numerals.add-one n) (below fvv s y c (n + 1) (subst (λ (m : ℕ). 0 < m) (sym (native.Mathlib.Numerals.add-one n)) (zero-lt-suc n)) (up-to n l) above-low))
+        (subst (λ (m : ℕ). P fvv s y c < m * L) (add-one n) (below fvv s y c (n + 1) (subst (λ (m : ℕ). 0 < m) (sym (add-one n)) (zero-lt-suc n)) (up-to n l) above-low))
         (le-trans (le-of-lt l) (lit≤ tt))
       where
         up-to : (n : ℕ) → n < 4194304 → n + 1 ≤ 4194304
         up-to n l = omega arith
+
+    go : (t : Bool) → (T t → Zero fvv ⊎ Sized fvv (2 ^ 139) (2 ^ 159)) → T (ofInt binary32 (pos n) *f ofInt binary32 (pos n) *f s ≤f cond t ((f1000 *f fvv) *f (f1000 *f fvv) *f underOne) nan)
+        → truncOf (f1000 *f (fvv /f sqrtOf s)) ≡ pos n
+    go false z t = absurd (at-most-nan (ofInt binary32 (pos n) *f ofInt binary32 (pos n) *f s) t)
+    go true z t = elim (z tt) [ inl o ↦ nothing n l o t | inr y ↦ within y t ]

@@ -1,12 +1,12 @@
 -- A cell of the reflectrix from the row's frequency and the square of the cosine at the layer, and the bounds of the test that a guess at it has to pass. Definitions only.
 -- A number n is the cell where n * n * sqcos is at most the lower bound and (n + 1) * (n + 1) * sqcos at least the upper one, each product rounded; Laws.antt says so.
 use mathlib.Core.Path.{_≡_}
-use mathlib.Core.Bool.{Bool, _&&_, cond}
+use mathlib.Core.Bool.{Bool, _&&_, _||_, cond}
 use Prim.Native.Nat.{ℕ, _≤_, _<_}
 use lib.IntN.{ℤ, pos}
 use lib.Ieee.{Float, nan, binary32, ofBits}
-use Rattle.scalar.specs.F32.{_-f_, _*f_, _/f_, _≤f_}
-use Rattle.scalar.specs.Literals.{f0·000001, f1, f1000}
+use Rattle.scalar.specs.F32.{_-f_, _*f_, _/f_, _≤f_, _==f_}
+use Rattle.scalar.specs.Literals.{f0, f0·000001, f1, f1000}
 use Rattle.scalar.specs.Scalar.{maxOf, truncOf}
 use Rattle.scalar.specs.Root.{sqrtOf}
 
@@ -18,9 +18,9 @@ sqcosOf sphe = maxOf (f1 -f sphe *f sphe) f0·000001
 unfoldable pub khzOf : Float → Float → ℤ
 khzOf fvv sqcos = truncOf (f1000 *f (fvv /f sqrtOf sqcos))
 
--- from 2^-10 to 1024 MHz, where no step on the way to a cell leaves the normal range
+-- zero, and from 2^-10 to 1024 MHz, where no step on the way to a cell leaves the normal range
 unfoldable pub tame : Float → Bool
-tame fvv = (ofBits binary32 0x3a800000 ≤f fvv) && (fvv ≤f ofBits binary32 0x44800000)
+tame fvv = (fvv ==f f0) || ((ofBits binary32 0x3a800000 ≤f fvv) && (fvv ≤f ofBits binary32 0x44800000))
 
 -- the square of the frequency in kHz
 unfoldable pub squareOf : Float → Float

@@ -31,6 +31,9 @@ pub fn khz(fvv: f32, sqcos: f32) -> i32
 fn is_tame(fvv: f32) -> bool
     ensures { λ r. ⌜ r ≡ tame fvv ⌝ }
 {
+    if fvv == 0.0 {
+        return true;
+    }
     if fvv >= 0.0009765625 {
         return fvv <= 1024.0;
     }
