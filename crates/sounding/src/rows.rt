@@ -94,11 +94,14 @@ fn by_profile(s: IonoState, rises: bool, fv: [f32; 30]) -> Columns
         × (r .htrue ≡ rowsOf (λ f. gethpOf s f .ht) fv 0 (replicate 30 f0) 30)
         × (r .segment ≡ rowsOf (λ f. gethpOf s f .segment) fv 0 (replicate 30 0) 30) ⌝ }
 {
+    let htr = s.htr;
+    let fnsq = s.fnsq;
+    let exact = s.exact_virtual_height;
     let mut hprim = [0.0; 30];
     let mut htrue = [0.0; 30];
     let mut segment = [0; 30];
     for i in 0..30 {
-        let h = heights::gethp_rising(s, rises, fv[i]);
+        let h = heights::gethp_read(&htr, &fnsq, exact, rises, fv[i]);
         hprim[i] = h.hp;
         htrue[i] = h.ht;
         segment[i] = h.segment;
@@ -143,9 +146,12 @@ fn virtual_rows_by_profile(s: IonoState, rises: bool, fv: [f32; 30]) -> [f32; 30
     requires { ⌜ rises ≡ risesOf (s .htr) ⌝ }
     ensures { λ r. ⌜ r ≡ rowsOf (λ f. gethpOf s f .hp) fv 10 Genion·HPE 20 ⌝ }
 {
+    let htr = s.htr;
+    let fnsq = s.fnsq;
+    let exact = s.exact_virtual_height;
     let mut hprim = HPE;
     for i in 0..20 {
-        let h = heights::gethp_rising(s, rises, fv[10 + i]);
+        let h = heights::gethp_read(&htr, &fnsq, exact, rises, fv[10 + i]);
         hprim[10 + i] = h.hp;
     }
     hprim
