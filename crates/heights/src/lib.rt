@@ -1,5 +1,4 @@
-// Heights of a vertical frequency: off the profile by a Gauss rule, or the exact one, (`gethp`) or by
-// interpolation (`xlin`); and what bending and delay in a parabolic layer come to (`bendy`, `pen`).
+// Heights of a vertical frequency off the profile, by a Gauss rule or the exact one: `gethp`.
 ghost use mathlib.Core.Bool.{false, _&&_};
 ghost use mathlib.Core.Path.{_≡_};
 ghost use Prim.Native.Nat.{_<_};
@@ -10,19 +9,15 @@ ghost use Rattle.scalar.specs.Literals.{f0};
 ghost use Rattle.heights.specs.Nodes.{xt, wt, zgBy, heightOf, igAt, ibAt};
 ghost use lib.ListN.{replicate};
 ghost use Rattle.heights.specs.Gethp.{hpOf, heightsBy, gethpOf, gethpScanOf};
-ghost use Rattle.heights.specs.Bendy.{bendyOf, penOf, bendyAnswer, penAnswer};
-ghost use Rattle.heights.specs.Xlin.{xlinFound};
 ghost use Rattle.heights.specs.Walk.{flat, walkReads, scanReads, tableBy, cursorAfter, ysqReadBy, cursorReadBy, gethpReadOf};
 use height_integral::virtual_height_exact;
 use layers::IonoState;
 use profile::rises_throughout;
-use readings::Found;
 use readings::Reading;
 use readings::profile_interpolate;
 use readings::read_by_scan;
 use readings::read_on;
 use readings::value;
-use refusal::Refusal;
 
 pub struct Heights {
     // virtual and true, in km
@@ -323,73 +318,4 @@ pub fn gethp_scan(s: IonoState, fxx: f32) -> Heights
     let htr = s.htr;
     let fnsq = s.fnsq;
     gethp_read(&htr, &fnsq, s.exact_virtual_height, false, fxx)
-}
-
-// The number of `yn` that goes with `x`, on the line between the neighbours of `x` in `xn`, and the
-// segment of that line; the first one where `x` is below the first of `xn`, and then 50. Level and
-// falling segments are treated as by `profile_interpolate`.
-pub fn xlin(x: f32, xn: &[f32; 50], yn: &[f32; 50]) -> Found
-    ensures { λ r. ⌜ r ≡ xlinFound x (now (xn .entry)) (now (yn .entry)) ⌝ }
-{
-    if xn[0] - x > 0.0 {
-        let lowest = yn[0];
-        return Found {
-            value: lowest,
-            segment: 50,
-        };
-    }
-    profile_interpolate(xn, yn, x)
-}
-
-// A layer's number, or the refusal of a slot or layer number above 2.
-pub enum LayerNumber {
-    Value(f32),
-    Refused(Refusal),
-}
-
-pub fn bendy_at(s: IonoState, i: usize, k: usize, f: f32) -> f32
-    requires { ⌜ (i < 3) × (k < 3) ⌝ }
-    ensures { λ r. ⌜ r ≡ bendyOf s i k f ⌝ }
-{
-    let n = 3 * k + i;
-    let x = scalar::min(f / s.fi[n], 0.999);
-    let l = exponential::ln((1.0 + x) / (1.0 - x));
-    0.5 * x * s.yi[n] * l
-}
-
-pub fn pen_at(s: IonoState, i: usize, k: usize, f: f32) -> f32
-    requires { ⌜ (i < 3) × (k < 3) ⌝ }
-    ensures { λ r. ⌜ r ≡ penOf s i k f ⌝ }
-{
-    let n = 3 * k + i;
-    let x = scalar::max(f / s.fi[n], 1.001);
-    let l = exponential::ln((1.0 + x) / (x - 1.0));
-    s.yi[n] * l * x
-}
-
-// How much the virtual height of a frequency is raised by the parabolic layer `i` of slot `k` that
-// reflects it.
-pub fn bendy(s: IonoState, i: usize, k: usize, f: f32) -> LayerNumber
-    ensures { λ r. ⌜ r ≡ bendyAnswer s i k f ⌝ }
-{
-    if i > 2 {
-        return LayerNumber::Refused(Refusal::SlotNumber);
-    }
-    if k > 2 {
-        return LayerNumber::Refused(Refusal::SlotNumber);
-    }
-    LayerNumber::Value(bendy_at(s, i, k, f))
-}
-
-// The same for a frequency that the layer lets through, delayed, to a higher one.
-pub fn pen(s: IonoState, i: usize, k: usize, f: f32) -> LayerNumber
-    ensures { λ r. ⌜ r ≡ penAnswer s i k f ⌝ }
-{
-    if i > 2 {
-        return LayerNumber::Refused(Refusal::SlotNumber);
-    }
-    if k > 2 {
-        return LayerNumber::Refused(Refusal::SlotNumber);
-    }
-    LayerNumber::Value(pen_at(s, i, k, f))
 }

@@ -12,10 +12,10 @@ use Rattle.readings.specs.Scan.{kindOf, valueOf, segmentNumber, readingOf}
 use Rattle.readings.specs.declared.Reading.{Reading}
 use Rattle.readings.specs.declared.Found.{Found}
 use Rattle.heights.specs.Gethp.{gethpOf, gethpScanOf}
-use Rattle.heights.specs.Bendy.{bendyAnswer, penAnswer, layerNumberOf, layerValuesOf}
-use Rattle.heights.specs.Xlin.{xlinFound}
+use Rattle.parabolas.specs.Bendy.{bendyAnswer, penAnswer, layerNumberOf, layerValuesOf}
+use Rattle.xlin.specs.Xlin.{xlinFound}
 use Rattle.heights.specs.declared.Heights.{Heights}
-use Rattle.heights.specs.declared.LayerNumber.{LayerNumber}
+use Rattle.parabolas.specs.declared.LayerNumber.{LayerNumber}
 
 -- is one slice too short, is the other
 abbrev pub leftBy : Bool → Bool → List ℕ → Ported → Ported

@@ -4,10 +4,10 @@ ghost use Prim.Native.Nat.{_≤_};
 ghost use lib.ListN.{length};
 ghost use denote.Ref.{now};
 ghost use Rattle.port_state.specs.Words.{floatsInto};
-ghost use Rattle.heights.specs.Bendy.{layerNumberOf, layerValuesOf};
+ghost use Rattle.parabolas.specs.Bendy.{layerNumberOf, layerValuesOf};
 ghost use Rattle.port_heights.specs.Exports.{heightsInto, foundInto, readingInto, gethpLeft, gethpScanLeft, readingLeft, bendyLeft, penLeft, xlinLeft};
 use heights::Heights;
-use heights::LayerNumber;
+use parabolas::LayerNumber;
 use port_state::STATE_WORDS;
 use readings::Found;
 use readings::Reading;
@@ -125,7 +125,7 @@ pub extern "C" fn port_bendy(state: &[u32], i: u32, k: u32, f: u32, out: &mut [u
     }
     let s = port_state::state_of(state);
     let x = scalar::number(f);
-    let a = heights::bendy(s, port_state::wide(i), port_state::wide(k), x);
+    let a = parabolas::bendy(s, port_state::wide(i), port_state::wide(k), x);
     layer_into(a, out)
 }
 
@@ -141,7 +141,7 @@ pub extern "C" fn port_pen(state: &[u32], i: u32, k: u32, f: u32, out: &mut [u32
     }
     let s = port_state::state_of(state);
     let x = scalar::number(f);
-    let a = heights::pen(s, port_state::wide(i), port_state::wide(k), x);
+    let a = parabolas::pen(s, port_state::wide(i), port_state::wide(k), x);
     layer_into(a, out)
 }
 
@@ -162,7 +162,7 @@ pub extern "C" fn port_xlin(x: u32, xn: &[u32], yn: &[u32], out: &mut [u32]) -> 
     let at = scalar::number(x);
     let xs = port_state::floats_50(xn, 0);
     let ys = port_state::floats_50(yn, 0);
-    let f = heights::xlin(at, &xs, &ys);
+    let f = xlin::xlin(at, &xs, &ys);
     found_into(f, out);
     0
 }

@@ -118,7 +118,7 @@ fn true_by_profile(s: IonoState, f: f32) -> Found
 {
     let fnsq = s.fnsq;
     let htr = s.htr;
-    heights::xlin(f * f, &fnsq, &htr)
+    xlin::xlin(f * f, &fnsq, &htr)
 }
 
 // The column of true heights and that of their segments.
@@ -163,8 +163,8 @@ fn virtual_by_parabola(s: IonoState, k: usize, f: f32) -> f32
 {
     let e = 3 * k;
     let f2 = 3 * k + 2;
-    let bend = heights::bendy_at(s, 2, k, f);
-    let lag = heights::pen_at(s, 0, k, f);
+    let bend = parabolas::bendy_at(s, 2, k, f);
+    let lag = parabolas::pen_at(s, 0, k, f);
     s.hi[f2] - s.yi[f2] + bend + (lag - 2.0 * s.yi[e])
 }
 

@@ -1,9 +1,9 @@
 -- Each path is the clause that its tests choose; each call is what its contract says.
-use Rattle.heights.specs.Bendy.{bendyAnswer}
+use Rattle.parabolas.specs.Bendy.{bendyAnswer}
 use borrow.Author.Needs.{needs}
 use borrow.Author.Tests.{lt-ltb, le-ltb}
-use Rattle.heights.proofs.bendy.Statement.{statement}
-use Rattle.heights.proofs.bendy.Tie as tie
+use Rattle.parabolas.proofs.bendy.Statement.{statement}
+use Rattle.parabolas.proofs.bendy.Tie as tie
 
 returns : tie.Need-returns
 unfolding bendyAnswer

@@ -1,8 +1,8 @@
 -- Each path is the clause that its tests choose; each call is what its contract says.
-use Rattle.heights.specs.Xlin.{xlinOf, xlinSegmentOf}
+use Rattle.xlin.specs.Xlin.{xlinOf, xlinSegmentOf}
 use borrow.Author.Needs.{needs}
-use Rattle.heights.proofs.xlin.Statement.{statement}
-use Rattle.heights.proofs.xlin.Tie as tie
+use Rattle.xlin.proofs.xlin.Statement.{statement}
+use Rattle.xlin.proofs.xlin.Tie as tie
 
 returns : tie.Need-returns
 unfolding xlinOf xlinSegmentOf

@@ -1,8 +1,8 @@
 -- The code follows the definition; each call is what its contract says.
-use Rattle.heights.specs.Bendy.{bendyOf}
+use Rattle.parabolas.specs.Bendy.{bendyOf}
 use borrow.Author.Needs.{needs}
-use Rattle.heights.proofs.bendy_at.Statement.{statement}
-use Rattle.heights.proofs.bendy_at.Tie as tie
+use Rattle.parabolas.proofs.bendy_at.Statement.{statement}
+use Rattle.parabolas.proofs.bendy_at.Tie as tie
 
 returns : tie.Need-returns
 unfolding bendyOf

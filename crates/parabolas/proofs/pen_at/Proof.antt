@@ -1,8 +1,8 @@
 -- The code follows the definition; each call is what its contract says.
-use Rattle.heights.specs.Bendy.{penOf}
+use Rattle.parabolas.specs.Bendy.{penOf}
 use borrow.Author.Needs.{needs}
-use Rattle.heights.proofs.pen_at.Statement.{statement}
-use Rattle.heights.proofs.pen_at.Tie as tie
+use Rattle.parabolas.proofs.pen_at.Statement.{statement}
+use Rattle.parabolas.proofs.pen_at.Tie as tie
 
 returns : tie.Need-returns
 unfolding penOf

@@ -11,7 +11,7 @@ use Rattle.exponential.specs.Ln.{lnOf}
 use Rattle.refusal.specs.declared.Refusal.{Refusal}
 use Rattle.refusal.specs.Number.{numberOf}
 use Rattle.layers.specs.declared.IonoState.{IonoState}
-use Rattle.heights.specs.declared.LayerNumber.{LayerNumber}
+use Rattle.parabolas.specs.declared.LayerNumber.{LayerNumber}
 
 unfoldable pub bendyOf : IonoState → ℕ → ℕ → Float → Float
 bendyOf s i k f = let x = minOf (f /f at (s .fi) (3 * k + i)) f0·999 in f0·5 *f x *f at (s .yi) (3 * k + i) *f lnOf ((f1 +f x) /f (f1 -f x))

@@ -1,9 +1,9 @@
 -- Each path is the clause that its tests choose; each call is what its contract says.
-use Rattle.heights.specs.Bendy.{penAnswer}
+use Rattle.parabolas.specs.Bendy.{penAnswer}
 use borrow.Author.Needs.{needs}
 use borrow.Author.Tests.{lt-ltb, le-ltb}
-use Rattle.heights.proofs.pen.Statement.{statement}
-use Rattle.heights.proofs.pen.Tie as tie
+use Rattle.parabolas.proofs.pen.Statement.{statement}
+use Rattle.parabolas.proofs.pen.Tie as tie
 
 returns : tie.Need-returns
 unfolding penAnswer
