@@ -165,13 +165,7 @@ fn walk_reads(
 }
 
 // By forty scans.
-fn scan_reads(
-    htr: &[f32; 50],
-    fnsq: &[f32; 50],
-    xts: &[f32; 20],
-    ht: f32,
-    read: &mut [f32; 40],
-)
+fn scan_reads(htr: &[f32; 50], fnsq: &[f32; 50], xts: &[f32; 20], ht: f32, read: &mut [f32; 40])
     requires { ⌜ (now xts ≡ xt) × (now read ≡ replicate 40 f0) ⌝ }
     ensures { λ _. ⌜ now (read .exit) ≡ scanReads (now (htr .entry)) (now (fnsq .entry)) ht 40 ⌝ }
 {

@@ -45,8 +45,9 @@ module _ {A : Type 0} where
   put-at f d l zero m k h = absurd (not-suc-le-zero h)
   put-at f d l (suc n) m k h =
       elim (eq-or-lt-of-le (under k n h)) [
-      inl e ↦ subst (λ (i : ℕ). getD (set (putEach f l n) n (f n)) i d ≡ f i) (sym e) (getD-set-same (putEach f l n) n (f n) d (subst (λ (z : ℕ). n < z) (sym (put-length f l n)) m))
-      | inr b ↦ getD-set-other (putEach f l n) n k (f n) d (apart k n b) ∙ put-at f d l n (less n (length l) m) k b ]
+        | inl e ↦ subst (λ (i : ℕ). getD (set (putEach f l n) n (f n)) i d ≡ f i) (sym e) (getD-set-same (putEach f l n) n (f n) d (subst (λ (z : ℕ). n < z) (sym (put-length f l n)) m))
+        | inr b ↦ getD-set-other (putEach f l n) n k (f n) d (apart k n b) ∙ put-at f d l n (less n (length l) m) k b
+      ]
 
   -- what is put decides
   pub put-same : (f g : ℕ → A) (l : List A) (n : ℕ) → ((k : ℕ) → k < n → f k ≡ g k) → putEach f l n ≡ putEach g l n

@@ -32,8 +32,7 @@ loop-again c =
     let x = c .before .before .before .normal in
     let y = c .right in
     let hx = x .ensures .0 in
-    let hy = y .ensures .0 in
-    (
+    let hy = y .ensures .0 in (
       omega arith,
       omega arith,
       counted (λ (j : ℕ). Normal (getD (a .b .now) j 0) × Right (getD (a .b .now) j 0) (getD (a .g .now) j 0 % 2 ^ 25)) (l .n) (l .k) (x .result) (y .result) (l .inv .1) (l .inv .2) hx hy (λ p q. (x .ensures .1 p, y .ensures .1 q)),

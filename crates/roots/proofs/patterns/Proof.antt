@@ -27,8 +27,7 @@ loop-again : tie.Need-loop-again Inv-loop μ-loop
 unfolding putEach
 loop-again c =
     let l = c .before .before .before .loop in
-    let x = c .before .before .before .before .args .x .now in
-    (
+    let x = c .before .before .before .before .args .x .now in (
       omega arith,
       rw (add-one (l .k), ← c .pattern .ensures .0, ← l .inv .1),
       below-next (λ (j : ℕ). at x j ≡ ofBits binary32 (toBits binary32 (at x j))) (l .k) (l .inv .2) (c .pattern .ensures .1),

@@ -47,8 +47,7 @@ returns c =
     let q = c .before .before .before .before in
     let a = q .args in
     let g = q .good .0 .1 .1 .1 .1 .1 .1 .1 .0 in
-    let held = field-held (a .s .htr) (g .0) (g .1 .1) in
-    (
+    let held = field-held (a .s .htr) (g .0) (g .1 .1) in (
       l .inv .1 ∙ ap (rowsOf _ _ _ _) e ∙ lent-rows (λ h. h .hp) (a .s) (a .rises) held (q .pre) _ _ _ _,
       l .inv .2 ∙ ap (rowsOf _ _ _ _) e ∙ lent-rows (λ h. h .ht) (a .s) (a .rises) held (q .pre) _ _ _ _,
       l .inv .3 ∙ ap (rowsOf _ _ _ _) e ∙ lent-rows (λ h. h .segment) (a .s) (a .rises) held (q .pre) _ _ _ _,
