@@ -98,7 +98,8 @@ pub fn digits(word: u32) -> String {
     format!("{word:08x}")
 }
 
-fn muf_lines(hour: &[u32]) -> String {
+/// The lines of the circuit MUF and of its figure.
+pub fn muf_lines(hour: &[u32]) -> String {
     let mufs: Vec<String> = hour[..5].iter().map(|w| digits(*w)).collect();
     let (mode, slot) = (hour[MODMUF], hour[KS]);
     let call = figure(f32::from_bits(hour[4]));
@@ -106,7 +107,7 @@ fn muf_lines(hour: &[u32]) -> String {
 }
 
 /// fvert, htrue, hprim, afac and segment of each row.
-fn slot_lines(k: usize, rows: &[u32]) -> String {
+pub fn slot_lines(k: usize, rows: &[u32]) -> String {
     let line = |i: usize| {
         let fields = [0, TRUE, 30, LOSSES].map(|column| digits(rows[column + i]));
         format!("{} {} {}\n", i + 1, fields.join(" "), rows[SEGMENT + i])
@@ -115,7 +116,7 @@ fn slot_lines(k: usize, rows: &[u32]) -> String {
 }
 
 /// Number and shape of each height.
-fn mark_lines(marks: &[u32]) -> String {
+pub fn mark_lines(marks: &[u32]) -> String {
     let line = |(i, m): (usize, &u32)| format!("{} {}\n", i + 1, marks::name(*m));
     marks.iter().enumerate().map(line).collect()
 }

@@ -54,6 +54,11 @@ pub fn spoil(r: &mut Random, w: &mut [u32]) {
 /// Slots as the Rust leaves them, of realistic points; no profile yet.
 pub fn slots(r: &mut Random) -> State {
     let count = 1 + r.below(5);
+    slots_of(r, count)
+}
+
+/// So of this many points.
+pub fn slots_of(r: &mut Random, count: usize) -> State {
     let points: Vec<u32> = (0..count).flat_map(|_| bits(&point(r))).collect();
     let mut state = side::ionset(&side::from_layers(&points));
     state[IEDP] = r.pick(&[-1i32, -1, 0]) as u32;

@@ -16,7 +16,7 @@ use Rattle.layers.specs.declared.LayerMuf.{LayerMuf}
 use Rattle.profile.specs.Lecden.{slotAt}
 use Rattle.profile.specs.declared.Slot.{Slot}
 use Rattle.heights.specs.Gethp.{Finder, gethpOf}
-use Rattle.heights.specs.Bendy.{bendyOf, penOf}
+use Rattle.parabolas.specs.Bendy.{bendyOf, penOf}
 use Rattle.heights.proofs.Finders.{FindAlike}
 use Rattle.readings.specs.Scan.{unsearched}
 use Rattle.reflectrix.specs.declared.Ionogram.{Ionogram}

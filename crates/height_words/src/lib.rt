@@ -4,10 +4,10 @@ ghost use Prim.Native.Nat.{_≤_};
 ghost use lib.ListN.{length};
 ghost use denote.Ref.{now};
 ghost use Rattle.port_state.specs.Words.{floatsInto};
-ghost use Rattle.heights.specs.Bendy.{layerNumberOf, layerValuesOf};
+ghost use Rattle.parabolas.specs.Bendy.{layerNumberOf, layerValuesOf};
 ghost use Rattle.height_words.specs.Words.{heightsInto, foundInto, readingInto};
 use heights::Heights;
-use heights::LayerNumber;
+use parabolas::LayerNumber;
 use readings::Found;
 use readings::Reading;
 

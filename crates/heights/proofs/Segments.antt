@@ -12,7 +12,7 @@ use Rattle.profile.specs.Rising.{risesOf}
 use Rattle.readings.specs.Scan.{profileInterpolateOf, profileSegmentOf}
 use Rattle.readings.proofs.Segments.{search-within}
 use Rattle.heights.specs.Gethp.{ysqOf, cursorBy, heightsBy, gethpOf}
-use Rattle.heights.specs.Xlin.{xlinSegmentOf}
+use Rattle.xlin.specs.Xlin.{xlinSegmentOf}
 use Rattle.heights.specs.Segments.{SegmentsFound}
 
 segment-by : (r : Bool) (htr fnsq : List Float) (fr ht : Float) (segment : ℕ) (ysq : ℕ → ℕ → Float) (c : ℕ) → heightsBy r htr fnsq fr ht segment ysq c .segment ≡ segment

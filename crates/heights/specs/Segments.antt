@@ -9,7 +9,7 @@ use Rattle.scalar.specs.Literals.{f0}
 use Rattle.layers.specs.declared.IonoState.{IonoState}
 use Rattle.readings.specs.Scan.{profileSegmentOf}
 use Rattle.heights.specs.Gethp.{gethpOf}
-use Rattle.heights.specs.Xlin.{xlinSegmentOf}
+use Rattle.xlin.specs.Xlin.{xlinSegmentOf}
 
 pub record SegmentsFound : Type 0 where
   pub gethp-sought : (s : IonoState) (fxx : Float) → (fxx *f fxx -f at (s .fnsq) 0 ≤f f0) ≡ false → (gethpOf s fxx .segment ≡ profileSegmentOf (s .fnsq) (s .htr) (fxx *f fxx)) × (gethpOf s fxx .segment ≤ 49)

@@ -8,9 +8,10 @@ use lib.Ieee.{Float}
 use Rattle.scalar.specs.F32.{_-f_, _*f_, _≤f_, _≥f_, at}
 use Rattle.scalar.specs.Literals.{f0}
 use Rattle.profile.specs.Rising.{risesOf}
+use Rattle.readings.specs.Scan.{valueOf, readingOf}
 use Rattle.readings.specs.declared.Read.{Read}
 use Rattle.walk.specs.Walk.{cursorBefore, walkRead}
-use Rattle.heights.specs.Nodes.{igAt, ibAt, heightAt}
+use Rattle.heights.specs.Nodes.{igAt, ibAt, heightOf, heightAt}
 use Rattle.heights.specs.Gethp.{cutOf, ysqOf, gethpBy, Finder}
 use Rattle.heights.specs.declared.Heights.{Heights}
 
@@ -69,6 +70,13 @@ walkTable htr fnsq ht fr n = placed (placeAt (ht ≥f f0)) (λ k. cutOf (readAt 
 
 unfoldable pub scanTable : List Float → List Float → Float → Float → ℕ → List Float
 scanTable htr fnsq ht fr n = placed (λ k. k) (λ k. ysqOf htr fnsq ht fr (k / 2) (k % 2)) n
+
+-- the densities as they are read, before they are cut
+unfoldable pub walkReads : List Float → List Float → Float → ℕ → List Float
+walkReads htr fnsq ht n = placed (placeAt (ht ≥f f0)) (λ k. valueOf (readAt htr fnsq ht k .reading)) n
+
+unfoldable pub scanReads : List Float → List Float → Float → ℕ → List Float
+scanReads htr fnsq ht n = placed (λ k. k) (λ k. valueOf (readingOf htr fnsq (heightOf (at htr 0) ht (k / 2) (k % 2)))) n
 
 abbrev pub tableBy : Bool → List Float → List Float → Float → Float → List Float
 tableBy true htr fnsq ht fr = walkTable htr fnsq ht fr 40

@@ -1,5 +1,4 @@
-// Heights of a vertical frequency: off the profile by a Gauss rule, or the exact one, (`gethp`) or by
-// interpolation (`xlin`); and what bending and delay in a parabolic layer come to (`bendy`, `pen`).
+// Heights of a vertical frequency off the profile, by a Gauss rule or the exact one: `gethp`.
 ghost use mathlib.Core.Bool.{false, _&&_};
 ghost use mathlib.Core.Path.{_≡_};
 ghost use Prim.Native.Nat.{_<_};
@@ -8,20 +7,17 @@ ghost use denote.Ref.{now};
 ghost use Rattle.scalar.specs.F32.{_>f_};
 ghost use Rattle.scalar.specs.Literals.{f0};
 ghost use Rattle.heights.specs.Nodes.{xt, wt, zgBy, heightOf, igAt, ibAt};
-ghost use Rattle.heights.specs.Gethp.{cutOf, mupOf, hpOf, heightsBy, gethpOf, gethpScanOf};
-ghost use Rattle.heights.specs.Bendy.{bendyOf, penOf, bendyAnswer, penAnswer};
-ghost use Rattle.heights.specs.Xlin.{xlinFound};
-ghost use Rattle.heights.specs.Walk.{flat, walkTable, scanTable, tableBy, cursorAfter, ysqReadBy, cursorReadBy, gethpReadOf};
+ghost use lib.ListN.{replicate};
+ghost use Rattle.heights.specs.Gethp.{hpOf, heightsBy, gethpOf, gethpScanOf};
+ghost use Rattle.heights.specs.Walk.{flat, walkReads, scanReads, tableBy, cursorAfter, ysqReadBy, cursorReadBy, gethpReadOf};
 use height_integral::virtual_height_exact;
 use layers::IonoState;
 use profile::rises_throughout;
-use readings::Found;
 use readings::Reading;
 use readings::profile_interpolate;
 use readings::read_by_scan;
 use readings::read_on;
 use readings::value;
-use refusal::Refusal;
 
 pub struct Heights {
     // virtual and true, in km
@@ -139,28 +135,20 @@ fn ib_at(up: bool, k: usize) -> usize
     1
 }
 
-// A density over `fr`, cut at 0.9999; a NaN becomes 0.9999.
-fn cut(r: Reading, fr: f32) -> f32
-    ensures { λ y. ⌜ y ≡ cutOf r fr ⌝ }
-{
-    let y = value(r);
-    scalar::min(y / fr, 0.9999)
-}
-
-// Forty densities, `ysq[ig][ib]` of the Rust at 2 * ig + ib, and the cursor after the last read.
-pub struct Densities {
-    pub ysq: [f32; 40],
-    pub cursor: usize,
-}
-
-// By one walk in rising order of the nodes: each read goes on from the cursor that the one before left.
-fn walk_densities(htr: &[f32; 50], fnsq: &[f32; 50], xts: &[f32; 20], ht: f32, fr: f32) -> Densities
-    requires { ⌜ now xts ≡ xt ⌝ }
-    ensures { λ r. ⌜ ((r .ysq) ≡ walkTable (now (htr .entry)) (now (fnsq .entry)) ht fr 40) × ((r .cursor) ≡ cursorAfter (now (htr .entry)) (now (fnsq .entry)) ht 40) ⌝ }
+// Forty densities, `ysq[ig][ib]` of the Rust at 2 * ig + ib, and the cursor after the last read. By
+// one walk in rising order of the nodes: each read goes on from the cursor that the one before left.
+fn walk_reads(
+    htr: &[f32; 50],
+    fnsq: &[f32; 50],
+    xts: &[f32; 20],
+    ht: f32,
+    read: &mut [f32; 40],
+) -> usize
+    requires { ⌜ (now xts ≡ xt) × (now read ≡ replicate 40 f0) ⌝ }
+    ensures { λ r. ⌜ (now (read .exit) ≡ walkReads (now (htr .entry)) (now (fnsq .entry)) ht 40) × (r ≡ cursorAfter (now (htr .entry)) (now (fnsq .entry)) ht 40) ⌝ }
 {
     let up = ht >= 0.0;
     let h0 = htr[0];
-    let mut ysq = [0.0; 40];
     let mut ih = 0usize;
     for k in 0..40 {
         let ig = ig_at(k);
@@ -169,52 +157,51 @@ fn walk_densities(htr: &[f32; 50], fnsq: &[f32; 50], xts: &[f32; 20], ht: f32, f
         let r = read_on(htr, fnsq, zi, ih);
         ih = r.cursor;
         let g = r.reading;
-        let y = cut(g, fr);
+        let y = value(g);
         let place = 2 * ig + ib;
-        ysq[place] = y;
+        read[place] = y;
     }
-    Densities {
-        ysq: ysq,
-        cursor: ih,
-    }
+    ih
 }
 
 // By forty scans.
-fn scan_densities(htr: &[f32; 50], fnsq: &[f32; 50], xts: &[f32; 20], ht: f32, fr: f32) -> [f32; 40]
-    requires { ⌜ now xts ≡ xt ⌝ }
-    ensures { λ r. ⌜ r ≡ scanTable (now (htr .entry)) (now (fnsq .entry)) ht fr 40 ⌝ }
+fn scan_reads(htr: &[f32; 50], fnsq: &[f32; 50], xts: &[f32; 20], ht: f32, read: &mut [f32; 40])
+    requires { ⌜ (now xts ≡ xt) × (now read ≡ replicate 40 f0) ⌝ }
+    ensures { λ _. ⌜ now (read .exit) ≡ scanReads (now (htr .entry)) (now (fnsq .entry)) ht 40 ⌝ }
 {
     let h0 = htr[0];
-    let mut ysq = [0.0; 40];
     for k in 0..40 {
         let ig = k / 2;
         let ib = k % 2;
         let zi = height(xts, h0, ht, ig, ib);
         let g = read_by_scan(htr, fnsq, zi);
-        let y = cut(g, fr);
-        ysq[k] = y;
+        let y = value(g);
+        read[k] = y;
     }
-    ysq
 }
 
-fn gethp_densities(htr: &[f32; 50], fnsq: &[f32; 50], rises: bool, ht: f32, fr: f32) -> Densities
-    ensures { λ r. ⌜ ((r .ysq) ≡ tableBy rises (now (htr .entry)) (now (fnsq .entry)) ht fr) × ((r .cursor) ≡ cursorReadBy rises (now (htr .entry)) (now (fnsq .entry)) ht) ⌝ }
+// The forty densities over `fr`, cut, after all are read; and the cursor.
+fn gethp_densities(
+    htr: &[f32; 50],
+    fnsq: &[f32; 50],
+    rises: bool,
+    ht: f32,
+    fr: f32,
+    ysq: &mut [f32; 40],
+) -> usize
+    requires { ⌜ now ysq ≡ replicate 40 f0 ⌝ }
+    ensures { λ r. ⌜ (now (ysq .exit) ≡ tableBy rises (now (htr .entry)) (now (fnsq .entry)) ht fr) × (r ≡ cursorReadBy rises (now (htr .entry)) (now (fnsq .entry)) ht) ⌝ }
 {
     let xts = abscissas();
+    let mut read = [0.0f32; 40];
     if rises {
-        return walk_densities(htr, fnsq, &xts, ht, fr);
+        let cursor = walk_reads(htr, fnsq, &xts, ht, &mut read);
+        integrands::shares(&read, fr, ysq);
+        return cursor;
     }
-    let ysq = scan_densities(htr, fnsq, &xts, ht, fr);
-    Densities {
-        ysq: ysq,
-        cursor: 0,
-    }
-}
-
-fn mup(ysq: f32) -> f32
-    ensures { λ r. ⌜ r ≡ mupOf ysq ⌝ }
-{
-    1.0 / scalar::sqrt(1.0 - ysq)
+    scan_reads(htr, fnsq, &xts, ht, &mut read);
+    integrands::shares(&read, fr, ysq);
+    0
 }
 
 // From `ig` 0 up, as in the Rust: another order of the sum would be rounded otherwise.
@@ -222,14 +209,14 @@ fn quadrature(ysq: &[f32; 40], wts: &[f32; 20]) -> f32
     requires { ⌜ now wts ≡ wt ⌝ }
     ensures { λ r. ⌜ r ≡ hpOf (flat (now (ysq .entry))) 20 ⌝ }
 {
+    let mut mup = [0.0f32; 40];
+    integrands::integrands(ysq, &mut mup);
     let mut hp = 0.0;
     for ig in 0..20 {
         let lower = 2 * ig;
         let upper = 2 * ig + 1;
-        let m0 = mup(ysq[lower]);
-        let m1 = mup(ysq[upper]);
         let w = wts[ig];
-        hp = hp + w * (m0 + m1);
+        hp = hp + w * (mup[lower] + mup[upper]);
     }
     hp
 }
@@ -247,9 +234,8 @@ fn by_densities(
 {
     let h0 = htr[0];
     let hrmz = ht * 0.5 * 1.0;
-    let d = gethp_densities(htr, fnsq, rises, ht, fr);
-    let cursor = d.cursor;
-    let ysq = d.ysq;
+    let mut ysq = [0.0f32; 40];
+    let cursor = gethp_densities(htr, fnsq, rises, ht, fr, &mut ysq);
     let wts = weights();
     let hp = quadrature(&ysq, &wts);
     Heights {
@@ -270,8 +256,8 @@ fn rule_used(exact: bool, ht: f32) -> bool
     false
 }
 
-// `gethp` with the exact rule where it is asked for and can be used, else with the densities read by a walk, or by scans.
-fn gethp_read(htr: &[f32; 50], fnsq: &[f32; 50], exact: bool, rises: bool, fxx: f32) -> Heights
+// `gethp` with the exact rule where it is asked for and can be used, else with the densities read by a walk, or by scans. The profile is lent: for a caller that asks for many frequencies on one.
+pub fn gethp_read(htr: &[f32; 50], fnsq: &[f32; 50], exact: bool, rises: bool, fxx: f32) -> Heights
     ensures { λ r. ⌜ r ≡ gethpReadOf exact rises (now (htr .entry)) (now (fnsq .entry)) fxx ⌝ }
 {
     let fr = fxx * fxx;
@@ -326,73 +312,4 @@ pub fn gethp_scan(s: IonoState, fxx: f32) -> Heights
     let htr = s.htr;
     let fnsq = s.fnsq;
     gethp_read(&htr, &fnsq, s.exact_virtual_height, false, fxx)
-}
-
-// The number of `yn` that goes with `x`, on the line between the neighbours of `x` in `xn`, and the
-// segment of that line; the first one where `x` is below the first of `xn`, and then 50. Level and
-// falling segments are treated as by `profile_interpolate`.
-pub fn xlin(x: f32, xn: &[f32; 50], yn: &[f32; 50]) -> Found
-    ensures { λ r. ⌜ r ≡ xlinFound x (now (xn .entry)) (now (yn .entry)) ⌝ }
-{
-    if xn[0] - x > 0.0 {
-        let lowest = yn[0];
-        return Found {
-            value: lowest,
-            segment: 50,
-        };
-    }
-    profile_interpolate(xn, yn, x)
-}
-
-// A layer's number, or the refusal of a slot or layer number above 2.
-pub enum LayerNumber {
-    Value(f32),
-    Refused(Refusal),
-}
-
-pub fn bendy_at(s: IonoState, i: usize, k: usize, f: f32) -> f32
-    requires { ⌜ (i < 3) × (k < 3) ⌝ }
-    ensures { λ r. ⌜ r ≡ bendyOf s i k f ⌝ }
-{
-    let n = 3 * k + i;
-    let x = scalar::min(f / s.fi[n], 0.999);
-    let l = exponential::ln((1.0 + x) / (1.0 - x));
-    0.5 * x * s.yi[n] * l
-}
-
-pub fn pen_at(s: IonoState, i: usize, k: usize, f: f32) -> f32
-    requires { ⌜ (i < 3) × (k < 3) ⌝ }
-    ensures { λ r. ⌜ r ≡ penOf s i k f ⌝ }
-{
-    let n = 3 * k + i;
-    let x = scalar::max(f / s.fi[n], 1.001);
-    let l = exponential::ln((1.0 + x) / (x - 1.0));
-    s.yi[n] * l * x
-}
-
-// How much the virtual height of a frequency is raised by the parabolic layer `i` of slot `k` that
-// reflects it.
-pub fn bendy(s: IonoState, i: usize, k: usize, f: f32) -> LayerNumber
-    ensures { λ r. ⌜ r ≡ bendyAnswer s i k f ⌝ }
-{
-    if i > 2 {
-        return LayerNumber::Refused(Refusal::SlotNumber);
-    }
-    if k > 2 {
-        return LayerNumber::Refused(Refusal::SlotNumber);
-    }
-    LayerNumber::Value(bendy_at(s, i, k, f))
-}
-
-// The same for a frequency that the layer lets through, delayed, to a higher one.
-pub fn pen(s: IonoState, i: usize, k: usize, f: f32) -> LayerNumber
-    ensures { λ r. ⌜ r ≡ penAnswer s i k f ⌝ }
-{
-    if i > 2 {
-        return LayerNumber::Refused(Refusal::SlotNumber);
-    }
-    if k > 2 {
-        return LayerNumber::Refused(Refusal::SlotNumber);
-    }
-    LayerNumber::Value(pen_at(s, i, k, f))
 }

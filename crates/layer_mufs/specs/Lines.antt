@@ -17,7 +17,7 @@ use Rattle.hops.specs.Rounds.{roundsOf}
 use Rattle.hops.specs.declared.Geometry.{Geometry}
 use Rattle.hops.specs.declared.HopGeometry.{HopGeometry}
 use Rattle.hops.specs.declared.Round.{Round}
-use Rattle.heights.specs.Bendy.{bendyOf, penOf}
+use Rattle.parabolas.specs.Bendy.{bendyOf, penOf}
 use Rattle.heights.specs.Gethp.{Finder, gethpOf}
 use Rattle.layers.specs.State.{profileOnly}
 use Rattle.layers.specs.declared.IonoState.{IonoState}

@@ -259,8 +259,8 @@ fn parabolic(t: IonoState, l: Slot, ks: usize, x: Tangents) -> HeightPair
     requires { ⌜ ks < 3 ⌝ }
     ensures { λ r. ⌜ r ≡ parabolicOf t l ks x ⌝ }
 {
-    let bend = heights::bendy_at(t, 2, ks, x.fx2);
-    let pass = heights::pen_at(t, 0, ks, x.fx2);
+    let bend = parabolas::bendy_at(t, 2, ks, x.fx2);
+    let pass = parabolas::pen_at(t, 0, ks, x.fx2);
     let root = scalar::sqrt(1.0 - x.xt2 * x.xt2);
     HeightPair {
         hp: l.hi2 - l.yi2 + bend + (pass - 2.0 * l.yi0),

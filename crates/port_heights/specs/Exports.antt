@@ -10,9 +10,9 @@ use Rattle.port_state.specs.Ports.{Ported}
 use Rattle.port_state.specs.State.{stateWords, stateOf}
 use Rattle.readings.specs.Scan.{readingOf}
 use Rattle.heights.specs.Gethp.{gethpOf, gethpScanOf}
-use Rattle.heights.specs.Bendy.{bendyAnswer, penAnswer, layerNumberOf, layerValuesOf}
-use Rattle.heights.specs.Xlin.{xlinFound}
-use Rattle.heights.specs.declared.LayerNumber.{LayerNumber}
+use Rattle.parabolas.specs.Bendy.{bendyAnswer, penAnswer, layerNumberOf, layerValuesOf}
+use Rattle.xlin.specs.Xlin.{xlinFound}
+use Rattle.parabolas.specs.declared.LayerNumber.{LayerNumber}
 use Rattle.height_words.specs.Words.{heightsInto, foundInto, readingInto}
 
 -- is one slice too short, is the other

@@ -73,7 +73,7 @@ pub extern "C" fn port_bendy(state: &[u32], i: u32, k: u32, f: u32, out: &mut [u
     }
     let s = port_state::state_of(state);
     let x = scalar::number(f);
-    let a = heights::bendy(s, port_state::wide(i), port_state::wide(k), x);
+    let a = parabolas::bendy(s, port_state::wide(i), port_state::wide(k), x);
     height_words::layer_into(a, out)
 }
 
@@ -89,7 +89,7 @@ pub extern "C" fn port_pen(state: &[u32], i: u32, k: u32, f: u32, out: &mut [u32
     }
     let s = port_state::state_of(state);
     let x = scalar::number(f);
-    let a = heights::pen(s, port_state::wide(i), port_state::wide(k), x);
+    let a = parabolas::pen(s, port_state::wide(i), port_state::wide(k), x);
     height_words::layer_into(a, out)
 }
 
@@ -110,7 +110,7 @@ pub extern "C" fn port_xlin(x: u32, xn: &[u32], yn: &[u32], out: &mut [u32]) -> 
     let at = scalar::number(x);
     let xs = port_state::floats_50(xn, 0);
     let ys = port_state::floats_50(yn, 0);
-    let f = heights::xlin(at, &xs, &ys);
+    let f = xlin::xlin(at, &xs, &ys);
     height_words::found_into(f, out);
     0
 }

@@ -1,3 +1,4 @@
 -- Cells of the reflectrix, and counts of angles.
 mod Cells
+mod Rcosd
 pub mod Counts

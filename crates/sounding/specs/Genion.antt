@@ -12,8 +12,8 @@ use Rattle.layers.specs.Owners.{ownedBy}
 use Rattle.layers.specs.declared.IonoState.{IonoState}
 use Rattle.heights.specs.Gethp.{Finder, gethpOf}
 use Rattle.readings.specs.Scan.{unsearched}
-use Rattle.heights.specs.Xlin.{xlinOf, xlinSegmentOf}
-use Rattle.heights.specs.Bendy.{bendyOf, penOf}
+use Rattle.xlin.specs.Xlin.{xlinOf, xlinSegmentOf}
+use Rattle.parabolas.specs.Bendy.{bendyOf, penOf}
 use Rattle.refusal.specs.declared.Refusal.{Refusal}
 use Rattle.refusal.specs.declared.Outcome.{Outcome}
 use Rattle.reflectrix.specs.Rows.{noRows}

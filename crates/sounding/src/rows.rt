@@ -94,11 +94,14 @@ fn by_profile(s: IonoState, rises: bool, fv: [f32; 30]) -> Columns
         × (r .htrue ≡ rowsOf (λ f. gethpOf s f .ht) fv 0 (replicate 30 f0) 30)
         × (r .segment ≡ rowsOf (λ f. gethpOf s f .segment) fv 0 (replicate 30 0) 30) ⌝ }
 {
+    let htr = s.htr;
+    let fnsq = s.fnsq;
+    let exact = s.exact_virtual_height;
     let mut hprim = [0.0; 30];
     let mut htrue = [0.0; 30];
     let mut segment = [0; 30];
     for i in 0..30 {
-        let h = heights::gethp_rising(s, rises, fv[i]);
+        let h = heights::gethp_read(&htr, &fnsq, exact, rises, fv[i]);
         hprim[i] = h.hp;
         htrue[i] = h.ht;
         segment[i] = h.segment;
@@ -115,7 +118,7 @@ fn true_by_profile(s: IonoState, f: f32) -> Found
 {
     let fnsq = s.fnsq;
     let htr = s.htr;
-    heights::xlin(f * f, &fnsq, &htr)
+    xlin::xlin(f * f, &fnsq, &htr)
 }
 
 // The column of true heights and that of their segments.
@@ -143,9 +146,12 @@ fn virtual_rows_by_profile(s: IonoState, rises: bool, fv: [f32; 30]) -> [f32; 30
     requires { ⌜ rises ≡ risesOf (s .htr) ⌝ }
     ensures { λ r. ⌜ r ≡ rowsOf (λ f. gethpOf s f .hp) fv 10 Genion·HPE 20 ⌝ }
 {
+    let htr = s.htr;
+    let fnsq = s.fnsq;
+    let exact = s.exact_virtual_height;
     let mut hprim = HPE;
     for i in 0..20 {
-        let h = heights::gethp_rising(s, rises, fv[10 + i]);
+        let h = heights::gethp_read(&htr, &fnsq, exact, rises, fv[10 + i]);
         hprim[10 + i] = h.hp;
     }
     hprim
@@ -157,8 +163,8 @@ fn virtual_by_parabola(s: IonoState, k: usize, f: f32) -> f32
 {
     let e = 3 * k;
     let f2 = 3 * k + 2;
-    let bend = heights::bendy_at(s, 2, k, f);
-    let lag = heights::pen_at(s, 0, k, f);
+    let bend = parabolas::bendy_at(s, 2, k, f);
+    let lag = parabolas::pen_at(s, 0, k, f);
     s.hi[f2] - s.yi[f2] + bend + (lag - 2.0 * s.yi[e])
 }
 

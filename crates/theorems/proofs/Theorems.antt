@@ -77,6 +77,7 @@ use Rattle.sounding.proofs.Prepared.{genion-prepared}
 use Rattle.slot_sheet.proofs.Owned.{sheet-never-refused-19, sheet-owned, sheet-by-genion}
 use Rattle.shapes.proofs.Rule.{mark-rule, slot-marks}
 use Rattle.deciles.proofs.NanRow.{nan-middle}
+use Rattle.cell_test.proofs.Test.{test-suffices}
 
 pub theorems : Theorems
 theorems =
@@ -150,6 +151,7 @@ theorems =
       mark-unmet = mark-unmet;
       fobby-small = fobby-small;
       fobby-answers = fobby-answers;
+      test-suffices = test-suffices;
       coefficients-nearest = coefficients-nearest;
       nominal-never-refused-13 = nominal-never-refused-13;
       reads-only = reads-only;

@@ -55,6 +55,7 @@ use Rattle.heights.specs.Segments.{SegmentsFound}
 use Rattle.sounding.specs.Prepared.{GenionPrepared}
 use Rattle.slot_sheet.specs.Owned.{SheetNeverRefused19, SheetOwned, SheetByGenion}
 use Rattle.deciles.specs.NanRow.{NanMiddle}
+use Rattle.cell_test.specs.Laws.{TestSuffices}
 
 pub record Theorems : Type 0 where
   -- ---- Rounding, in both formats
@@ -178,6 +179,8 @@ pub record Theorems : Type 0 where
   pub mark-unmet : MarkUnmet
   pub fobby-small : FobbySmall
   pub fobby-answers : FobbyAnswers
+  -- a guess at a cell of the reflectrix that passes the test of two products is the definition's cell
+  pub test-suffices : TestSuffices
   -- ---- The nominal MUF
   -- its literals are nearest to their decimals, its sine and cosine always answer
   pub coefficients-nearest : CoefficientsNearest

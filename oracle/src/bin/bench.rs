@@ -1,8 +1,11 @@
-//! Our exports beside the Rust's native build on the same realistic states,
-//! in one run: nanoseconds for each call and their ratio.
+//! Our exports beside the Rust's native build on the same realistic hours, in
+//! one run: nanoseconds for each call and their ratio. A desk gives 1, 3 or 5
+//! points, and their profiles rise, so that both sides walk; the others, of 2
+//! or 4 points, whose last slot has no E layer, are timed apart: both scan.
 //!
-//! bench [STATES] [SEED] [NAME..]: 300 states and all names by default; what
-//! reads heights by the exact rule too.
+//! bench [HOURS] [SEED] [NAME..]: 300 hours of each kind and all names by
+//! default; what reads heights by the exact rule too; and the program `sheet`
+//! beside `native_sheet`, each a process of its own.
 
 use oracle::ours;
 use oracle::random::Random;
@@ -14,7 +17,10 @@ use oracle::voacap::ionosphere::EsParams;
 use oracle::voacap::muf::{self, IonoState, LayerMuf};
 use oracle::voacap::side::{self as native, Deciles};
 use oracle::words::*;
+use std::fs::File;
 use std::hint::black_box;
+use std::path::{Path, PathBuf};
+use std::process::{Command, Stdio};
 use std::time::Instant;
 
 /// One hour, as words for ours and as records for the Rust.
@@ -35,8 +41,9 @@ struct Hourly {
 }
 
 impl Hourly {
-    fn new(r: &mut Random, exact: bool) -> Self {
-        let mut words = states::slots(r);
+    fn new(r: &mut Random, points: &[usize], exact: bool) -> Self {
+        let count = r.pick(points);
+        let mut words = states::slots_of(r, count);
         words[IEDP] = -1i32 as u32;
         words[EXACT] = u32::from(exact);
         let call = states::plain_hour(r, words[KM] as usize);
@@ -234,13 +241,94 @@ fn print_shares(times: &[(&str, Times)]) {
     }
 }
 
-fn main() {
-    let hours = |exact: bool| -> Vec<Hourly> {
+/// Hours whose profile rises, or does not, of one of these numbers of points,
+/// and how many were drawn.
+struct Kind {
+    name: &'static str,
+    points: &'static [usize],
+    rising: bool,
+    exact: bool,
+}
+
+const KINDS: [Kind; 3] = [
+    Kind {
+        name: "rising profiles, by forty nodes",
+        points: &[1, 3, 5],
+        rising: true,
+        exact: false,
+    },
+    Kind {
+        name: "other profiles, by forty nodes",
+        points: &[2, 4],
+        rising: false,
+        exact: false,
+    },
+    Kind {
+        name: "rising profiles, by the exact rule",
+        points: &[1, 3, 5],
+        rising: true,
+        exact: true,
+    },
+];
+
+impl Kind {
+    fn hours(&self) -> Vec<Hourly> {
         let mut random = Random::new(argument(2, 1));
-        (0..argument(1, 300))
-            .map(|_| Hourly::new(&mut random, exact))
-            .collect()
-    };
+        let wanted = argument(1, 300) as usize;
+        let (mut kept, mut drawn) = (Vec::new(), 0);
+        while kept.len() < wanted {
+            let hour = Hourly::new(&mut random, self.points, self.exact);
+            drawn += 1;
+            if rises(&hour.profile_words) == self.rising {
+                kept.push(hour);
+            }
+        }
+        let (name, points) = (self.name, self.points);
+        println!("{name}: {wanted} of {drawn} hours with {points:?} points");
+        kept
+    }
+}
+
+/// A program's time on the sample circuit, from its start to its end.
+fn process(program: &Path) -> f64 {
+    let sample = repository().join("crates/sheet/stdin");
+    let input = File::open(sample).expect("the sample circuit");
+    let started = Instant::now();
+    let status = Command::new(program)
+        .stdin(input)
+        .stdout(Stdio::null())
+        .status()
+        .expect("the program runs");
+    assert!(status.success());
+    started.elapsed().as_secs_f64() * 1e9
+}
+
+fn repository() -> PathBuf {
+    Path::new(env!("CARGO_MANIFEST_DIR")).join("..")
+}
+
+/// `sheet` on the sample circuit beside the Rust doing the same.
+fn processes() {
+    let beside = std::env::current_exe().expect("this program's path");
+    let programs = [
+        repository().join("target/bin/sheet"),
+        beside.with_file_name("native_sheet"),
+    ];
+    if let Some(missing) = programs.iter().find(|p| !p.exists()) {
+        println!("not timed: {} is not there", missing.display());
+        return;
+    }
+    let mut best = [f64::MAX; 2];
+    for _ in 0..10 * ROUNDS {
+        for (program, best) in programs.iter().zip(&mut best) {
+            *best = best.min(process(program));
+        }
+    }
+    println!("whole processes, the sample circuit");
+    print_times("sheet", best);
+}
+
+fn main() {
     let named: Vec<String> = std::env::args().skip(3).collect();
     let chosen = |name: &str| named.is_empty() || named.iter().any(|n| n == name);
     let timed: Vec<Timed> = TIMED
@@ -252,15 +340,21 @@ fn main() {
         .filter(|t| READING.contains(&t.0))
         .copied()
         .collect();
-    for (exact, timed) in [(false, timed), (true, reading)] {
-        println!("{}", if exact { "by the exact rule" } else { "by forty nodes" });
-        let times = measure(&hours(exact), &timed);
+    for kind in &KINDS {
+        let timed = if kind.exact { &reading } else { &timed };
+        if timed.is_empty() {
+            continue;
+        }
+        let times = measure(&kind.hours(), timed);
         let times: Vec<(&str, Times)> = timed.iter().map(|t| t.0).zip(times).collect();
         for (name, times) in &times {
             print_times(name, *times);
         }
-        if named.is_empty() && !exact {
+        if named.is_empty() && kind.rising && !kind.exact {
             print_shares(&times);
         }
+    }
+    if chosen("sheet") {
+        processes();
     }
 }

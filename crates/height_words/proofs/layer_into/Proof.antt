@@ -1,7 +1,7 @@
 -- Each path is its clause of the definition; each call is what its contract says.
 use mathlib.Core.Path.{refl}
 use Rattle.port_state.specs.Words.{floatsInto}
-use Rattle.heights.specs.Bendy.{layerNumberOf, layerValuesOf}
+use Rattle.parabolas.specs.Bendy.{layerNumberOf, layerValuesOf}
 use borrow.Author.Needs.{needs}
 use Rattle.height_words.proofs.layer_into.Statement.{statement}
 use Rattle.height_words.proofs.layer_into.Tie as tie

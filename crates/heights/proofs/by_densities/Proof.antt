@@ -24,8 +24,8 @@ whole rises htr fnsq ht fr segment ysq cursor hp ey ec eh = rw (eh, ey, ec, tabl
 returns : tie.Need-returns
 returns c =
     let a = c .before .before .before .before .before .before .before .args in
-    let d = c .before .before .before .before .before .gethp-densities in
-    whole (a .rises) (a .htr .now) (a .fnsq .now) (a .ht) (a .fr) (a .segment) (d .result .ysq) (d .result .cursor) (c .quadrature .result) (d .ensures .0) (d .ensures .1) (c .quadrature .ensures)
+    let d = c .before .before .before .before .gethp-densities in
+    whole (a .rises) (a .htr .now) (a .fnsq .now) (a .ht) (a .fr) (a .segment) _ (d .result) (c .quadrature .result) (d .ensures .0) (d .ensures .1) (c .quadrature .ensures)
 
 pub by-densities-spec : {M : Type 1} → statement M
 by-densities-spec = tie.close (tie.spec (λ c. search needs) (λ c κs. search needs) (λ c κs. search needs) (λ c κs. search needs) returns)

@@ -4,41 +4,42 @@ use Prim.Native.Nat.{_≤_, _-_}
 use native.Mathlib.Nat.{le-antisymm}
 use native.Mathlib.Numerals.{add-one}
 use native.Mathlib.Omega.{arith}
-use Rattle.heights.specs.Gethp.{gethpOf}
+use Rattle.heights.specs.Walk.{gethpReadOf}
 use Rattle.heights.proofs.Owned.{field-held}
-use Rattle.heights.proofs.Walks.{gethp-read-so}
+use Rattle.sounding.proofs.Lent.{lent-rows}
 use Rattle.sounding.specs.Genion.{HPE, rowsOf}
 use Rattle.sounding.proofs.rows.virtual_rows_by_profile.Statement.{statement}
 use Rattle.sounding.proofs.rows.virtual_rows_by_profile.Tie as tie
 
 abbrev Inv-loop : tie.InvT-loop
-Inv-loop s rises fv hprim₀ i₀ hprim i = (i ≤ 20) × (hprim ≡ rowsOf (λ f. gethpOf s f .hp) fv 10 HPE i)
+Inv-loop rises fv htr fnsq exact hprim₀ i₀ hprim i = (i ≤ 20) × (hprim ≡ rowsOf (λ f. gethpReadOf exact rises htr fnsq f .hp) fv 10 HPE i)
 
 abbrev μ-loop : tie.MeasureT-loop
-μ-loop s rises fv hprim₀ i₀ hprim i = 20 - i
+μ-loop rises fv htr fnsq exact hprim₀ i₀ hprim i = 20 - i
 
 loop-holds : tie.Need-loop-holds Inv-loop μ-loop
 unfolding rowsOf HPE
 loop-holds c = (omega arith, refl)
 
-gethp-rising-requires : tie.Need-gethp-rising-requires Inv-loop μ-loop
-gethp-rising-requires c κs = tt
+gethp-read-requires : tie.Need-gethp-read-requires Inv-loop μ-loop
+gethp-read-requires c κs = tt
 
 loop-again : tie.Need-loop-again Inv-loop μ-loop
 unfolding rowsOf
-loop-again c =
-    let l = c .before .before in
-    let a = l .before .args in
-    let g = l .before .good .0 .1 .1 .1 .1 .1 .1 .1 .0 in
-    let e = c .gethp-rising .ensures ∙ gethp-read-so (a .rises) (a .s) _ (field-held (a .s .htr) (g .0) (g .1 .1)) (l .before .pre) in
-    (omega arith, rw (add-one _, ← l .loop .inv .1, ← e))
+loop-again c = let l = c .before .before .before .before .loop in (omega arith, rw (add-one _, ← l .inv .1, ← c .gethp-read .ensures))
 
 returns : tie.Need-returns Inv-loop μ-loop
-returns c = c .before .loop .inv .1 ∙ ap (rowsOf _ _ _ _) (le-antisymm (c .before .loop .inv .0) (c .loop-test .left))
+returns c =
+    let q = c .before .before .before .before in
+    let a = q .args in
+    let g = q .good .0 .1 .1 .1 .1 .1 .1 .1 .0 in
+    c .before .loop .inv .1
+    ∙ ap (rowsOf _ _ _ _) (le-antisymm (c .before .loop .inv .0) (c .loop-test .left))
+    ∙ lent-rows (λ h. h .hp) (a .s) (a .rises) (field-held (a .s .htr) (g .0) (g .1 .1)) (q .pre) _ _ _ _
 
 pub virtual-rows-by-profile-spec : {M : Type 1} → statement M
 virtual-rows-by-profile-spec =
     tie.close
     (tie.spec Inv-loop μ-loop loop-holds (λ c. omega arith) (λ c. omega arith) (λ c. omega arith)
-    gethp-rising-requires (λ c. omega arith) (λ c. omega arith) (λ c. omega arith) (λ c. omega arith)
+    gethp-read-requires (λ c. omega arith) (λ c. omega arith) (λ c. omega arith) (λ c. omega arith)
     (λ c. omega arith) loop-again returns)

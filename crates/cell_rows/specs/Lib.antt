@@ -1,0 +1,2 @@
+-- The cells of an angle together.
+pub mod Row

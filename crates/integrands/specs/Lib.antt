@@ -1,0 +1,2 @@
+-- The integrands of the Gauss rule.
+pub mod Integrands

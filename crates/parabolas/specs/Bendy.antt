@@ -1,0 +1,41 @@
+-- `bendy` and `pen`: how much a parabolic layer i of slot k raises the virtual height of a frequency that it reflects, and of one that passes through it.
+use mathlib.Core.Bool.{Bool, true, false}
+use mathlib.Core.List.{List, [], _∷_}
+use Prim.Native.Nat.{ℕ, _+_, _*_}
+use lib.Dec.{ltb}
+use lib.Ieee.{Float}
+use Rattle.scalar.specs.F32.{_+f_, _-f_, _*f_, _/f_, at}
+use Rattle.scalar.specs.Literals.{f0·5, f0·999, f1, f1·001}
+use Rattle.scalar.specs.Scalar.{minOf, maxOf}
+use Rattle.exponential.specs.Ln.{lnOf}
+use Rattle.refusal.specs.declared.Refusal.{Refusal}
+use Rattle.refusal.specs.Number.{numberOf}
+use Rattle.layers.specs.declared.IonoState.{IonoState}
+use Rattle.parabolas.specs.declared.LayerNumber.{LayerNumber}
+
+unfoldable pub bendyOf : IonoState → ℕ → ℕ → Float → Float
+bendyOf s i k f = let x = minOf (f /f at (s .fi) (3 * k + i)) f0·999 in f0·5 *f x *f at (s .yi) (3 * k + i) *f lnOf ((f1 +f x) /f (f1 -f x))
+
+unfoldable pub penOf : IonoState → ℕ → ℕ → Float → Float
+penOf s i k f = let x = maxOf (f /f at (s .fi) (3 * k + i)) f1·001 in at (s .yi) (3 * k + i) *f lnOf ((f1 +f x) /f (x -f f1)) *f x
+
+-- a layer or a slot number above 2 is refused
+abbrev pub answerBy : Bool → Bool → Float → LayerNumber
+answerBy true b v = LayerNumber.Refused Refusal.SlotNumber
+answerBy false true v = LayerNumber.Refused Refusal.SlotNumber
+answerBy false false v = LayerNumber.Value v
+
+unfoldable pub bendyAnswer : IonoState → ℕ → ℕ → Float → LayerNumber
+bendyAnswer s i k f = answerBy (ltb 2 i) (ltb 2 k) (bendyOf s i k f)
+
+unfoldable pub penAnswer : IonoState → ℕ → ℕ → Float → LayerNumber
+penAnswer s i k f = answerBy (ltb 2 i) (ltb 2 k) (penOf s i k f)
+
+-- ---- the paper's number and values of each case
+unfoldable pub layerNumberOf : LayerNumber → ℕ
+layerNumberOf (LayerNumber.Value v) = 0
+layerNumberOf (LayerNumber.Refused r) = numberOf r
+
+unfoldable pub layerValuesOf : LayerNumber → List Float
+layerValuesOf (LayerNumber.Value v) = v ∷ []
+layerValuesOf (LayerNumber.Refused r) = []

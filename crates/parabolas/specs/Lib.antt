@@ -1,0 +1,2 @@
+-- Parabolic layers.
+pub mod Bendy

@@ -1,0 +1,2 @@
+-- Interpolation.
+pub mod Xlin
