@@ -1,0 +1,4 @@
+-- Rounding a fraction by its 24 digits.
+mod Rounded
+mod Scaled
+mod Magnitude
