@@ -25,11 +25,8 @@ line-run (b ∷ t) = by (eqb b 10) (line-run t)
     by true h = omega arith
     by false h = omega arith
 
-pub inside : (l : List ℕ) (at e : ℕ) → at < length l → e ≡ at + run (other 10) (drop at l) → e < length l → e + 1 ≡ at + lineLength (drop at l)
-inside l at e h f k = omega (arith, line-run (drop at l), length-drop at l)
-
-pub last : (l : List ℕ) (at e : ℕ) → at < length l → e ≡ at + run (other 10) (drop at l) → e ≤ length l → length l ≤ e → e ≡ at + lineLength (drop at l)
-last l at e h f k m = omega (arith, line-run (drop at l), length-drop at l)
+pub line-at : (l : List ℕ) (at e : ℕ) → at < length l → e ≡ min (at + run (other 10) (drop at l) + 1) (length l) → e ≡ at + lineLength (drop at l)
+line-at l at e h f = omega (arith, line-run (drop at l), length-drop at l)
 
 pub one-line : (l : List ℕ) (at e : ℕ) → at < length l → e ≡ at + lineLength (drop at l) → linesOf (drop at l) ≡ take (e - at) (drop at l) ∷ linesOf (drop e l)
 one-line l at e h f =

@@ -3,10 +3,10 @@ mod given;
 
 ghost use mathlib.Core.Path.{_≡_};
 ghost use mathlib.Core.Bool.{_||_};
-ghost use Prim.Native.Nat.{_+_, _≤_, _<_};
+ghost use Prim.Native.Nat.{_+_, _≤_, _<_, min};
 ghost use lib.Dec.{eqb};
 ghost use lib.ListN.{length, drop};
-ghost use Rattle.words.proofs.Split.{lineLength};
+ghost use Rattle.words.specs.Words.{run, other};
 ghost use Rattle.compose_text.specs.Draft.{noDraft, failed, isShape, withPath, withPoint, withDeciles, withRow, withLine, isWhole, endedDraft, composedOf};
 use circuit::Circuit;
 use compose_line::Row;
@@ -167,7 +167,7 @@ fn ended(d: Draft, n: usize) -> Draft
 // Past the line feed that ends the line, or the end.
 fn line_end(text: &[u8], at: usize) -> usize
     requires { ⌜ at < length (now text) ⌝ }
-    ensures { λ r. ⌜ (r ≤ length (now (text .entry))) × (at < r) × (r ≡ at + lineLength (drop at (now (text .entry)))) ⌝ }
+    ensures { λ r. ⌜ (r ≤ length (now (text .entry))) × (at < r) × (r ≡ min (at + run (other 10) (drop at (now (text .entry))) + 1) (length (now (text .entry)))) ⌝ }
 {
     let e = words::until(text, at, b'\n');
     if e < text.len() {

@@ -6,7 +6,7 @@ use borrow.Author.Needs.{needs}
 use lib.ListN.{length, drop}
 use Rattle.first_difference.specs.Lines.{linesOf}
 use Rattle.compose_text.specs.Draft.{withLines, composedOf}
-use Rattle.compose_text.proofs.LinePlaces.{taken-line, no-lines}
+use Rattle.compose_text.proofs.LinePlaces.{line-at, taken-line, no-lines}
 use Rattle.compose_text.proofs.compose.Statement.{statement}
 use Rattle.compose_text.proofs.compose.Tie as tie
 
@@ -28,7 +28,8 @@ loop-again : tie.Need-loop-again Inv-loop μ-loop
 loop-again c =
     let l = c .before .before .before .before .loop in
     let e = c .before .before .line-end .ensures in
-    (e .0, omega (arith, e .1, l .inv .1), rw (c .with-line .ensures) (taken-line _ _ _ _ _ (c .before .before .before .loop-test .taken) (e .2) ∙ l .inv .2))
+    let h = c .before .before .before .loop-test .taken in
+    (e .0, omega (arith, e .1, l .inv .1), rw (c .with-line .ensures) (taken-line _ _ _ _ _ h (line-at _ _ _ h (e .2)) ∙ l .inv .2))
 
 returns : tie.Need-returns Inv-loop μ-loop
 returns c =
