@@ -8,10 +8,15 @@ ghost use Rattle.compose_line.specs.Row.{blankRow, faulted, begun, named
 use decimals::Decimal;
 
 pub const UNKNOWN_LINE: u32 = 1;
+
 pub const UNKNOWN_FIELD: u32 = 2;
+
 pub const FIELD_TWICE: u32 = 3;
+
 pub const NOT_A_NUMBER: u32 = 4;
+
 pub const NUMBER_MISSING: u32 = 5;
+
 pub const FIELD_MISSING: u32 = 6;
 
 // The kind is that of the file's record, 0 for a line without a word; `missing` has a 1 for each number that is still to come;

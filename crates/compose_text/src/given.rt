@@ -4,8 +4,8 @@ ghost use mathlib.Core.List.{[], _∷_};
 ghost use Prim.Native.Nat.{_<_};
 ghost use Rattle.lines.specs.Text.{Clipped};
 ghost use Rattle.compose_text.specs.Draft.{shapeIn, givenPath, givenPoint, givenDeciles, pathed, pointed, deciled};
-use circuit::Circuit;
 use crate::Draft;
+use circuit::Circuit;
 
 // A word into lent cells, where there is room; the place after it.
 fn put(out: &mut [u32], at: usize, w: u32) -> usize

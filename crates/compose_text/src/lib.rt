@@ -12,14 +12,23 @@ use circuit::Circuit;
 use compose_line::Row;
 
 pub const SECOND_PATH: u32 = 7;
+
 pub const BAD_SHAPE: u32 = 8;
+
 pub const NO_PATH_YET: u32 = 9;
+
 pub const POINT_TOO_LATE: u32 = 10;
+
 pub const TOO_MANY_POINTS: u32 = 11;
+
 pub const NO_POINT_YET: u32 = 12;
+
 pub const TOO_MANY_DECILES: u32 = 13;
+
 pub const NO_PATH: u32 = 14;
+
 pub const NO_POINT: u32 = 15;
+
 pub const TOO_FEW_DECILES: u32 = 16;
 
 // The circuit so far, the lines of the path and of deciles so far, and what is wrong, numbered, 0 for nothing, with the number

@@ -48,8 +48,10 @@ pub record Pattern (s : Bool) (n d i j k : ℕ) : Type 0 where
 module _ (s : Bool) (n d i j k : ℕ) (D : 0 < d) (e : 149 + j ≡ i + k) (lo : 2 ^ 23 * (d * 2 ^ j) ≤ n * 2 ^ i) (hi : n * 2 ^ i < 2 ^ 24 * (d * 2 ^ j)) (small : k < 252) where
   abbrev N : ℕ
   N = n * 2 ^ 149
+
   abbrev C : ℕ
   C = d * 2 ^ j
+
   abbrev q : ℕ
   q = closest (n * 2 ^ i) C
 

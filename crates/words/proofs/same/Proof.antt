@@ -12,7 +12,6 @@ use Rattle.words.specs.Words.{blank, run, inWord, other}
 use Rattle.words.proofs.Runs.{run-on, run-off, run-end}
 use Rattle.words.proofs.same.Statement.{statement}
 use Rattle.words.proofs.same.Tie as tie
-
 use Rattle.words.proofs.Equal.{on, off, short, ended}
 
 abbrev Inv-loop : tie.InvT-loop
