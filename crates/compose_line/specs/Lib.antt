@@ -1,0 +1,3 @@
+-- What a line of a circuit's text says.
+pub mod Names
+pub mod Row

@@ -1,0 +1,2 @@
+-- The circuit that a text says.
+pub mod Draft

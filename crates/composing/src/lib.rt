@@ -1,0 +1,139 @@
+// What `compose` prints of a text: the file of its circuit, or the number of the first wrong line and what is wrong.
+ghost use mathlib.Core.Path.{_≡_};
+ghost use Prim.Native.Nat.{_≤_};
+ghost use lib.ListN.{length};
+ghost use Rattle.circuit_write.specs.Written.{lengthIn};
+ghost use Rattle.io.specs.Counts.{Counts};
+ghost use Rattle.lines.specs.Text.{Clipped};
+ghost use Rattle.composing.specs.Composing.{lineWords, orderWords, endWords, faultWords, wrongText, saidLength, saidHeld, lengthOf, heldOf};
+use circuit_write::WriteAnswer;
+use compose_text::Draft;
+use lines::put_byte;
+use lines::put_decimal;
+use lines::put_word;
+
+// One byte more than the longest text that is read.
+pub const INPUT: usize = 32769;
+// Room for every file and every line.
+pub const ROOM: usize = 4096;
+
+fn put_line_words(out: &mut [u8], at: usize, fault: u32) -> usize
+    ensures { λ r. ⌜ Clipped (lineWords fault) (now (out .entry)) at (now (out .exit)) r ⌝ }
+{
+    if fault == 1 {
+        return put_word(out, at, b"not path, point or deciles");
+    }
+    if fault == 2 {
+        return put_word(out, at, b"unknown field");
+    }
+    if fault == 3 {
+        return put_word(out, at, b"a field twice");
+    }
+    if fault == 4 {
+        return put_word(out, at, b"not a number");
+    }
+    if fault == 5 {
+        return put_word(out, at, b"a number is missing");
+    }
+    if fault == 6 {
+        return put_word(out, at, b"a field is missing");
+    }
+    at
+}
+
+fn put_order_words(out: &mut [u8], at: usize, fault: u32) -> usize
+    ensures { λ r. ⌜ Clipped (orderWords fault) (now (out .entry)) at (now (out .exit)) r ⌝ }
+{
+    if fault == 7 {
+        return put_word(out, at, b"a second path");
+    }
+    if fault == 8 {
+        return put_word(out, at, b"shape is not 0 or 1");
+    }
+    if fault == 9 {
+        return put_word(out, at, b"no path before it");
+    }
+    if fault == 10 {
+        return put_word(out, at, b"a point after deciles");
+    }
+    if fault == 11 {
+        return put_word(out, at, b"too many points");
+    }
+    if fault == 12 {
+        return put_word(out, at, b"no point before it");
+    }
+    if fault == 13 {
+        return put_word(out, at, b"too many deciles");
+    }
+    at
+}
+
+fn put_end_words(out: &mut [u8], at: usize, fault: u32) -> usize
+    ensures { λ r. ⌜ Clipped (endWords fault) (now (out .entry)) at (now (out .exit)) r ⌝ }
+{
+    if fault == 14 {
+        return put_word(out, at, b"no path");
+    }
+    if fault == 15 {
+        return put_word(out, at, b"no point");
+    }
+    if fault == 16 {
+        return put_word(out, at, b"not 48 lines of deciles");
+    }
+    at
+}
+
+fn put_fault_words(out: &mut [u8], at: usize, fault: u32) -> usize
+    ensures { λ r. ⌜ Clipped (faultWords fault) (now (out .entry)) at (now (out .exit)) r ⌝ }
+{
+    if fault < 7 {
+        return put_line_words(out, at, fault);
+    }
+    if fault < 14 {
+        return put_order_words(out, at, fault);
+    }
+    put_end_words(out, at, fault)
+}
+
+fn put_wrong(out: &mut [u8], line: usize, fault: u32) -> usize
+    ensures { λ r. ⌜ Clipped (wrongText line fault) (now (out .entry)) 0 (now (out .exit)) r ⌝ }
+{
+    let a = put_word(out, 0, b"line ");
+    let b = put_decimal(out, a, line as u64);
+    let c = put_word(out, b, b": ");
+    let d = put_fault_words(out, c, fault);
+    put_byte(out, d, b'\n')
+}
+
+fn length_in(a: WriteAnswer) -> usize
+    ensures { λ n. ⌜ n ≡ lengthIn a ⌝ }
+{
+    match a {
+        WriteAnswer::Written(n) => n,
+        WriteAnswer::Refused(_) => 0,
+    }
+}
+
+fn said(d: Draft, out: &mut [u8]) -> usize
+    ensures { λ r. ⌜ r ≡ saidLength d (now (out .entry)) ⌝ }
+    ensures { λ _. ⌜ now (out .exit) ≡ saidHeld d (now (out .entry)) ⌝ }
+    ensures { λ r. ⌜ r ≤ length (now (out .entry)) ⌝ }
+{
+    if d.fault != 0 {
+        return put_wrong(out, d.line, d.fault);
+    }
+    let a = circuit_write::write(d.circuit, out);
+    length_in(a)
+}
+
+// The file of the circuit that a text says, or what is wrong with the text; how many bytes that is.
+pub fn compose(text: &[u8], out: &mut [u8]) -> usize
+    ensures { λ r. ⌜ r ≡ lengthOf (now (text .entry)) (now (out .entry)) ⌝ }
+    ensures { λ _. ⌜ now (out .exit) ≡ heldOf (now (text .entry)) (now (out .entry)) ⌝ }
+    ensures { λ r. ⌜ Counts r (now (out .exit)) ⌝ }
+{
+    if text.len() > 32768 {
+        return put_word(out, 0, b"over 32768 bytes\n");
+    }
+    said(compose_text::compose(text), out)
+}

@@ -1,0 +1,2 @@
+-- A decimal as a person writes it.
+pub mod Decimal

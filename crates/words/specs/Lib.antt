@@ -1,0 +1,2 @@
+-- A line's words.
+pub mod Words
