@@ -3,7 +3,7 @@ ghost use mathlib.Core.Path.{_≡_};
 ghost use mathlib.Core.Bool.{true, false};
 ghost use Prim.Native.Nat.{_/_, _%_, _^_, _≤_};
 ghost use Rattle.io.specs.Digits.{glyph, digits};
-ghost use Rattle.lines.specs.Text.{Clipped};
+ghost use Rattle.lines.specs.Text.{decimalOf, Clipped};
 ghost use Rattle.aligned.specs.Aligned.{right};
 ghost use Rattle.decimal_text.specs.Number.{placedText, signedText, kindOf, numberText};
 
@@ -108,6 +108,15 @@ fn put_minus_units(out: &mut [u8], at: usize, width: usize, places: usize, n: u6
 {
     let mut text = [0u8; 32];
     let k = put_minus(&mut text, 0, places, n);
+    aligned::put_right(out, at, width, &text[..k])
+}
+
+// n in decimal digits, at the right of so many characters.
+pub fn put_whole(out: &mut [u8], at: usize, width: usize, n: u64) -> usize
+    ensures { λ e. ⌜ Clipped (right width (decimalOf n)) (now (out .entry)) at (now (out .exit)) e ⌝ }
+{
+    let mut text = [0u8; 20];
+    let k = lines::put_decimal(&mut text, 0, n);
     aligned::put_right(out, at, width, &text[..k])
 }
 
