@@ -8,6 +8,7 @@ use borrow.Author.Tests.{leb-true}
 use lib.Dec.{leb}
 use lib.ListN.{length, length-append}
 use Rattle.lines.specs.Text.{space, joined}
+use Rattle.lines.proofs.Sizes.{AtMost}
 use Rattle.aligned.specs.Aligned.{star, repeated, right, RightWidth}
 
 repeated-length : (b n : ℕ) → length (repeated b n) ≡ n
@@ -26,3 +27,6 @@ right-width width text = by (leb (length text) width) refl
         let s = repeated-length space (width - length text) in
         omega arith
     by false e = repeated-length star width
+
+pub right-most : (width : ℕ) (text : List ℕ) → AtMost (right width text) width
+right-most width text = record { most = omega (arith, right-width width text) }

@@ -8,6 +8,7 @@ use native.Mathlib.Omega.{arith}
 use borrow.Author.Tests.{leb-true, leb-false, lt-leb}
 use lib.Dec.{leb}
 use lib.ListN.{length, length-append, take}
+use lib.Ieee.{Float}
 use lib.Pow.{pow-add}
 use lib.Seq.{sets, sets-eq, length-sets, take-at}
 use Rattle.io.specs.Digits.{digits}
@@ -24,6 +25,9 @@ use Rattle.decimal_text.proofs.Digits.{some, long}
 pub number-width : NumberWidth
 unfolding numberText
 number-width width places v = right-width width (writtenOf places v)
+
+pub number-most : (width places : ℕ) (v : Float) → AtMost (numberText width places v) width
+number-most width places v = record { most = omega (arith, number-width width places v) }
 
 placed-length : (places n : ℕ) → length (placedText places n) ≡ length (decimalOf (n / 10 ^ places)) + 1 + places
 unfolding placedText

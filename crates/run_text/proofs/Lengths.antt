@@ -3,12 +3,10 @@ use mathlib.Core.Bool.{Bool, true, false}
 use mathlib.Core.List.{List}
 use Prim.Native.Nat.{ℕ, _+_}
 use native.Mathlib.Omega.{arith}
-use lib.ListN.{length}
 use Rattle.lines.specs.Text.{decimalOf}
 use Rattle.lines.proofs.Sizes.{AtMost, _then_, word, line-feed, times}
 use Rattle.aligned.specs.Ascii.{ascii}
-use Rattle.aligned.specs.Aligned.{right}
-use Rattle.aligned.proofs.Widths.{right-width}
+use Rattle.aligned.proofs.Widths.{right-most}
 use Rattle.shapes.specs.Mark.{nameOf}
 use Rattle.shapes.specs.declared.Mark.{Mark}
 use Rattle.shapes.specs.declared.HeightMark.{HeightMark}
@@ -24,17 +22,14 @@ name Mark.F1 = record { most = omega arith }
 name Mark.F2 = record { most = omega arith }
 name Mark.Gap = record { most = omega arith }
 
-field : (width : ℕ) (t : List ℕ) → AtMost (right width t) width
-field width t = record { most = omega (arith, right-width width t) }
-
 start : (b : Bool) (i : ℕ) → AtMost (startText b i) 6
 unfolding startText
-start true i = field 2 (decimalOf (i + 1)) then word (ascii " to ")
+start true i = right-most 2 (decimalOf (i + 1)) then word (ascii " to ")
 start false i = record { most = omega arith }
 
 end : (b : Bool) (i : ℕ) (m : Mark) → AtMost (endText b i m) 16
 unfolding endText
-end true i m = field 2 (decimalOf (i + 1)) then word (ascii "  ") then name m then line-feed
+end true i m = right-most 2 (decimalOf (i + 1)) then word (ascii "  ") then name m then line-feed
 end false i m = record { most = omega arith }
 
 pub runs-most : (marks : List HeightMark) → AtMost (runsText marks) 1100
