@@ -20,14 +20,14 @@ made() {
     log=$("$@" 2>&1) || { echo "$log"; exit 1; }
     echo "$log" | tail -n 1
 }
-for name in scalar_c port_circuit port_wide port_state port_heights port_muf port_nominal port_ionogram port_figures port_tariff port_totals port_traces port_mark; do
+for name in scalar_c port_circuit port_wide port_state port_heights port_muf port_nominal port_ionogram port_figures port_tariff port_totals port_traces port_mark port_text; do
     if [ -d "crates/$name" ]; then
         made rt staticlib "$name"
     else
         echo "crates/$name is not there"
     fi
 done
-for name in chain sheet widen narrow mark; do
+for name in chain sheet show widen narrow mark; do
     if [ -d "crates/$name" ]; then
         made rt check "$name"
     else

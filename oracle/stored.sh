@@ -13,3 +13,6 @@ made=oracle/target/release
 "$made/expected" mark < crates/mark/stdin > crates/mark/stdout
 "$made/sheet_trials" > crates/sheet_trials/stdout
 "$made/muf_records_trials" > crates/muf_records_trials/stdout
+"$made/expected" show < crates/show/stdin > crates/show/stdout
+"$made/pages" stdin > crates/show_trials/stdin
+"$made/pages" stdout > crates/show_trials/stdout
