@@ -11,6 +11,15 @@ fn length(low: u8, high: u8) -> usize
     low as usize + 256 * (high as usize)
 }
 
+// The page of the first n bytes.
+fn print(file: [u8; INPUT], n: usize) -> bool
+    requires { ⌜ n ≤ 4160 ⌝ }
+{
+    let mut text = [0u8; ROOM];
+    let len = show_text::show_text(&file[..n], &mut text);
+    io::write_all(1, &text[..len])
+}
+
 // The page of the next n bytes; false where there are fewer.
 fn page(n: usize) -> bool {
     if n > INPUT {
@@ -21,9 +30,7 @@ fn page(n: usize) -> bool {
     if got < n {
         return false;
     }
-    let mut text = [0u8; ROOM];
-    let len = show_text::show_text(&file[..n], &mut text);
-    io::write_all(1, &text[..len])
+    print(file, n)
 }
 
 fn next_page() -> bool {

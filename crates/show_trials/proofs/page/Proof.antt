@@ -5,15 +5,8 @@ use borrow.Author.Needs.{needs}
 use Rattle.show_trials.proofs.page.Statement.{statement}
 use Rattle.show_trials.proofs.page.Tie as tie
 
-slice-aggregate-read-full : tie.Need-slice-aggregate-read-full
-slice-aggregate-read-full c = sym (length-take-le _ _ (search needs))
-
-slice-aggregate-show-text : tie.Need-slice-aggregate-show-text
-slice-aggregate-show-text c = sym (length-take-le _ _ (search needs))
-
 pub page-spec : {M : Type 1} → statement M
 page-spec =
     tie.close
-    (tie.spec (λ c. search needs) (λ c. search needs) slice-aggregate-read-full (λ c κs. search needs)
-    (λ c. search needs) (λ c. search needs) slice-aggregate-show-text (λ c κs. search needs) (λ c. search needs)
-    (λ c. search needs) (λ c κs. search needs) (λ c. search needs))
+    (tie.spec (λ c. search needs) (λ c. search needs) (λ c. sym (length-take-le _ _ (search needs)))
+    (λ c κs. search needs) (λ c. search needs) (λ c κs. search needs) (λ c. search needs))
