@@ -220,13 +220,6 @@ const EXPORTS: [Export; 40] = [
         NONE,
     ),
     Export("port_mark", "port_mark", &[Bytes, Lent], "u32", NONE),
-    Export(
-        "port_text",
-        "port_sheet_text",
-        &[Bytes, LentBytes, Lent],
-        "u32",
-        NONE,
-    ),
 ];
 
 /// The text of all wrappers, and the linker's instructions.

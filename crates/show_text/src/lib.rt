@@ -16,7 +16,11 @@ fn put_slot(out: &mut [u8], at: usize, rows: SlotRows, k: usize) -> usize
     let marks = rows.marks;
     let a = lines::put_word(out, at, b"\nSlot ");
     let b = lines::put_decimal(out, a, k as u64);
-    let c = lines::put_word(out, b, b"\nrow      MHz   true km  virtual km       loss  segment\n");
+    let c = lines::put_word(
+        out,
+        b,
+        b"\nrow      MHz   true km  virtual km       loss  segment\n",
+    );
     let d = row_table::put_rows(out, c, ion);
     let e = lines::put_word(out, d, b"\nheights   shape\n");
     run_text::put_runs(out, e, marks)
@@ -43,7 +47,11 @@ fn put_page(out: &mut [u8], s: Sheet) -> usize
     let slots = s.slots;
     let a = muf_table::put_mufs(out, 0, h);
     let b = put_slots(out, a, rows, slots);
-    lines::put_word(out, b, b"\nSegment n lies between heights n + 1 and n + 2 of the slot's profile;\ntop: no segment holds the true height; -: none was looked for.\n")
+    lines::put_word(
+        out,
+        b,
+        b"\nSegment n lies between heights n + 1 and n + 2 of the slot's profile;\ntop: no segment holds the true height; -: none was looked for.\n",
+    )
 }
 
 fn put_refusal(out: &mut [u8], r: Refusal) -> usize
