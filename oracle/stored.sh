@@ -17,3 +17,6 @@ printf '%s hours as stored\n0 hours different\n0 breaks in the list\n' "$hours" 
 "$made/expected" mark < crates/mark/stdin > crates/mark/stdout
 "$made/sheet_trials" > crates/sheet_trials/stdout
 "$made/muf_records_trials" > crates/muf_records_trials/stdout
+"$made/expected" show < crates/show/stdin > crates/show/stdout
+"$made/pages" stdin > crates/show_trials/stdin
+"$made/pages" stdout > crates/show_trials/stdout

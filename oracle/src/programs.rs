@@ -51,18 +51,41 @@ pub fn sheet_or_refusal(file: &[u8]) -> Result<String, u32> {
     circuit::read(file).and_then(|(circuit, _)| sheet_of(&circuit))
 }
 
-fn sheet_of(circuit: &Circuit) -> Result<String, u32> {
+/// The numbers of a sheet: the hour's words, and of each slot its rows and marks.
+pub struct Numbers {
+    pub hour: Vec<u32>,
+    pub slots: Vec<(Vec<u32>, Vec<u32>)>,
+}
+
+/// The numbers of a file's sheet, or where it is turned away.
+pub fn numbers(file: &[u8]) -> Result<Numbers, u32> {
+    circuit::read(file).and_then(|(circuit, _)| numbers_of(&circuit))
+}
+
+fn numbers_of(circuit: &Circuit) -> Result<Numbers, u32> {
     let [_, gcdkm, amind, _] = circuit.numbers.map(f32::from_bits);
     predict::sang(gcdkm)?;
     let (state, call) = (slots(circuit), hour(circuit));
     predict::curmuf(&state, &call)?;
     let (_, _, hour) = side::curmuf(&state, &call);
     let nang = side::sang(gcdkm, amind) as usize;
-    let mut text = muf_lines(&hour);
-    for k in 0..state[KFX] as usize {
+    let slot = |k: usize| {
         let (_, rows, _) = side::sheet(&state, k, nang, &hour[KS + 1..]);
-        text += &slot_lines(k, &rows);
-        text += &mark_lines(&side::marks(&state, k));
+        (rows.to_vec(), side::marks(&state, k).to_vec())
+    };
+    let slots = (0..state[KFX] as usize).map(slot).collect();
+    Ok(Numbers {
+        hour: hour.to_vec(),
+        slots,
+    })
+}
+
+fn sheet_of(circuit: &Circuit) -> Result<String, u32> {
+    let numbers = numbers_of(circuit)?;
+    let mut text = muf_lines(&numbers.hour);
+    for (k, (rows, marks)) in numbers.slots.iter().enumerate() {
+        text += &slot_lines(k, rows);
+        text += &mark_lines(marks);
     }
     Ok(text)
 }

@@ -4,5 +4,5 @@ fn main() {
     let n = io::read_full(0, &mut text);
     let mut file = [0u8; composing::ROOM];
     let len = composing::compose(&text[..n], &mut file);
-    io::write_all(1, &file[..len]);
+    output::write_text(&file[..len]);
 }

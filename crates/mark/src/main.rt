@@ -4,5 +4,5 @@ fn main() {
     let n = io::read_full(0, &mut input);
     let mut text = [0u8; marking::ROOM];
     let len = marking::marking_text(&input[..n], &mut text);
-    io::write_all(1, &text[..len]);
+    output::write_text(&text[..len]);
 }

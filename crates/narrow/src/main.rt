@@ -4,5 +4,5 @@ fn main() {
     let n = io::read_full(0, &mut file);
     let mut out = [0u8; circuit_turn::OLD_ROOM];
     let len = circuit_turn::narrow(&file[..n], &mut out);
-    io::write_all(1, &out[..len]);
+    output::write_text(&out[..len]);
 }

@@ -78,6 +78,8 @@ use Rattle.slot_sheet.proofs.Owned.{sheet-never-refused-19, sheet-owned, sheet-
 use Rattle.shapes.proofs.Rule.{mark-rule, slot-marks}
 use Rattle.deciles.proofs.NanRow.{nan-middle}
 use Rattle.cell_test.proofs.Test.{test-suffices}
+use Rattle.aligned.proofs.Widths.{right-width}
+use Rattle.decimal_text.proofs.Widths.{number-width}
 
 pub theorems : Theorems
 theorems =
@@ -178,6 +180,8 @@ theorems =
       difference-laws = difference-laws;
       marking-laws = marking-laws;
       marking-cases = marking-cases;
+      right-width = right-width;
+      number-width = number-width;
       starred-trials = starred-trials;
       lists-of-calls = lists-of-calls;
       any-list = any-list;

@@ -56,6 +56,8 @@ use Rattle.sounding.specs.Prepared.{GenionPrepared}
 use Rattle.slot_sheet.specs.Owned.{SheetNeverRefused19, SheetOwned, SheetByGenion}
 use Rattle.deciles.specs.NanRow.{NanMiddle}
 use Rattle.cell_test.specs.Laws.{TestSuffices}
+use Rattle.aligned.specs.Aligned.{RightWidth}
+use Rattle.decimal_text.specs.Number.{NumberWidth}
 
 pub record Theorems : Type 0 where
   -- ---- Rounding, in both formats
@@ -225,6 +227,9 @@ pub record Theorems : Type 0 where
   -- `same` just where the rest of the input is the text that `sheet` prints of its file, else the first line that is not ours, or the refusal; and the paper's cases
   pub marking-laws : MarkingLaws
   pub marking-cases : MarkingCases
+  -- a field for the eye has exactly its width, whatever the text or the number
+  pub right-width : RightWidth
+  pub number-width : NumberWidth
   -- ---- Trials
   -- every marked trial of the paper holds of the definitions that the code is equal to
   pub starred-trials : Holds starred

@@ -2,9 +2,9 @@
 //! the paper and the routed Rust: the stored outputs of the programs come from
 //! here.
 //!
-//! expected chain|sheet|widen|narrow|mark < FILE
+//! expected chain|sheet|show|widen|narrow|mark < FILE
 
-use oracle::{marking, ours, programs};
+use oracle::{marking, ours, page, programs};
 use std::io::{Read, Write};
 
 fn main() {
@@ -14,10 +14,11 @@ fn main() {
     let output = match std::env::args().nth(1).as_deref() {
         Some("chain") => programs::chain(&file).into(),
         Some("sheet") => programs::sheet(&file).into(),
+        Some("show") => page::page(&file).into(),
         Some("widen") => programs::widen(&file),
         Some("narrow") => programs::narrow(&file),
         Some("mark") => marking::printed(&file).into(),
-        _ => panic!("expected chain|sheet|widen|narrow|mark < FILE"),
+        _ => panic!("expected chain|sheet|show|widen|narrow|mark < FILE"),
     };
     std::io::stdout().write_all(&output).expect("written");
 }

@@ -5,7 +5,7 @@
 
 use oracle::random::Random;
 use oracle::report::{argument, finish, Tally, Verdict};
-use oracle::{files, ours, programs};
+use oracle::{files, ours, page, programs};
 use std::io::Write;
 use std::path::{Path, PathBuf};
 use std::process::{Command, Stdio};
@@ -16,7 +16,7 @@ type File = fn(&mut Random) -> Vec<u8>;
 /// The name, the programs of the pipe, what is expected, and the files.
 struct Line(&'static str, &'static [&'static str], Expected, File);
 
-const LINES: [Line; 6] = [
+const LINES: [Line; 7] = [
     Line(
         "chain",
         &["chain"],
@@ -29,6 +29,7 @@ const LINES: [Line; 6] = [
         |f| programs::sheet(f).into(),
         files::any_hour,
     ),
+    Line("show", &["show"], |f| page::page(f).into(), files::any_hour),
     Line("widen", &["widen"], programs::widen, files::any),
     Line("narrow", &["narrow"], programs::narrow, files::any_wide),
     Line(
@@ -86,7 +87,8 @@ fn compare(line: &Line) -> Verdict {
 fn refusal(output: &[u8]) -> u32 {
     let text = std::str::from_utf8(output).unwrap_or("");
     let number = text.strip_prefix("refused ");
-    number.map_or(0, |n| n.trim_end().parse().unwrap())
+    let line = number.and_then(|n| n.lines().next());
+    line.map_or(0, |n| n.parse().unwrap())
 }
 
 fn differs(input: &[u8], got: &[u8], wanted: &[u8]) -> Option<String> {

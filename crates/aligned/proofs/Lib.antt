@@ -1,0 +1,2 @@
+-- Every field has its width.
+pub mod Widths

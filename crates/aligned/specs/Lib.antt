@@ -1,0 +1,3 @@
+-- Words, and fields of a given width.
+pub mod Ascii
+pub mod Aligned

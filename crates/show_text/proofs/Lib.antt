@@ -1,0 +1,2 @@
+-- Lengths of text.
+mod Lengths
