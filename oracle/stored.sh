@@ -1,15 +1,19 @@
 #!/bin/sh
 # Writes the stored answers of the programs anew, from the paper and the routed
 # Rust: the hours that `vectors` replays, the sheets of `sheet` and
-# `sheet_trials`, the file and sheet that `mark` marks, and the circuit MUFs of
-# `muf_records_trials`. To be run after oracle/build.sh, whenever an elementary
-# function or a line of the sheet changes.
+# `sheet_trials`, the pictures of `plot` and `plot_trials`, the file and sheet
+# that `mark` marks, and the circuit MUFs of `muf_records_trials`. To be run
+# after oracle/build.sh, whenever an elementary function, a line of the sheet or
+# the picture changes.
 set -e
 cd "$(dirname "$0")/.."
 made=oracle/target/release
 "$made/vectors" > crates/vectors/stdin
 "$made/expected" sheet < crates/sheet/stdin > crates/sheet/stdout
+"$made/expected" plot < crates/plot/stdin > crates/plot/stdout
 "$made/marking" sample < crates/sheet/stdin > crates/mark/stdin
 "$made/expected" mark < crates/mark/stdin > crates/mark/stdout
 "$made/sheet_trials" > crates/sheet_trials/stdout
+"$made/plot_trials" files > crates/plot_trials/stdin
+"$made/plot_trials" > crates/plot_trials/stdout
 "$made/muf_records_trials" > crates/muf_records_trials/stdout

@@ -9,6 +9,7 @@ pub mod marking;
 pub mod marks;
 pub mod ours;
 pub mod owner;
+pub mod plot;
 pub mod precise;
 pub mod predict;
 pub mod programs;

@@ -2,7 +2,7 @@
 //! the paper and the routed Rust: the stored outputs of the programs come from
 //! here.
 //!
-//! expected chain|sheet|widen|narrow|mark < FILE
+//! expected chain|sheet|widen|narrow|mark|plot < FILE
 
 use oracle::{marking, ours, programs};
 use std::io::{Read, Write};
@@ -16,8 +16,9 @@ fn main() {
         Some("sheet") => programs::sheet(&file).into(),
         Some("widen") => programs::widen(&file),
         Some("narrow") => programs::narrow(&file),
+        Some("plot") => programs::plot(&file).into(),
         Some("mark") => marking::printed(&file).into(),
-        _ => panic!("expected chain|sheet|widen|narrow|mark < FILE"),
+        _ => panic!("expected chain|sheet|widen|narrow|mark|plot < FILE"),
     };
     std::io::stdout().write_all(&output).expect("written");
 }

@@ -16,7 +16,7 @@ type File = fn(&mut Random) -> Vec<u8>;
 /// The name, the programs of the pipe, what is expected, and the files.
 struct Line(&'static str, &'static [&'static str], Expected, File);
 
-const LINES: [Line; 6] = [
+const LINES: [Line; 7] = [
     Line(
         "chain",
         &["chain"],
@@ -27,6 +27,12 @@ const LINES: [Line; 6] = [
         "sheet",
         &["sheet"],
         |f| programs::sheet(f).into(),
+        files::any_hour,
+    ),
+    Line(
+        "plot",
+        &["plot"],
+        |f| programs::plot(f).into(),
         files::any_hour,
     ),
     Line("widen", &["widen"], programs::widen, files::any),

@@ -1,0 +1,4 @@
+-- The pieces of a panel of the picture: words, points, texts.
+pub mod Ascii
+pub mod Points
+pub mod Pieces
