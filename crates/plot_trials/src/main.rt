@@ -11,7 +11,16 @@ fn length(low: u8, high: u8) -> usize
     low as usize + 256 * (high as usize)
 }
 
-// The picture of the next n bytes.
+// The picture of the first n bytes.
+fn print(file: [u8; INPUT], n: usize)
+    requires { ⌜ n ≤ 4160 ⌝ }
+{
+    let mut text = [0u8; ROOM];
+    let len = plot_text::plot_text(&file[..n], &mut text);
+    io::write_all(1, &text[..len]);
+}
+
+// The picture of the next n bytes of the input.
 fn plot(n: usize) {
     if n > INPUT {
         return;
@@ -21,9 +30,7 @@ fn plot(n: usize) {
     if got < n {
         return;
     }
-    let mut text = [0u8; ROOM];
-    let len = plot_text::plot_text(&file[..n], &mut text);
-    io::write_all(1, &text[..len]);
+    print(file, n);
 }
 
 fn next() {

@@ -9,5 +9,4 @@ pub plot-spec : {M : Type 1} → statement M
 plot-spec =
     tie.close
     (tie.spec (λ c. search needs) (λ c. search needs) (λ c. sym (length-take-le _ _ (search needs))) (λ c κs. search needs)
-    (λ c. search needs) (λ c. search needs) (λ c. sym (length-take-le _ _ (search needs))) (λ c κs. search needs)
-    (λ c. search needs) (λ c. search needs) (λ c κs. search needs) (λ c. search needs))
+    (λ c. search needs) (λ c κs. search needs) (λ c. search needs))
