@@ -10,6 +10,7 @@ pub mod marks;
 pub mod ours;
 pub mod owner;
 pub mod page;
+pub mod plot;
 pub mod precise;
 pub mod predict;
 pub mod programs;

@@ -4,6 +4,7 @@
 use crate::circuit::{self, Circuit};
 use crate::float;
 use crate::marks;
+use crate::plot;
 use crate::predict;
 use crate::routed::side;
 use crate::voacap::output::figure;
@@ -88,6 +89,11 @@ fn sheet_of(circuit: &Circuit) -> Result<String, u32> {
         text += &mark_lines(marks);
     }
     Ok(text)
+}
+
+/// The picture of a circuit's slots.
+pub fn plot(file: &[u8]) -> String {
+    or_refused(plot::plot_or_refusal(file))
 }
 
 /// The slots as `ionset` leaves them.

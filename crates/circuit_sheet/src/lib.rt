@@ -97,7 +97,7 @@ fn shaped(s: IonoState, shape: usize) -> IonoState
 }
 
 // The slots as `ionset` leaves them.
-fn slots(c: circuit::Circuit) -> IonoState
+pub fn slots(c: circuit::Circuit) -> IonoState
     ensures { λ r. ⌜ r ≡ slotsOf c ⌝ }
 {
     let words = c.points;

@@ -80,6 +80,7 @@ use Rattle.deciles.proofs.NanRow.{nan-middle}
 use Rattle.cell_test.proofs.Test.{test-suffices}
 use Rattle.aligned.proofs.Widths.{right-width}
 use Rattle.decimal_text.proofs.Widths.{number-width}
+use Rattle.svg_text.proofs.Frame.{in-frame}
 
 pub theorems : Theorems
 theorems =
@@ -182,6 +183,7 @@ theorems =
       marking-cases = marking-cases;
       right-width = right-width;
       number-width = number-width;
+      in-frame = in-frame;
       starred-trials = starred-trials;
       lists-of-calls = lists-of-calls;
       any-list = any-list;

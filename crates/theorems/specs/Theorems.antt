@@ -58,6 +58,7 @@ use Rattle.deciles.specs.NanRow.{NanMiddle}
 use Rattle.cell_test.specs.Laws.{TestSuffices}
 use Rattle.aligned.specs.Aligned.{RightWidth}
 use Rattle.decimal_text.specs.Number.{NumberWidth}
+use Rattle.svg_text.specs.Points.{InFrame}
 
 pub record Theorems : Type 0 where
   -- ---- Rounding, in both formats
@@ -230,6 +231,8 @@ pub record Theorems : Type 0 where
   -- a field for the eye has exactly its width, whatever the text or the number
   pub right-width : RightWidth
   pub number-width : NumberWidth
+  -- a point that is drawn in a picture lies within the frame
+  pub in-frame : InFrame
   -- ---- Trials
   -- every marked trial of the paper holds of the definitions that the code is equal to
   pub starred-trials : Holds starred

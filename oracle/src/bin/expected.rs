@@ -2,7 +2,7 @@
 //! the paper and the routed Rust: the stored outputs of the programs come from
 //! here.
 //!
-//! expected chain|sheet|show|widen|narrow|mark < FILE
+//! expected chain|sheet|show|plot|widen|narrow|mark < FILE
 
 use oracle::{marking, ours, page, programs};
 use std::io::{Read, Write};
@@ -17,8 +17,9 @@ fn main() {
         Some("show") => page::page(&file).into(),
         Some("widen") => programs::widen(&file),
         Some("narrow") => programs::narrow(&file),
+        Some("plot") => programs::plot(&file).into(),
         Some("mark") => marking::printed(&file).into(),
-        _ => panic!("expected chain|sheet|show|widen|narrow|mark < FILE"),
+        _ => panic!("expected chain|sheet|show|plot|widen|narrow|mark < FILE"),
     };
     std::io::stdout().write_all(&output).expect("written");
 }

@@ -16,7 +16,7 @@ type File = fn(&mut Random) -> Vec<u8>;
 /// The name, the programs of the pipe, what is expected, and the files.
 struct Line(&'static str, &'static [&'static str], Expected, File);
 
-const LINES: [Line; 7] = [
+const LINES: [Line; 8] = [
     Line(
         "chain",
         &["chain"],
@@ -30,6 +30,12 @@ const LINES: [Line; 7] = [
         files::any_hour,
     ),
     Line("show", &["show"], |f| page::page(f).into(), files::any_hour),
+    Line(
+        "plot",
+        &["plot"],
+        |f| programs::plot(f).into(),
+        files::any_hour,
+    ),
     Line("widen", &["widen"], programs::widen, files::any),
     Line("narrow", &["narrow"], programs::narrow, files::any_wide),
     Line(

@@ -1,0 +1,3 @@
+-- Where points are, and how long the pieces are.
+pub mod Frame
+pub mod Lengths
