@@ -1,4 +1,5 @@
--- Cases of whole numbers, and tables.
+-- Cases of whole numbers, tables, and lists filled place by place.
 pub mod Cases
 pub mod Arms
 pub mod Entries
+pub mod Tabulate

@@ -7,7 +7,7 @@ use native.Mathlib.Omega.{arith}
 use lib.IntN.{ℤ, pos}
 use lib.ListN.{length, getD, take, set, length-map, List·getD-map}
 use lib.Seq.{length-take-le, getD-take, take-all, paste, paste-suc}
-use Rattle.profile.proofs.Tabulate.{mapped, mapped-more, mapped-all}
+use Rattle.cases.proofs.Tabulate.{mapped, mapped-more, mapped-all}
 use Rattle.port_state.specs.Words.{signedOf, wordOf}
 use Rattle.port_layouts.specs.Layouts.{cellsOf, cellsInto}
 

@@ -6,7 +6,7 @@ use native.Mathlib.Omega.{arith}
 use lib.ListN.{length, getD, take, drop, set, length-map, length-drop, List·getD-map}
 use lib.Seq.{length-take-le, getD-take, getD-drop, take-all, paste, paste-suc}
 use lib.Ieee.{Float, nan, binary32, ofBits, toBits}
-use Rattle.profile.proofs.Tabulate.{mapped, mapped-more, mapped-all}
+use Rattle.cases.proofs.Tabulate.{mapped, mapped-more, mapped-all}
 use Rattle.port_state.specs.Words.{floatsOf, floatsInto}
 
 module _ (w : List ℕ) (from : ℕ) (x : List Float) (room : from + length x ≤ length w) where

@@ -7,7 +7,7 @@ use borrow.Author.Needs.{needs}
 use lib.Ieee.{nan}
 use lib.ListN.{length}
 use Rattle.cell_test.specs.Cell.{lowOf}
-use Rattle.profile.proofs.Tabulate.{mapped, mapped-more, mapped-all}
+use Rattle.cases.proofs.Tabulate.{mapped, mapped-more, mapped-all}
 use Rattle.cell_rows.proofs.lows.Statement.{statement}
 use Rattle.cell_rows.proofs.lows.Tie as tie
 

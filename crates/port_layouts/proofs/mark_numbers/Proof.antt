@@ -5,7 +5,7 @@ use native.Mathlib.Numerals.{add-one}
 use native.Mathlib.Omega.{arith}
 use borrow.Author.Needs.{needs}
 use lib.ListN.{length, replicate}
-use Rattle.profile.proofs.Tabulate.{mapped, mapped-more, mapped-all}
+use Rattle.cases.proofs.Tabulate.{mapped, mapped-more, mapped-all}
 use Rattle.shapes.specs.declared.Mark.{Mark}
 use Rattle.shapes.specs.declared.HeightMark.{HeightMark}
 use Rattle.port_layouts.specs.Layouts.{markNumber}

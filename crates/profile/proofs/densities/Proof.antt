@@ -7,7 +7,7 @@ use borrow.Author.Needs.{needs}
 use lib.Ieee.{nan}
 use lib.ListN.{length}
 use Rattle.profile.specs.Density.{densityOf}
-use Rattle.profile.proofs.Tabulate.{mapped, mapped-more, mapped-all}
+use Rattle.cases.proofs.Tabulate.{mapped, mapped-more, mapped-all}
 use Rattle.profile.proofs.densities.Statement.{statement}
 use Rattle.profile.proofs.densities.Tie as tie
 

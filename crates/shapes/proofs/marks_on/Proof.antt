@@ -6,7 +6,7 @@ use native.Mathlib.Omega.{arith}
 use borrow.Author.Needs.{needs}
 use lib.Ieee.{nan}
 use lib.ListN.{length}
-use Rattle.profile.proofs.Tabulate.{mapped, mapped-more, mapped-all}
+use Rattle.cases.proofs.Tabulate.{mapped, mapped-more, mapped-all}
 use Rattle.shapes.specs.Marks.{heightMark}
 use Rattle.shapes.proofs.marks_on.Statement.{statement}
 use Rattle.shapes.proofs.marks_on.Tie as tie

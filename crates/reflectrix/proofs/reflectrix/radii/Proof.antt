@@ -8,7 +8,7 @@ use lib.Ieee.{Float, nan}
 use lib.ListN.{length}
 use Rattle.scalar.specs.F32.{_+f_}
 use Rattle.constants.specs.Constants.{RZ}
-use Rattle.profile.proofs.Tabulate.{mapped, mapped-more, mapped-all}
+use Rattle.cases.proofs.Tabulate.{mapped, mapped-more, mapped-all}
 use Rattle.reflectrix.proofs.reflectrix.radii.Statement.{statement}
 use Rattle.reflectrix.proofs.reflectrix.radii.Tie as tie
 
