@@ -103,6 +103,10 @@ uint32_t port_sheet(uint32_t *state, size_t state_len, uint32_t k, uint32_t nang
  * out: 0 where the sheet is what `sheet` prints of the file, else its first line that isn't. */
 uint32_t port_mark(const uint8_t *input, size_t input_len, uint32_t *out, size_t out_len);
 
+/* The sheet of a circuit file: the text that `sheet` prints is put at the start of out, which has room
+ * for 8192 bytes (1 if not), and its length into the word length. */
+uint32_t port_sheet_text(const uint8_t *file, size_t file_len, uint8_t *out, size_t out_len, uint32_t *length, size_t length_len);
+
 /* The printed figure of a MUF: 5 characters into out. */
 uint32_t port_figure(uint32_t muf, uint8_t *out, size_t out_len);
 /* tops in tenths of a MHz, rates in cents a minute; out: the cents. */
