@@ -58,6 +58,8 @@ extern "C" {
  * parabola, 3 valley line, 4 F1, 5 F2, 6 gap. */
 #define FS_SHEET_WORDS 200
 #define FS_DECILES 576
+/* The bytes to lend for the text of a sheet. */
+#define FS_TEXT_BYTES 8192
 
 /* Circuit files. A file is written into as many bytes as it takes; port_write: out 1: how
  * many those are. */
@@ -103,6 +105,10 @@ uint32_t port_sheet(uint32_t *state, size_t state_len, uint32_t k, uint32_t nang
 /* input: four bytes with the length of a circuit file, least significant first, the file, a sheet;
  * out: 0 where the sheet is what `sheet` prints of the file, else its first line that isn't. */
 uint32_t port_mark(const uint8_t *input, size_t input_len, uint32_t *out, size_t out_len);
+
+/* file: a circuit file; out: the text that `sheet` prints of it, at the start of FS_TEXT_BYTES bytes;
+ * length: a word, the text's length. */
+uint32_t port_sheet_text(const uint8_t *file, size_t file_len, uint8_t *out, size_t out_len, uint32_t *length, size_t length_len);
 
 /* The printed figure of a MUF: 5 characters into out. */
 uint32_t port_figure(uint32_t muf, uint8_t *out, size_t out_len);

@@ -29,7 +29,7 @@ use Kind::*;
 
 const NONE: &str = "unreachable!(\"not built\")";
 
-const EXPORTS: [Export; 40] = [
+const EXPORTS: [Export; 41] = [
     Export(
         "port_figures",
         "port_figure",
@@ -220,6 +220,13 @@ const EXPORTS: [Export; 40] = [
         NONE,
     ),
     Export("port_mark", "port_mark", &[Bytes, Lent], "u32", NONE),
+    Export(
+        "port_text",
+        "port_sheet_text",
+        &[Bytes, LentBytes, Lent],
+        "u32",
+        NONE,
+    ),
 ];
 
 /// The text of all wrappers, and the linker's instructions.
