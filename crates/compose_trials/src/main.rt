@@ -26,7 +26,11 @@ fn order() {
 }
 
 fn put_point(text: &mut [u8], at: usize) -> usize {
-    put_word(text, at, b"point fi 1 2 3 yi 4 5 6 hi 7 8 9 fs 1 2 3 hs 4 clat 5 clck 6\n")
+    put_word(
+        text,
+        at,
+        b"point fi 1 2 3 yi 4 5 6 hi 7 8 9 fs 1 2 3 hs 4 clat 5 clck 6\n",
+    )
 }
 
 fn put_deciles(text: &mut [u8], at: usize) -> usize {

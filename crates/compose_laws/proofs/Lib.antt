@@ -1,0 +1,2 @@
+-- The law of composed texts.
+pub mod Written

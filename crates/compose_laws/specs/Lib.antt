@@ -1,0 +1,2 @@
+-- What the law of composed texts says.
+pub mod Laws

@@ -1,0 +1,1 @@
+// The law of composed texts, over their definitions: no code.
