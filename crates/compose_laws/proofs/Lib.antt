@@ -1,2 +1,4 @@
--- The law of composed texts.
+-- The laws of composed texts.
 pub mod Written
+mod Held
+pub mod ReadBack

@@ -1,2 +1,2 @@
--- What the law of composed texts says.
+-- What the laws of composed texts say.
 pub mod Laws

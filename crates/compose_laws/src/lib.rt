@@ -1,1 +1,1 @@
-// The law of composed texts, over their definitions: no code.
+// The laws of composed texts, over their definitions: no code.
