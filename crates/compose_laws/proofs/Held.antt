@@ -1,5 +1,5 @@
 -- The circuit of a text is whole: every word is a u32, the arrays have their lengths, and the words past its points are zero.
-use mathlib.Core.Path.{_≡_, refl, sym, ap, _∙_, subst}
+use mathlib.Core.Path.{_≡_, refl, sym, ap, _∙_}
 use mathlib.Core.Bool.{Bool, true, false, cond}
 use mathlib.Core.List.{List, [], _∷_}
 use Prim.Native.Nat.{ℕ, zero, suc, _+_, _-_, _*_, _^_, _≤_, _<_}
@@ -7,7 +7,7 @@ use native.Mathlib.Omega.{arith}
 use lib.Dec.{eqb, ltb}
 use lib.ListN.{length, getD, set, take, drop, replicate, length-set}
 use lib.Seq.{sets, length-sets, drop-drop}
-use lib.Ieee.{binary32, round, toBits}
+use lib.Ieee.{binary32}
 use lib.Ieee.Fits.{round-fits}
 use lib.Ieee.Bits.{toBits-lt}
 use Rattle.words.specs.Words.{wordsOf, upTo}
@@ -15,7 +15,6 @@ use Rattle.first_difference.specs.Lines.{linesOf}
 use Rattle.records.specs.Record.{allZero}
 use Rattle.decimals.specs.declared.Decimal.{Decimal}
 use Rattle.decimals.specs.Decimal.{decimalOf, unsignedOf, partsOf, fineOf}
-use Rattle.circuit.specs.declared.Circuit.{Circuit}
 use Rattle.circuit.specs.Read.{noCircuit}
 use Rattle.circuit_laws.specs.Forms.{Each, Whole}
 use Rattle.circuit_laws.proofs.Back.{each-at}

@@ -1,9 +1,6 @@
 -- The file of a text is read back as its circuit, by the law of the circuit file.
-use mathlib.Core.Path.{_≡_}
-use mathlib.Core.List.{List}
 use Rattle.records.specs.Record.{form64}
 use Rattle.circuit_write.specs.Written.{sizeOf}
-use Rattle.circuit_laws.specs.Paper.{PaperLaws}
 use Rattle.circuit_laws.proofs.Paper.{paper-laws}
 use Rattle.compose_text.specs.Draft.{composedOf}
 use Rattle.compose_laws.specs.Laws.{TextReadBack}

@@ -1,18 +1,16 @@
 -- Whatever the lines are, there are at most five points and the shape is 0 or 1; where nothing is wrong at the end there is a point.
-use mathlib.Core.Path.{_≡_, refl, sym, ap, _∙_, subst}
+use mathlib.Core.Path.{_≡_, refl}
 use mathlib.Core.Bool.{Bool, true, false, cond}
 use mathlib.Core.List.{List, [], _∷_}
-use Prim.Native.Nat.{ℕ, zero, suc, _+_, _*_, _≤_, _<_}
+use Prim.Native.Nat.{ℕ, suc, _+_, _≤_}
 use native.Mathlib.Omega.{arith}
 use borrow.Author.Tests.{eqb-false, ltb-true, le-leb}
-use lib.Dec.{eqb, ltb, leb}
+use lib.Dec.{eqb, ltb}
 use lib.ListN.{length, getD}
 use Rattle.first_difference.specs.Lines.{linesOf}
 use Rattle.records.specs.Record.{form64, allZero}
-use Rattle.circuit.specs.declared.Circuit.{Circuit}
 use Rattle.circuit.specs.Read.{noCircuit}
-use Rattle.circuit_write.specs.declared.WriteAnswer.{WriteAnswer}
-use Rattle.circuit_write.specs.Written.{decileRecords, sizeOf, answerOf, answerBy}
+use Rattle.circuit_write.specs.Written.{decileRecords, sizeOf, answerOf}
 use Rattle.compose_line.specs.declared.Row.{Row}
 use Rattle.compose_line.specs.Row.{rowOf}
 use Rattle.compose_text.specs.declared.Draft.{Draft}
