@@ -27,7 +27,7 @@ for name in scalar_c port_circuit port_wide port_state port_heights port_muf por
         echo "crates/$name is not there"
     fi
 done
-for name in chain sheet show plot widen narrow mark; do
+for name in chain sheet show plot widen narrow mark compose; do
     if [ -d "crates/$name" ]; then
         made rt check "$name"
     else

@@ -3,6 +3,7 @@
 
 pub mod calls;
 pub mod circuit;
+pub mod composing;
 pub mod files;
 pub mod float;
 pub mod marking;
@@ -19,6 +20,7 @@ pub mod report;
 pub mod routed;
 pub mod routing;
 pub mod states;
+pub mod texts;
 pub mod traces;
 pub mod voacap;
 pub mod wide;

@@ -38,11 +38,11 @@ use Rattle.sporadic.specs.declared.EsRay.{EsRay}
 use Rattle.sporadic.specs.declared.EsRow.{EsRow}
 use Rattle.sporadic.specs.declared.EsSearch.{EsSearch}
 use Rattle.sporadic.specs.declared.EsStep.{EsStep}
-use Rattle.muf.specs.Curmuf.{withinOf, aminBy, inDomain, listsReach, f1Then, f2Then, eThen, regularWith, regularBy, mufAtSlotWith, mufFromSearchBy, mufFromSearchWith, mufOfRowsWith}
+use Rattle.muf.specs.Curmuf.{withinOf, aminBy, inDomain, listsReach, foundThen, regularWith, regularBy, mufAtSlotWith, mufFromSearchBy, mufFromSearchWith, mufOfRowsWith}
 use Rattle.muf.specs.declared.RegularAnswer.{RegularAnswer}
 use Rattle.angles.specs.Angles.{Small, AllSmall}
 use Rattle.angles.proofs.Angles.{never-refused-13}
-use Rattle.any_waves.specs.Over.{Waves, hopRatioOver, hopsOver, spheOver, hopGeometryOver, geometryOverBy, geometryOver, roundOver, roundsOver, bentOver, eLineOver, f2LineOverBy, f2LineOver, f1FoundOver, f1OwnOverBy, f1OwnOver, f1LineOverBy, f1LineOver, f2ThenOver, eThenOver, regularOver, rayOver, hopOverBy, rowOverBy, esRowOver, esFromOver, mufAtSlotOver, mufFromSearchOverBy, mufOfRowsOver}
+use Rattle.any_waves.specs.Over.{Waves, hopRatioOver, hopsOver, spheOver, hopGeometryOver, geometryOverBy, geometryOver, roundOver, roundsOver, bentOver, eLineOver, f2LineOverBy, f2LineOver, f1FoundOver, f1OwnOverBy, f1OwnOver, f1LineOverBy, f1LineOver, regularOver, rayOver, hopOverBy, rowOverBy, esRowOver, esFromOver, mufAtSlotOver, mufFromSearchOverBy, mufOfRowsOver}
 use Rattle.any_waves.specs.AnyWaves.{OursWhereSmall, AnyWaves, marked, MarkUnmet}
 
 -- every takeoff angle of a geometry's psi is small
@@ -148,20 +148,25 @@ module _ (w : Waves) (alike : OursWhereSmall w) where
     unfolding f1LineOver f1LineWith
     f1-so find t l fx1 e = f1-line (l .fi1 ≤f f0) find t l fx1 e
 
-    then-f2 : (a : LineAnswer) (find : Finder) (t : IonoState) (l : Slot) (x : Tangents) (e : LayerMuf) → f2ThenOver a w find t l x c e ≡ f2Then a find t l x c e
-    then-f2 (LineAnswer.Found f2) find t l x e = ap (λ (a : LineAnswer). f1Then a e f2) (f1-so find t l (x .fx1) e)
-    then-f2 (LineAnswer.Refused r) find t l x e = refl
-
-    then-e : (a : LineAnswer) (find : Finder) (t : IonoState) (l : Slot) (ks : ℕ) (x : Tangents) (f2d : List Float) (clat clck : Float) → eThenOver a w find t l ks x f2d clat clck c ≡ eThen a find t l ks x f2d clat clck c
-    then-e (LineAnswer.Found e) find t l ks x f2d clat clck =
-        ap (λ (a : LineAnswer). f2ThenOver a w find t l x c e) (f2-so find t l ks x f2d clat clck) ∙ then-f2 (f2LineWith find t l ks x f2d clat clck c) find t l x e
-    then-e (LineAnswer.Refused r) find t l ks x f2d clat clck = refl
+    -- gone on from alike
+    then-so : (a : LineAnswer) (f g : LayerMuf → RegularAnswer) → ((m : LayerMuf) → f m ≡ g m) → foundThen a f ≡ foundThen a g
+    then-so (LineAnswer.Found m) f g h = h m
+    then-so (LineAnswer.Refused r) f g h = refl
 
     regular-so : (find : Finder) (t : IonoState) (l : Slot) (ks : ℕ) (f2d : List Float) (clat clck : Float) → regularOver w find t l ks f2d clat clck c ≡ regularWith find t l ks f2d clat clck c
     unfolding regularOver regularWith
     regular-so find t l ks f2d clat clck =
         let x = tangentsOf l (c .gcdkm) in
-        ap (λ (a : LineAnswer). eThenOver a w find t l ks x f2d clat clck c) (e-so find t (x .fxe)) ∙ then-e (eLineWith find t (x .fxe) (c .gcdkm) (c .amind)) find t l ks x f2d clat clck
+        let whole : LayerMuf → LayerMuf → LayerMuf → RegularAnswer = λ e f2 f1. RegularAnswer.Found (record { e = e; f1 = f1; f2 = f2 }) in
+        let last : LayerMuf → LayerMuf → RegularAnswer = λ e f2. foundThen (f1LineWith find t l (x .fx1) e (c .gcdkm) (c .amind)) (whole e f2) in
+        let lastOver : LayerMuf → LayerMuf → RegularAnswer = λ e f2. foundThen (f1LineOver w find t l (x .fx1) e (c .gcdkm) (c .amind)) (whole e f2) in
+        let next : LayerMuf → RegularAnswer = λ e. foundThen (f2LineWith find t l ks x f2d clat clck c) (last e) in
+        let nextOver : LayerMuf → RegularAnswer = λ e. foundThen (f2LineOver w find t l ks x f2d clat clck c) (lastOver e) in
+        ap (λ (a : LineAnswer). foundThen a nextOver) (e-so find t (x .fxe))
+        ∙ then-so (eLineWith find t (x .fxe) (c .gcdkm) (c .amind)) nextOver next
+        (λ (e : LayerMuf). ap (λ (a : LineAnswer). foundThen a (lastOver e)) (f2-so find t l ks x f2d clat clck)
+        ∙ then-so (f2LineWith find t l ks x f2d clat clck c) (lastOver e) (last e)
+        (λ (f2 : LayerMuf). ap (λ (a : LineAnswer). foundThen a (whole e f2)) (f1-so find t l (x .fx1) e)))
 
     -- ---- Es
 

@@ -37,7 +37,7 @@ use Rattle.sporadic.specs.declared.EsRay.{EsRay}
 use Rattle.sporadic.specs.declared.EsRow.{EsRow}
 use Rattle.sporadic.specs.declared.EsSearch.{EsSearch}
 use Rattle.sporadic.specs.declared.EsStep.{EsStep}
-use Rattle.muf.specs.Curmuf.{inDomain, listsReach, f1Then, refusedRowsKept, regularBy}
+use Rattle.muf.specs.Curmuf.{inDomain, listsReach, foundThen, refusedRowsKept, regularBy}
 use Rattle.muf.specs.declared.RegularAnswer.{RegularAnswer}
 use Rattle.muf.specs.declared.AnswerAndRow.{AnswerAndRow}
 
@@ -130,18 +130,13 @@ f1LineOverBy false w find t l fx1 e gcdkm amind = f1OwnOver w find t (l .fi1) fx
 unfoldable pub f1LineOver : Waves → Finder → IonoState → Slot → Float → LayerMuf → Float → Float → LineAnswer
 f1LineOver w find t l fx1 e gcdkm amind = f1LineOverBy (l .fi1 ≤f f0) w find t l fx1 e gcdkm amind
 
-abbrev pub f2ThenOver : LineAnswer → Waves → Finder → IonoState → Slot → Tangents → PathNumbers → LayerMuf → RegularAnswer
-f2ThenOver (LineAnswer.Found f2) w find t l x c e = f1Then (f1LineOver w find t l (x .fx1) e (c .gcdkm) (c .amind)) e f2
-f2ThenOver (LineAnswer.Refused r) w find t l x c e = RegularAnswer.Refused r
-
-abbrev pub eThenOver : LineAnswer → Waves → Finder → IonoState → Slot → ℕ → Tangents → List Float → Float → Float → PathNumbers → RegularAnswer
-eThenOver (LineAnswer.Found e) w find t l ks x f2d clat clck c = f2ThenOver (f2LineOver w find t l ks x f2d clat clck c) w find t l x c e
-eThenOver (LineAnswer.Refused r) w find t l ks x f2d clat clck c = RegularAnswer.Refused r
-
 unfoldable pub regularOver : Waves → Finder → IonoState → Slot → ℕ → List Float → Float → Float → PathNumbers → RegularAnswer
 regularOver w find t l ks f2d clat clck c =
     let x = tangentsOf l (c .gcdkm) in
-    eThenOver (eLineOver w find t (x .fxe) (c .gcdkm) (c .amind)) w find t l ks x f2d clat clck c
+    foundThen (eLineOver w find t (x .fxe) (c .gcdkm) (c .amind))
+    (λ e. foundThen (f2LineOver w find t l ks x f2d clat clck c)
+    (λ f2. foundThen (f1LineOver w find t l (x .fx1) e (c .gcdkm) (c .amind))
+    (λ f1. RegularAnswer.Found (record { e = e; f1 = f1; f2 = f2 }))))
 
 -- ---- Es
 

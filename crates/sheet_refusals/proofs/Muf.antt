@@ -1,5 +1,5 @@
 -- A MUF whose lists reach is refused for its input, for a hop count, or for its time block; an answered one has one of three modes and a controlling slot below 3.
-use mathlib.Core.Bool.{Bool, true, false, false≢true}
+use mathlib.Core.Bool.{Bool, true, false, false≢true, cond}
 use mathlib.Core.Logic.{_⊎_, inl, inr}
 use mathlib.Core.List.{List}
 use mathlib.Core.Path.{_≡_, refl, sym, subst}
@@ -19,7 +19,7 @@ use Rattle.layers.specs.declared.LayerMuf.{LayerMuf}
 use Rattle.profile.specs.Lecden.{slotAt, lecdenOf}
 use Rattle.profile.specs.declared.Slot.{Slot}
 use Rattle.heights.specs.Gethp.{Finder, gethpOf}
-use Rattle.deciles.specs.F2dis.{iccOf, blockBy, tableBy, f2disOf}
+use Rattle.deciles.specs.F2dis.{iccOf, f2disOf}
 use Rattle.deciles.specs.declared.Deviation.{Deviation}
 use Rattle.hops.specs.Geometry.{hopRatioOf, hopsBy, hopsOf, geometryBy, geometryOf}
 use Rattle.hops.specs.declared.Hops.{Hops}
@@ -27,7 +27,7 @@ use Rattle.hops.specs.declared.Geometry.{Geometry}
 use Rattle.hops.specs.declared.Round.{Round}
 use Rattle.layer_mufs.specs.Controlling.{controllingOf}
 use Rattle.layer_mufs.specs.Tangents.{tangentsOf}
-use Rattle.layer_mufs.specs.Lines.{readWith, eHeightsWith, eLineBy, eLineWith, f2HeightsWith, bentOf, highBy, lowBy, deviationsOf, f2BentBy, f2BentOf, f2LineBy, f2LineWith, f1OwnBy, f1OwnWith, f1LineBy, f1LineWith}
+use Rattle.layer_mufs.specs.Lines.{readWith, eHeightsWith, eLineBy, eLineWith, f2HeightsWith, bentOf, bothBy, deviationsOf, f2BentBy, f2BentOf, f2LineBy, f2LineWith, f1OwnBy, f1OwnWith, f1LineBy, f1LineWith}
 use Rattle.layer_mufs.specs.declared.PathNumbers.{PathNumbers}
 use Rattle.layer_mufs.specs.declared.Tangents.{Tangents}
 use Rattle.layer_mufs.specs.declared.HeightPair.{HeightPair}
@@ -39,7 +39,7 @@ use Rattle.sporadic.specs.declared.EsRow.{EsRow}
 use Rattle.sporadic.specs.declared.EsSearch.{EsSearch}
 use Rattle.sporadic.specs.declared.EsStep.{EsStep}
 use Rattle.muf.specs.Hour.{modeBy, modeOf, hourOf, refusedOf}
-use Rattle.muf.specs.Curmuf.{inDomain, listsReach, f1Then, f2Then, eThen, regularWith, refusedRowsKept, esBy, regularBy, mufAtSlotWith, mufFromSearchBy, mufFromSearchWith, mufOfRowsWith, rowCountOf, flatWith, curmufOf}
+use Rattle.muf.specs.Curmuf.{inDomain, listsReach, foundThen, regularWith, refusedRowsKept, esBy, regularBy, mufAtSlotWith, mufFromSearchBy, mufFromSearchWith, mufOfRowsWith, rowCountOf, flatWith, curmufOf}
 use Rattle.muf.specs.declared.RegularLines.{RegularLines}
 use Rattle.muf.specs.declared.RegularAnswer.{RegularAnswer}
 use Rattle.muf.specs.declared.MufAnswer.{MufAnswer}
@@ -114,29 +114,22 @@ module _ (P : Refusal → Type 0) (input : P Refusal.MufInput) (hops : P Refusal
   unfolding eLineWith
   e-in find t fxe gcdkm amind = let h = eHeightsWith find t fxe in e-by (geometryOf gcdkm amind (h .hp) (h .ht) true) h fxe (geometry-in gcdkm amind (h .hp) (h .ht) true)
 
-  block-by : (b : Bool) (f2d : List Float) (fmuf ssn clat freq : Float) (icc : ℕ) → DeviationIn (blockBy b f2d fmuf ssn clat freq icc)
-  block-by true f2d fmuf ssn clat freq icc = block
-  block-by false f2d fmuf ssn clat freq icc = tt
-
-  table-by : (b : Bool) (f2d : List Float) (fmuf ssn clat freq abb : Float) → DeviationIn (tableBy b f2d fmuf ssn clat freq abb)
-  table-by true f2d fmuf ssn clat freq abb = tt
-  table-by false f2d fmuf ssn clat freq abb = block-by (eqb (iccOf abb) 0) f2d fmuf ssn clat freq (iccOf abb)
+  either-in : (b : Bool) (d e : Deviation) → DeviationIn d → DeviationIn e → DeviationIn (cond b d e)
+  either-in true d e p q = p
+  either-in false d e p q = q
 
   f2dis-in : (f2d : List Float) (fmuf ssn clat freq abb : Float) → eqb (length f2d) 576 ≡ true → DeviationIn (f2disOf f2d fmuf ssn clat freq abb)
   unfolding f2disOf
-  f2dis-in f2d fmuf ssn clat freq abb e = rw e (table-by (getD f2d 0 nan ≤f f0) f2d fmuf ssn clat freq abb)
+  f2dis-in f2d fmuf ssn clat freq abb e = rw e (either-in (getD f2d 0 nan ≤f f0) _ _ tt (either-in (eqb (iccOf abb) 0) _ _ block tt))
 
-  high-by : (d : Deviation) (l : Float) → DeviationIn d → DeviationsIn (highBy d l)
-  high-by (Deviation.Value u) l p = tt
-  high-by (Deviation.Refused r) l p = p
-
-  low-by : (d : Deviation) (f2d : List Float) (muf ssn clat clck : Float) → eqb (length f2d) 576 ≡ true → DeviationIn d → DeviationsIn (lowBy d f2d muf ssn clat clck)
-  low-by (Deviation.Value l) f2d muf ssn clat clck e p = high-by (f2disOf f2d muf ssn clat (f1·1 *f muf) clck) l (f2dis-in f2d muf ssn clat (f1·1 *f muf) clck e)
-  low-by (Deviation.Refused r) f2d muf ssn clat clck e p = p
+  both-by : (d e : Deviation) → DeviationIn d → DeviationIn e → DeviationsIn (bothBy d e)
+  both-by (Deviation.Value l) (Deviation.Value u) p q = tt
+  both-by (Deviation.Value l) (Deviation.Refused r) p q = q
+  both-by (Deviation.Refused r) u p q = p
 
   deviations-in : (f2d : List Float) (muf ssn clat clck : Float) → eqb (length f2d) 576 ≡ true → DeviationsIn (deviationsOf f2d muf ssn clat clck)
   unfolding deviationsOf
-  deviations-in f2d muf ssn clat clck e = low-by (f2disOf f2d muf ssn clat (f0·9 *f muf) clck) f2d muf ssn clat clck e (f2dis-in f2d muf ssn clat (f0·9 *f muf) clck e)
+  deviations-in f2d muf ssn clat clck e = both-by (f2disOf f2d muf ssn clat (f0·9 *f muf) clck) (f2disOf f2d muf ssn clat (f1·1 *f muf) clck) (f2dis-in f2d muf ssn clat (f0·9 *f muf) clck e) (f2dis-in f2d muf ssn clat (f1·1 *f muf) clck e)
 
   bent-by : (d : Deviations) (b : Round) (ht fx x : Float) → DeviationsIn d → LineIn (f2BentBy d b ht fx x)
   bent-by (Deviations.Both l u) b ht fx x p = tt
@@ -164,25 +157,21 @@ module _ (P : Refusal → Type 0) (input : P Refusal.MufInput) (hops : P Refusal
   f1-by true find t l fx1 e gcdkm amind = tt
   f1-by false find t l fx1 e gcdkm amind = let h = readWith find t fx1 in own-by (geometryOf gcdkm amind (h .hp) (h .ht) true) h (l .fi1) fx1 (geometry-in gcdkm amind (h .hp) (h .ht) true)
 
-  f1-then : (a : LineAnswer) (e f2 : LayerMuf) → LineIn a → RegularIn (f1Then a e f2)
-  f1-then (LineAnswer.Found f1) e f2 p = tt
-  f1-then (LineAnswer.Refused r) e f2 p = p
+  then-in : (a : LineAnswer) (next : LayerMuf → RegularAnswer) → LineIn a → ((m : LayerMuf) → RegularIn (next m)) → RegularIn (foundThen a next)
+  then-in (LineAnswer.Found m) next p q = q m
+  then-in (LineAnswer.Refused r) next p q = p
 
-  f2-then : (a : LineAnswer) (find : Finder) (t : IonoState) (l : Slot) (x : Tangents) (c : PathNumbers) (e : LayerMuf) → LineIn a → RegularIn (f2Then a find t l x c e)
+  f1-in : (find : Finder) (t : IonoState) (l : Slot) (fx1 : Float) (e : LayerMuf) (gcdkm amind : Float) → LineIn (f1LineWith find t l fx1 e gcdkm amind)
   unfolding f1LineWith
-  f2-then (LineAnswer.Found f2) find t l x c e p =
-      f1-then (f1LineWith find t l (x .fx1) e (c .gcdkm) (c .amind)) e f2 (f1-by (l .fi1 ≤f f0) find t l (x .fx1) e (c .gcdkm) (c .amind))
-  f2-then (LineAnswer.Refused r) find t l x c e p = p
-
-  e-then : (a : LineAnswer) (find : Finder) (t : IonoState) (l : Slot) (ks : ℕ) (x : Tangents) (f2d : List Float) (clat clck : Float) (c : PathNumbers) → eqb (length f2d) 576 ≡ true → LineIn a → RegularIn (eThen a find t l ks x f2d clat clck c)
-  e-then (LineAnswer.Found e) find t l ks x f2d clat clck c h p = f2-then (f2LineWith find t l ks x f2d clat clck c) find t l x c e (f2-in find t l ks x f2d clat clck c h)
-  e-then (LineAnswer.Refused r) find t l ks x f2d clat clck c h p = p
+  f1-in find t l fx1 e gcdkm amind = f1-by (l .fi1 ≤f f0) find t l fx1 e gcdkm amind
 
   regular-in : (find : Finder) (t : IonoState) (l : Slot) (ks : ℕ) (f2d : List Float) (clat clck : Float) (c : PathNumbers) → eqb (length f2d) 576 ≡ true → RegularIn (regularWith find t l ks f2d clat clck c)
   unfolding regularWith
-  regular-in find t l ks f2d clat clck c e =
+  regular-in find t l ks f2d clat clck c h =
       let x = tangentsOf l (c .gcdkm) in
-      e-then (eLineWith find t (x .fxe) (c .gcdkm) (c .amind)) find t l ks x f2d clat clck c e (e-in find t (x .fxe) (c .gcdkm) (c .amind))
+      then-in (eLineWith find t (x .fxe) (c .gcdkm) (c .amind)) _ (e-in find t (x .fxe) (c .gcdkm) (c .amind))
+      (λ (e : LayerMuf). then-in (f2LineWith find t l ks x f2d clat clck c) _ (f2-in find t l ks x f2d clat clck c h)
+      (λ (f2 : LayerMuf). then-in (f1LineWith find t l (x .fx1) e (c .gcdkm) (c .amind)) _ (f1-in find t l (x .fx1) e (c .gcdkm) (c .amind)) (λ (f1 : LayerMuf). tt)))
 
   -- ---- Es
 

@@ -81,6 +81,8 @@ use Rattle.cell_test.proofs.Test.{test-suffices}
 use Rattle.aligned.proofs.Widths.{right-width}
 use Rattle.decimal_text.proofs.Widths.{number-width}
 use Rattle.svg_text.proofs.Frame.{in-frame}
+use Rattle.compose_laws.proofs.Written.{text-written}
+use Rattle.compose_laws.proofs.ReadBack.{text-read-back}
 
 pub theorems : Theorems
 theorems =
@@ -181,6 +183,8 @@ theorems =
       difference-laws = difference-laws;
       marking-laws = marking-laws;
       marking-cases = marking-cases;
+      text-written = text-written;
+      text-read-back = text-read-back;
       right-width = right-width;
       number-width = number-width;
       in-frame = in-frame;

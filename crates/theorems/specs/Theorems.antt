@@ -59,6 +59,8 @@ use Rattle.cell_test.specs.Laws.{TestSuffices}
 use Rattle.aligned.specs.Aligned.{RightWidth}
 use Rattle.decimal_text.specs.Number.{NumberWidth}
 use Rattle.svg_text.specs.Points.{InFrame}
+use Rattle.compose_laws.specs.Laws.{TextWritten}
+use Rattle.compose_laws.specs.Laws.{TextReadBack}
 
 pub record Theorems : Type 0 where
   -- ---- Rounding, in both formats
@@ -228,6 +230,9 @@ pub record Theorems : Type 0 where
   -- `same` just where the rest of the input is the text that `sheet` prints of its file, else the first line that is not ours, or the refusal; and the paper's cases
   pub marking-laws : MarkingLaws
   pub marking-cases : MarkingCases
+  -- the circuit of a text without a wrong line is written by `compose`, and read back word for word
+  pub text-written : TextWritten
+  pub text-read-back : TextReadBack
   -- a field for the eye has exactly its width, whatever the text or the number
   pub right-width : RightWidth
   pub number-width : NumberWidth

@@ -1,0 +1,1 @@
+// The laws of composed texts, over their definitions: no code.
