@@ -94,13 +94,13 @@ uint32_t port_curmuf(uint32_t *state, size_t state_len, uint32_t *es, size_t es_
 uint32_t port_nommuf(const uint32_t *points, size_t points_len, const uint32_t *f2m3, size_t f2m3_len, const uint32_t *es, size_t es_len, const uint32_t *numbers, size_t numbers_len, uint32_t *out, size_t out_len);
 
 /* Ionogram and sheet. out of port_sang: the angles; of port_selmod: the slot; of port_genion: an
- * ionogram; of port_sheet: a slot sheet. cells: 30 words an angle, i32. */
+ * ionogram; of port_sheet: a slot sheet. cells: thirty an angle. */
 uint32_t port_sang(uint32_t gcdkm, uint32_t amind, uint32_t *out, size_t out_len);
 uint32_t port_selmod(const uint32_t *state, size_t state_len, uint32_t *out, size_t out_len);
 uint32_t port_genion(const uint32_t *state, size_t state_len, uint32_t k, uint32_t *out, size_t out_len);
 uint32_t port_alosfv(const uint32_t *state, size_t state_len, uint32_t k, uint32_t *ion, size_t ion_len, const uint32_t *layers, size_t layers_len);
-uint32_t port_fobby(const uint32_t *ion, size_t ion_len, uint32_t nang, uint32_t *cells, size_t cells_len);
-uint32_t port_sheet(uint32_t *state, size_t state_len, uint32_t k, uint32_t nang, const uint32_t *layers, size_t layers_len, uint32_t *cells, size_t cells_len, uint32_t *out, size_t out_len);
+uint32_t port_fobby(const uint32_t *ion, size_t ion_len, uint32_t nang, int32_t *cells, size_t cells_len);
+uint32_t port_sheet(uint32_t *state, size_t state_len, uint32_t k, uint32_t nang, const uint32_t *layers, size_t layers_len, int32_t *cells, size_t cells_len, uint32_t *out, size_t out_len);
 
 /* input: four bytes with the length of a circuit file, least significant first, the file, a sheet;
  * out: 0 where the sheet is what `sheet` prints of the file, else its first line that isn't. */

@@ -24,6 +24,8 @@ enum Kind {
     Bytes,
     LentBytes,
     LentSigned,
+    /// i32 there, compared as words here.
+    LentCells,
 }
 use Kind::*;
 
@@ -172,7 +174,7 @@ const EXPORTS: [Export; 41] = [
     Export(
         "port_ionogram",
         "port_fobby",
-        &[Words, Word, Lent],
+        &[Words, Word, LentCells],
         "u32",
         NONE,
     ),
@@ -186,7 +188,7 @@ const EXPORTS: [Export; 41] = [
     Export(
         "port_ionogram",
         "port_sheet",
-        &[Lent, Word, Word, Words, Lent, Lent],
+        &[Lent, Word, Word, Words, LentCells, Lent],
         "u32",
         NONE,
     ),
@@ -297,7 +299,7 @@ impl Kind {
             Number => "f32",
             Word => "u32",
             Words => "&[u32]",
-            Lent => "&mut [u32]",
+            Lent | LentCells => "&mut [u32]",
             Bytes => "&[u8]",
             LentBytes => "&mut [u8]",
             LentSigned => "&mut [i64]",
@@ -314,6 +316,7 @@ impl Kind {
             Bytes => format!("a{i}: *const u8, n{i}: usize"),
             LentBytes => format!("a{i}: *mut u8, n{i}: usize"),
             LentSigned => format!("a{i}: *mut i64, n{i}: usize"),
+            LentCells => format!("a{i}: *mut i32, n{i}: usize"),
         }
     }
 
@@ -322,6 +325,7 @@ impl Kind {
             Number | Word => format!("a{i}"),
             Words | Bytes => format!("a{i}.as_ptr(), a{i}.len()"),
             Lent | LentBytes | LentSigned => format!("a{i}.as_mut_ptr(), a{i}.len()"),
+            LentCells => format!("a{i}.as_mut_ptr().cast(), a{i}.len()"),
         }
     }
 }

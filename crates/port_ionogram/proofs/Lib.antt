@@ -1,3 +1,2 @@
--- Cells and rooms of the exported lists, and the slot sheet through words.
-pub mod Rooms
+-- The slot sheet through words.
 pub mod Sheets

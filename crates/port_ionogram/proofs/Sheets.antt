@@ -1,60 +1,46 @@
--- What the exports with cells answer, test by test.
-use mathlib.Core.Path.{_≡_}
+-- What the slot sheet's export leaves: by the outcome, state, rows and marks, or nothing.
+use mathlib.Core.Bool.{Bool, true, false}
 use mathlib.Core.List.{List}
-use Prim.Native.Nat.{ℕ, _*_, _≤_, _<_}
+use mathlib.Core.Path.{_≡_, refl}
+use Prim.Native.Nat.{ℕ, _≤_}
+use lib.Dec.{leb}
+use lib.IntN.{ℤ}
 use lib.ListN.{length}
-use borrow.Author.Tests.{le-leb, lt-leb, le-ltb}
+use borrow.Author.Tests.{le-ltb}
+use Rattle.refusal.specs.Number.{numberOf}
 use Rattle.refusal.specs.declared.Refusal.{Refusal}
 use Rattle.refusal.specs.declared.Outcome.{Outcome}
-use Rattle.reflectrix.specs.Fobby.{fobbyOutcome, cellsAfter}
-use Rattle.slot_sheet.specs.Sheet.{slotSheetWith}
-use Rattle.port_state.specs.State.{stateWords, stateInto}
-use Rattle.port_state.specs.Ports.{Ported, refusedWith}
-use Rattle.port_layouts.specs.Layouts.{cellsOf, cellsInto, ionogramOf, ionogramInto, marksInto}
-use Rattle.port_ionogram.specs.Exports.{PortedSheet, portFobby, refusedSheet, sheetOn, sheetCellsOn, portSheet}
-use Rattle.port_ionogram.proofs.Rooms.{room, too-many, too-short}
+use Rattle.layers.specs.declared.IonoState.{IonoState}
+use Rattle.layers.specs.declared.LayerMuf.{LayerMuf}
+use Rattle.heights.specs.Gethp.{gethpOf}
+use Rattle.reflectrix.specs.Fobby.{roomFor}
+use Rattle.slot_sheet.specs.Sheet.{sheetBy, cellsBy, slotSheetWith, slotSheetOf, sheetCellsWith, sheetCellsOf}
+use Rattle.slot_sheet.specs.declared.SlotSheet.{SlotSheet}
+use Rattle.line_words.specs.Lines.{linesOf}
+use Rattle.port_state.specs.State.{stateWords, stateOf, stateInto}
+use Rattle.port_layouts.specs.Layouts.{ionogramInto, marksInto}
+use Rattle.port_ionogram.specs.Exports.{portSheet}
 
--- ---- the reflectrix
+refused-by : (a b : Bool) (s : IonoState) (k nang : ℕ) (layers : List LayerMuf) (cells : List ℤ) (r : Refusal) → sheetBy a b gethpOf s k layers .outcome ≡ Outcome.Refused r → cellsBy a b gethpOf s k nang cells ≡ cells
+refused-by true true s k nang layers cells r e = cc
+refused-by true false s k nang layers cells r e = refl
+refused-by false b s k nang layers cells r e = refl
 
-pub fobby-answered : (ion : List ℕ) (nang : ℕ) (cells : List ℕ) → 150 ≤ length ion → nang ≤ 40 → 30 * nang ≤ length cells
-    → _≡_ {A = Ported} (portFobby ion nang cells) (record { number = 0; words = cellsInto cells (cellsAfter (ionogramOf ion) nang (cellsOf cells (30 * nang))) })
-unfolding portFobby fobbyOutcome
-fobby-answered ion nang cells long few h = rw (le-ltb (length ion) 150 long, room cells nang few h)
+-- a refused sheet leaves every cell
+refused-leaves : (s : IonoState) (k nang : ℕ) (layers : List LayerMuf) (cells : List ℤ) (r : Refusal) → slotSheetOf s k nang layers cells .outcome ≡ Outcome.Refused r → sheetCellsOf s k nang cells ≡ cells
+unfolding slotSheetWith sheetCellsWith
+refused-leaves s k nang layers cells r e = refused-by (leb k 2) (roomFor nang cells) s k nang layers cells r e
 
-pub fobby-many : (ion : List ℕ) (nang : ℕ) (cells : List ℕ) → 150 ≤ length ion → 40 < nang → portFobby ion nang cells ≡ refusedWith Refusal.Reflectrix cells
-unfolding portFobby fobbyOutcome
-fobby-many ion nang cells long many = rw (le-ltb (length ion) 150 long, too-many (cellsOf cells (30 * nang)) nang many)
-
-pub fobby-short : (ion : List ℕ) (nang : ℕ) (cells : List ℕ) → 150 ≤ length ion → nang ≤ 40 → length cells < 30 * nang → portFobby ion nang cells ≡ refusedWith Refusal.Reflectrix cells
-unfolding portFobby fobbyOutcome
-fobby-short ion nang cells long few h = rw (le-ltb (length ion) 150 long, too-short cells nang few h)
-
--- ---- the slot sheet
-
-module _ (state : List ℕ) (k nang : ℕ) (layers cells out : List ℕ) where
-  module _ (ls : stateWords ≤ length state) (ll : 44 ≤ length layers) (lo : 200 ≤ length out) where
-    -- past the lengths the outcome decides
-    pub sheet-refused : (r : Refusal) → sheetOn state k nang layers cells .outcome ≡ Outcome.Refused r → portSheet state k nang layers cells out ≡ refusedSheet r state cells out
+module _ (state : List ℕ) (k nang : ℕ) (layers : List ℕ) (cells : List ℤ) (out : List ℕ) (s : IonoState) (lines : List LayerMuf) (i n : ℕ) (a : SlotSheet) (c : List ℤ) where
+  module _ (ls : stateWords ≤ length state) (ll : 44 ≤ length layers) (lo : 200 ≤ length out) (es : s ≡ stateOf state) (el : lines ≡ linesOf layers) (ei : i ≡ k) (en : n ≡ nang) (ea : a ≡ slotSheetOf s i n lines cells) (ec : c ≡ sheetCellsOf s i n cells) where
+    pub answered : (state' out' : List ℕ) → a .outcome ≡ Outcome.Answered → state' ≡ stateInto (a .state) state → out' ≡ marksInto (a .marks) (ionogramInto (a .ion) out) 150
+        → (0 ≡ portSheet state k nang layers cells out .number) × (state' ≡ portSheet state k nang layers cells out .state) × (c ≡ portSheet state k nang layers cells out .cells) × (out' ≡ portSheet state k nang layers cells out .out)
     unfolding portSheet
-    sheet-refused r e = rw (le-ltb (length state) stateWords ls, le-ltb (length layers) 44 ll, le-ltb (length out) 200 lo, e)
+    answered state' out' e et eo = rw (le-ltb (length state) stateWords ls, le-ltb (length layers) 44 ll, le-ltb (length out) 200 lo, ← es, ← el, ← ei, ← en, ← ea, ← ec, e) (refl, et, refl, eo)
 
-    pub sheet-answered : sheetOn state k nang layers cells .outcome ≡ Outcome.Answered
-        → _≡_ {A = PortedSheet} (portSheet state k nang layers cells out) (record { number = 0; state = stateInto (sheetOn state k nang layers cells .state) state; cells = cellsInto cells (sheetCellsOn state k nang cells); out = marksInto (sheetOn state k nang layers cells .marks) (ionogramInto (sheetOn state k nang layers cells .ion) out) 150 })
+    pub refused : (r : Refusal) → a .outcome ≡ Outcome.Refused r
+        → (numberOf r ≡ portSheet state k nang layers cells out .number) × (state ≡ portSheet state k nang layers cells out .state) × (c ≡ portSheet state k nang layers cells out .cells) × (out ≡ portSheet state k nang layers cells out .out)
     unfolding portSheet
-    sheet-answered e = rw (le-ltb (length state) stateWords ls, le-ltb (length layers) 44 ll, le-ltb (length out) 200 lo, e)
-
-  pub slot-above : 2 < k → sheetOn state k nang layers cells .outcome ≡ Outcome.Refused Refusal.SlotNumber
-  unfolding sheetOn slotSheetWith
-  slot-above h = rw (lt-leb k 2 h)
-
-  pub angles-above : k ≤ 2 → 40 < nang → sheetOn state k nang layers cells .outcome ≡ Outcome.Refused Refusal.Reflectrix
-  unfolding sheetOn slotSheetWith
-  angles-above s many = rw (le-leb k 2 s, too-many (cellsOf cells (30 * nang)) nang many)
-
-  pub cells-short : k ≤ 2 → nang ≤ 40 → length cells < 30 * nang → sheetOn state k nang layers cells .outcome ≡ Outcome.Refused Refusal.Reflectrix
-  unfolding sheetOn slotSheetWith
-  cells-short s few h = rw (le-leb k 2 s, too-short cells nang few h)
-
-  pub with-room : k ≤ 2 → nang ≤ 40 → 30 * nang ≤ length cells → sheetOn state k nang layers cells .outcome ≡ Outcome.Answered
-  unfolding sheetOn slotSheetWith
-  with-room s few h = rw (le-leb k 2 s, room cells nang few h)
+    refused r e =
+        let kept : sheetCellsOf s i n cells ≡ cells = refused-leaves s i n lines cells r (rw (← ea) e) in
+        rw (le-ltb (length state) stateWords ls, le-ltb (length layers) 44 ll, le-ltb (length out) 200 lo, ← es, ← el, ← ei, ← en, ← ea, e, ec) (refl, refl, kept, refl)

@@ -1,21 +1,13 @@
 // The exported calls. Lengths are checked first; a refused call leaves every word.
 ghost use mathlib.Core.Path.{_≡_};
-ghost use Prim.Native.Nat.{_*_, _≤_};
+ghost use Prim.Native.Nat.{_≤_};
 ghost use lib.ListN.{length};
 ghost use denote.Ref.{now};
-ghost use Rattle.reflectrix.specs.Fobby.{cellsAfter};
-ghost use Rattle.slot_sheet.specs.Sheet.{slotSheetOf, sheetCellsOf};
-ghost use Rattle.port_state.specs.State.{stateWords, stateInto};
-ghost use Rattle.port_layouts.specs.Layouts.{cellsOf, cellsInto, ionogramInto, marksInto};
 ghost use Rattle.ionogram_words.specs.Sang.{sangWords};
-ghost use Rattle.port_ionogram.specs.Exports.{rowsInto, portSelmod, portGenion, portFobby, portAlosfv, sheetOn, sheetCellsOn, portSheet};
-use layers::IonoState;
-use layers::LayerMuf;
+ghost use Rattle.port_ionogram.specs.Exports.{rowsInto, portSelmod, portGenion, portFobby, portAlosfv, portSheet};
 use port_state::STATE_WORDS;
-use reflectrix::Ionogram;
 use reflectrix::IonogramAnswer;
 use refusal::Outcome;
-use slot_sheet::SlotSheet;
 
 // out: the angle count
 #[no_mangle]
@@ -94,90 +86,28 @@ pub extern "C" fn port_alosfv(state: &[u32], k: u32, ion: &mut [u32], layers: &[
     rows_into(a, ion)
 }
 
-// The cells pass through c, which is as long as the angles take.
-fn fobby_by(ion: Ionogram, nang: usize, c: &mut [i32], cells: &mut [u32])
-    requires { ⌜ (length (now c) ≡ 30 * nang) × (30 * nang ≤ length (now cells)) ⌝ }
-    ensures { λ _. ⌜ now (cells .exit) ≡ cellsInto (now (cells .entry)) (cellsAfter ion nang (cellsOf (now (cells .entry)) (30 * nang))) ⌝ }
-{
-    port_layouts::cells_of(cells, c);
-    reflectrix::fobby(ion, nang, c);
-    port_layouts::cells_into(c, cells);
-}
-
-// ion 150 words; cells: 30 words an angle
+// ion 150 words; cells: thirty an angle
 #[no_mangle]
-pub extern "C" fn port_fobby(ion: &[u32], nang: u32, cells: &mut [u32]) -> u32
-    ensures { λ r. ⌜ (r ≡ portFobby (now (ion .entry)) nang (now (cells .entry)) .number) × (now (cells .exit) ≡ portFobby (now (ion .entry)) nang (now (cells .entry)) .words) ⌝ }
+pub extern "C" fn port_fobby(ion: &[u32], nang: u32, cells: &mut [i32]) -> u32
+    ensures { λ r. ⌜ (r ≡ portFobby (now (ion .entry)) nang (now (cells .entry)) .number) × (now (cells .exit) ≡ portFobby (now (ion .entry)) nang (now (cells .entry)) .cells) ⌝ }
 {
     if ion.len() < 150 {
         return 1;
     }
-    if nang > 40 {
-        return 8;
-    }
-    let n = port_state::wide(nang);
-    let count = 30 * n;
-    if cells.len() < count {
-        return 8;
-    }
     let rows = port_layouts::ionogram_of(ion);
-    let mut c = [0; 1200];
-    fobby_by(rows, n, &mut c[..count], cells);
-    0
+    let o = reflectrix::fobby(rows, port_state::wide(nang), cells);
+    refusal::outcome_number(o)
 }
 
-// The cells pass through c, which is as long as the angles take.
-fn sheet_by(
-    s: IonoState,
-    k: usize,
-    nang: usize,
-    layers: [LayerMuf; 4],
-    c: &mut [i32],
-    cells: &mut [u32],
-) -> SlotSheet
-    requires { ⌜ (length (now c) ≡ 30 * nang) × (30 * nang ≤ length (now cells)) ⌝ }
-    ensures { λ r. ⌜ (r ≡ slotSheetOf s k nang layers (cellsOf (now (cells .entry)) (30 * nang))) × (now (cells .exit) ≡ cellsInto (now (cells .entry)) (sheetCellsOf s k nang (cellsOf (now (cells .entry)) (30 * nang)))) ⌝ }
-{
-    port_layouts::cells_of(cells, c);
-    let a = slot_sheet::slot_sheet(s, k, nang, layers, c);
-    port_layouts::cells_into(c, cells);
-    a
-}
-
-fn sheet_into(
-    state: &mut [u32],
-    k: usize,
-    nang: usize,
-    layers: &[u32],
-    cells: &mut [u32],
-    out: &mut [u32],
-)
-    requires { ⌜ (stateWords ≤ length (now state)) × (44 ≤ length (now layers)) × (200 ≤ length (now out)) × (nang ≤ 40) × (30 * nang ≤ length (now cells)) ⌝ }
-    ensures { λ _. ⌜ (now (state .exit) ≡ stateInto (sheetOn (now (state .entry)) k nang (now (layers .entry)) (now (cells .entry)) .state) (now (state .entry)))
-        × (now (cells .exit) ≡ cellsInto (now (cells .entry)) (sheetCellsOn (now (state .entry)) k nang (now (cells .entry))))
-        × (now (out .exit) ≡ marksInto (sheetOn (now (state .entry)) k nang (now (layers .entry)) (now (cells .entry)) .marks) (ionogramInto (sheetOn (now (state .entry)) k nang (now (layers .entry)) (now (cells .entry)) .ion) (now (out .entry))) 150) ⌝ }
-{
-    let s = port_state::state_of(state);
-    let lines = line_words::lines_of(layers);
-    let count = 30 * nang;
-    let mut c = [0; 1200];
-    let a = sheet_by(s, k, nang, lines, &mut c[..count], cells);
-    let t = a.state;
-    let ion = a.ion;
-    let marks = a.marks;
-    port_state::state_into(t, state);
-    ionogram_words::marked_into(ion, marks, out);
-}
-
-// state STATE_WORDS words, layers 44; cells: 30 words an angle; out 200: fvert, hprim, htrue,
-// afac, segment, the marks' numbers
+// state STATE_WORDS words, layers 44; cells: thirty an angle; out 200: fvert, hprim, htrue, afac,
+// segment, the marks' numbers
 #[no_mangle]
 pub extern "C" fn port_sheet(
     state: &mut [u32],
     k: u32,
     nang: u32,
     layers: &[u32],
-    cells: &mut [u32],
+    cells: &mut [i32],
     out: &mut [u32],
 ) -> u32
     ensures { λ r. ⌜ (r ≡ portSheet (now (state .entry)) k nang (now (layers .entry)) (now (cells .entry)) (now (out .entry)) .number)
@@ -194,17 +124,21 @@ pub extern "C" fn port_sheet(
     if out.len() < 200 {
         return 1;
     }
-    if k > 2 {
-        return 6;
-    }
-    if nang > 40 {
-        return 8;
-    }
-    let n = port_state::wide(nang);
-    if cells.len() < 30 * n {
-        return 8;
-    }
+    let s = port_state::state_of(state);
+    let lines = line_words::lines_of(layers);
     let slot = port_state::wide(k);
-    sheet_into(state, slot, n, layers, cells, out);
-    0
+    let n = port_state::wide(nang);
+    let a = slot_sheet::slot_sheet(s, slot, n, lines, cells);
+    let o = a.outcome;
+    match o {
+        Outcome::Answered => {
+            let t = a.state;
+            let ion = a.ion;
+            let marks = a.marks;
+            port_state::state_into(t, state);
+            ionogram_words::marked_into(ion, marks, out);
+            0
+        }
+        Outcome::Refused(r) => refusal::number(r),
+    }
 }

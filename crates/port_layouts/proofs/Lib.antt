@@ -1,2 +1,1 @@
--- Cells as words.
-pub mod Cells
+-- Rows and marks as words: nothing that another crate cites.

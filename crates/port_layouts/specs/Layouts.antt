@@ -1,21 +1,11 @@
--- What the exports read from words and write there: reflectrix cells, the thirty rows, the fifty marks.
-use mathlib.Core.List.{List, _++_, map}
+-- What the exports read from words and write there: the thirty rows, the fifty marks.
+use mathlib.Core.List.{List, map}
 use Prim.Native.Nat.{ℕ}
-use lib.IntN.{ℤ}
-use lib.ListN.{length, take, drop}
 use Rattle.port_circuit.specs.Words.{wordsOf, wordsInto}
-use Rattle.port_state.specs.Words.{floatsOf, floatsInto, signedOf, wordOf}
+use Rattle.port_state.specs.Words.{floatsOf, floatsInto}
 use Rattle.reflectrix.specs.declared.Ionogram.{Ionogram}
 use Rattle.shapes.specs.Mark.{numberOf}
 use Rattle.shapes.specs.declared.HeightMark.{HeightMark}
-
--- the first n words as cells
-unfoldable pub cellsOf : List ℕ → ℕ → List ℤ
-cellsOf w n = map signedOf (take n w)
-
--- the cells first, then the words past them as they were
-unfoldable pub cellsInto : List ℕ → List ℤ → List ℕ
-cellsInto w c = map wordOf c ++ drop (length c) w
 
 -- 150 words: fvert, hprim, htrue, afac, segment
 unfoldable pub ionogramOf : List ℕ → Ionogram

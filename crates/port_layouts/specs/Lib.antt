@@ -1,2 +1,2 @@
--- Rows, marks, layer lines and reflectrix cells as words.
+-- Rows and marks as words.
 pub mod Layouts

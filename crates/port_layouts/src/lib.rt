@@ -1,4 +1,4 @@
-// Cells, rows and marks as words.
+// Rows and marks as words.
 ghost use mathlib.Core.Path.{_≡_};
 ghost use mathlib.Core.List.{map};
 ghost use Prim.Native.Nat.{_+_, _≤_};
@@ -6,30 +6,9 @@ ghost use lib.ListN.{length};
 ghost use denote.Ref.{now};
 ghost use Rattle.port_circuit.specs.Words.{wordsOf, wordsInto};
 ghost use Rattle.port_state.specs.Words.{floatsOf, floatsInto};
-ghost use Rattle.port_layouts.specs.Layouts.{cellsOf, cellsInto, ionogramOf, ionogramInto, markNumber, marksInto};
+ghost use Rattle.port_layouts.specs.Layouts.{ionogramOf, ionogramInto, markNumber, marksInto};
 use reflectrix::Ionogram;
 use shapes::HeightMark;
-
-// As many cells as are lent.
-pub fn cells_of(w: &[u32], c: &mut [i32])
-    requires { ⌜ length (now c) ≤ length (now w) ⌝ }
-    ensures { λ _. ⌜ now (c .exit) ≡ cellsOf (now (w .entry)) (length (now (c .entry))) ⌝ }
-{
-    for i in 0..c.len() {
-        let v = port_state::signed(w[i]);
-        c[i] = v;
-    }
-}
-
-pub fn cells_into(c: &[i32], w: &mut [u32])
-    requires { ⌜ length (now c) ≤ length (now w) ⌝ }
-    ensures { λ _. ⌜ now (w .exit) ≡ cellsInto (now (w .entry)) (now (c .entry)) ⌝ }
-{
-    for i in 0..c.len() {
-        let v = port_state::word(c[i]);
-        w[i] = v;
-    }
-}
 
 fn floats_30(w: &[u32], from: usize) -> [f32; 30]
     requires { ⌜ from + 30 ≤ length (now w) ⌝ }

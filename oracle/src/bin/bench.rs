@@ -17,6 +17,7 @@ use oracle::voacap::ionosphere::EsParams;
 use oracle::voacap::muf::{self, IonoState, LayerMuf};
 use oracle::voacap::side::{self as native, Deciles};
 use oracle::words::*;
+use std::cell::RefCell;
 use std::fs::File;
 use std::hint::black_box;
 use std::path::{Path, PathBuf};
@@ -104,19 +105,20 @@ fn rust_muf(h: &Hourly) {
     black_box((state, es, hour));
 }
 
+thread_local! {
+    /// Cells that a caller lends again at each call.
+    static LENT: RefCell<[u32; CELLS * ANGLES]> = const { RefCell::new([0; CELLS * ANGLES]) };
+}
+
 fn our_sheet(h: &Hourly) {
     let mut state = h.words;
-    let (mut cells, mut out) = ([0; CELLS * ANGLES], [0; SHEET]);
+    let mut out = [0; SHEET];
     let nang = ANGLES as u32;
-    ours::port_sheet(
-        &mut state,
-        h.slot,
-        nang,
-        &h.layer_words,
-        &mut cells,
-        &mut out,
-    );
-    black_box((state, cells, out));
+    LENT.with_borrow_mut(|cells| {
+        ours::port_sheet(&mut state, h.slot, nang, &h.layer_words, cells, &mut out);
+        black_box(cells);
+    });
+    black_box((state, out));
 }
 
 fn rust_sheet(h: &Hourly) {
@@ -152,9 +154,10 @@ fn rust_genion(h: &Hourly) {
 }
 
 fn our_fobby(h: &Hourly) {
-    let mut cells = [0; CELLS * ANGLES];
-    ours::port_fobby(&h.row_words, ANGLES as u32, &mut cells);
-    black_box(cells);
+    LENT.with_borrow_mut(|cells| {
+        ours::port_fobby(&h.row_words, ANGLES as u32, cells);
+        black_box(cells);
+    });
 }
 
 fn rust_fobby(h: &Hourly) {
