@@ -1,4 +1,4 @@
 -- Refusals along the chain, of the MUF, and of the sheet.
-mod Chain
-mod Muf
+pub mod Chain
+pub mod Muf
 pub mod Sheet

@@ -46,11 +46,11 @@ unfolding answeredOf
 muf-then m Outcome.Answered s nang e p h k = (tt, λ x. (h e .0, h e .1, k))
 muf-then m (Outcome.Refused r) s nang e p h k = refused-good r p
 
-first-of : (a b : Bool) → (a && b) ≡ true → a ≡ true
+pub first-of : (a b : Bool) → (a && b) ≡ true → a ≡ true
 first-of true b e = refl
 first-of false b e = e
 
-deciles-right : (ks d a b : ℕ) → listsReach ks d a b ≡ true → eqb d 576 ≡ true
+pub deciles-right : (ks d a b : ℕ) → listsReach ks d a b ≡ true → eqb d 576 ≡ true
 unfolding listsReach
 deciles-right ks d a b e = first-of (eqb d 576) (ltb ks a) (first-of (eqb d 576 && ltb ks a) (ltb ks b) e)
 
@@ -75,7 +75,7 @@ read-by : (o : Outcome) (c : Circuit) → OutcomeIn OfSheet o → (o ≡ Outcome
 read-by Outcome.Answered c p h = h refl
 read-by (Outcome.Refused r) c p h = refused-good r p
 
-read-outcome : (o : Outcome) (c : Circuit) → readBy o c .outcome ≡ o
+pub read-outcome : (o : Outcome) (c : Circuit) → readBy o c .outcome ≡ o
 read-outcome Outcome.Answered c = refl
 read-outcome (Outcome.Refused r) c = refl
 

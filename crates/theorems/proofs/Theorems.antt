@@ -35,6 +35,7 @@ use Rattle.chain_laws.proofs.Longer.{longer-file, records-appended}
 use Rattle.chain_laws.proofs.Printed.{printed-alike, printed-appended}
 use Rattle.chain_laws.proofs.Order.{writer-order}
 use Rattle.sheet_refusals.proofs.Sheet.{chain-refusals, sheet-refusals, sheet-printed}
+use Rattle.export_refusals.proofs.Exports.{export-refusals}
 use Rattle.wide_circuit.proofs.Laws.{wide-laws}
 use Rattle.circuit_turn.proofs.Laws.{turn-laws}
 use Rattle.profile.proofs.Keeps.{lecden-keeps, lecden-supplied}
@@ -139,6 +140,7 @@ theorems =
       chain-refusals = chain-refusals;
       sheet-refusals = sheet-refusals;
       sheet-printed = sheet-printed;
+      export-refusals = export-refusals;
       paper-laws = paper-laws;
       wide-laws = wide-laws;
       turn-laws = turn-laws;

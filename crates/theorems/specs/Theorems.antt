@@ -20,6 +20,7 @@ use Rattle.circuit_laws.specs.Laws.{EveryForm, ReadWritten, ReadSame, WrittenLe
 use Rattle.circuit_laws.specs.Paper.{PaperLaws}
 use Rattle.chain_laws.specs.Laws.{LongerFile, RecordsAppended, PrintedAlike, PrintedAppended, WriterOrder}
 use Rattle.sheet_refusals.specs.Refusals.{ChainRefusals, SheetRefusals, SheetPrinted}
+use Rattle.export_refusals.specs.Exports.{ExportRefusals}
 use Rattle.wide_circuit.specs.Laws.{WideLaws}
 use Rattle.circuit_turn.specs.Laws.{TurnLaws}
 use Rattle.figures.specs.Nearest.{NearestRule}
@@ -153,6 +154,8 @@ pub record Theorems : Type 0 where
   pub chain-refusals : ChainRefusals
   pub sheet-refusals : SheetRefusals
   pub sheet-printed : SheetPrinted
+  -- each export, on lists of any length with any numbers, answers 0 or one of the refusals listed for it, and nothing else
+  pub export-refusals : ExportRefusals
   -- all of these at the paper's layout, and at the one that carries F2M3
   pub paper-laws : PaperLaws
   pub wide-laws : WideLaws

@@ -1,0 +1,1 @@
+// No function: which numbers each export can answer.
