@@ -84,6 +84,7 @@ use Rattle.decimal_text.proofs.Widths.{number-width}
 use Rattle.svg_text.proofs.Frame.{in-frame}
 use Rattle.compose_laws.proofs.Written.{text-written}
 use Rattle.compose_laws.proofs.ReadBack.{text-read-back}
+use Rattle.statement_checks.proofs.Checks.{statement-checks}
 
 pub theorems : Theorems
 theorems =
@@ -216,4 +217,5 @@ theorems =
       last-from-one = last-from-one;
       exact-rule = exact-rule;
       segments-found = segments-found;
+      statement-checks = statement-checks;
     }

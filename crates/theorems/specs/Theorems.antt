@@ -62,6 +62,7 @@ use Rattle.decimal_text.specs.Number.{NumberWidth}
 use Rattle.svg_text.specs.Points.{InFrame}
 use Rattle.compose_laws.specs.Laws.{TextWritten}
 use Rattle.compose_laws.specs.Laws.{TextReadBack}
+use Rattle.statement_checks.specs.Checks.{StatementChecks}
 
 pub record Theorems : Type 0 where
   -- ---- Rounding, in both formats
@@ -286,3 +287,6 @@ pub record Theorems : Type 0 where
   pub words-suffice : WordsSufficeRead
   -- a nominal MUF put anywhere into any list changes nothing else and answers as alone
   pub nominal-anywhere : NominalAnywhere
+  -- ---- The statements themselves
+  -- definitions that stand in these statements and in no contract, in other words: nothing is left out of the lists of literals, trials and refusals; ranges, order and distance reach as far as they are read to; what is the same by bits is equal
+  pub statement-checks : StatementChecks
