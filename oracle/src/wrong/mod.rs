@@ -45,7 +45,7 @@ static DIFFERS: [AtomicBool; COUNT + 1] = [const { AtomicBool::new(false) }; COU
 /// The operands of the last operation at each place.
 static OPERANDS: [[AtomicU32; 2]; COUNT + 1] =
     [const { [const { AtomicU32::new(0) }; 2] }; COUNT + 1];
-/// How often a comparison held.
+/// How often a comparison was made, and times 65536 how often it held.
 static HELD: [AtomicU32; COUNT + 1] = [const { AtomicU32::new(0) }; COUNT + 1];
 
 /// Runs `f` with an edit chosen, or none (0); no answer where it panics or does
@@ -73,8 +73,8 @@ pub struct Noted<T> {
     pub answer: T,
     /// The edits that make a difference where they stand.
     pub differing: Vec<usize>,
-    /// How often each comparison held, by the first edit of its place; of a minimum
-    /// or maximum how often it was the second, of a truncation the sum.
+    /// How often each comparison was made and held, by the first edit of its place;
+    /// of a minimum or maximum how often it was the second, of a truncation the sum.
     pub held: Vec<u32>,
 }
 
@@ -404,7 +404,7 @@ fn burn(base: u32, held: bool) {
     if CHOSEN.load(Relaxed) == 0 {
         return;
     }
-    count(base, u32::from(held));
+    count(base, 1 + (u32::from(held) << 16));
     let left = LEFT.load(Relaxed);
     LEFT.store(left.wrapping_sub(1), Relaxed);
     assert!(left > 0, "a run that does not end");

@@ -131,7 +131,7 @@ impl Search {
     /// The circuits to search on from.
     pub fn seed(&mut self) {
         for circuit in seeds::circuits() {
-            self.hour(&circuit.written(), Patience::None);
+            self.hour(&circuit.written(), Patience::All);
             self.pool.push(circuit);
         }
     }
@@ -201,29 +201,29 @@ impl Search {
                 for to in [0, 1, 2, 3, 5, 6, file[at] + 1, (file.len() / 64) as u8] {
                     let mut other = file.clone();
                     other[at] = to;
-                    self.hour(&other, Patience::None);
+                    self.hour(&other, Patience::All);
                 }
             }
             for length in [0, 1, 64, 127, 129, 192, 4032, 4095, 4096, 4097, 4160] {
                 let mut other = file.clone();
                 other.resize(length, 0);
-                self.hour(&other, Patience::None);
+                self.hour(&other, Patience::All);
             }
             // a record more, on the chain or back to its beginning, or one less
             let last = file.len() - 64;
             for next in [file.len() / 64, 1, file.len() / 64 - 1] {
                 let mut other = [&file[..], &file[last..]].concat();
                 other[last + 2] = next as u8;
-                self.hour(&other, Patience::None);
+                self.hour(&other, Patience::All);
                 other.truncate(file.len() - 64);
                 other[last - 62] = 0;
-                self.hour(&other, Patience::None);
+                self.hour(&other, Patience::All);
             }
         }
     }
 
     /// Hours at the edge of a comparison: one word is moved between two values
-    /// that differ in how often the comparison holds.
+    /// that differ in how often the comparison is made or holds.
     fn edges(&mut self, tries: u64) {
         for _ in 0..tries {
             let mut low = self.some();
@@ -284,7 +284,7 @@ fn r_one() -> u32 {
     1.0f32.to_bits()
 }
 
-/// How often a comparison holds; at place 0 what the sheet is, a refusal or not.
+/// How often a comparison is made and holds; at place 0 what the sheet is, a refusal or not.
 fn measure(noted: &Noted<String>, place: usize) -> u64 {
     if place > 0 {
         return u64::from(noted.held[place]);

@@ -186,8 +186,141 @@ const SILENT: &[(&str, &[&str], &str)] = &[
         &["128 1 less 1", "4096 1 and 1"],
         "not a multiple of a record's length",
     ),
+    ("muf::lecden", &["- 2 a place up"], ROOT),
+    ("ionogram::genion", &["- 1 a place up"], ROOT),
+    (
+        "muf::lecden",
+        &[
+            "< 3 at NaN",
+            ">= 2 at NaN",
+            "<= 2 at NaN",
+            "<= 3 at NaN",
+            "<= 5 at NaN",
+        ],
+        "where a NaN is compared the shape is NaN or not above zero: the maximum drops it",
+    ),
+    (
+        "muf::lecden",
+        &["min 2 the second", "max 3 the second"],
+        "of two equal zeros neither is negative",
+    ),
+    (
+        "muf::lecden",
+        &[">= 1 at equals"],
+        "it stores what is there already",
+    ),
+    ("muf::lecden", &["min 3 NaN"], NO_NAN),
+    (
+        "muf::lecden",
+        &["max 5 the second"],
+        "only a difference is made of it",
+    ),
+    ("muf::profile_interpolate", &["49 1 and"], LEAVES),
+    ("muf::profile_interpolate", &["<= 1 at equals"], ALIKE),
+    ("muf::rising_interpolate", &["49 1 and", "49 2 and"], LEAVES),
+    (
+        "muf::rising_interpolate",
+        &["49 1 less"],
+        "at the top and above it the density is no less than the one sought, or the height is infinite",
+    ),
+    ("muf::rising_interpolate", &[">= 1 at NaN"], NAN_HEIGHT),
+    ("muf::rises_throughout", &["0 1 ", "1 1 less"], SCANS),
+    (
+        "muf::rises_throughout",
+        &["< 1 at equals"],
+        "equal heights have equal densities",
+    ),
+    ("muf::rises_throughout", &["49 1 and", "1 1 and"], LEAVES),
+    (
+        "muf::gethp_densities",
+        &["<= 1 at NaN", "<= 2 at NaN", ">= 1 at NaN"],
+        NAN_HEIGHT,
+    ),
+    (
+        "muf::gethp_densities",
+        &["- 4 is", "<= 2 never", "<= 2 at equals"],
+        "of a rising profile only the first height is read at the floor: the walk reads the same there",
+    ),
+    (
+        "muf::gethp_densities",
+        &[
+            ">= 1 always",
+            ">= 1 at equals",
+            "0 12 ",
+            "20 4 less",
+            "0 13 ",
+            "0 14 ",
+            "20 5 less",
+            "1 2 less",
+        ],
+        "on a rising profile no true height is below the first, and NaN stays NaN",
+    ),
+    (
+        "muf::curmuf",
+        &["< 1 at equals"],
+        "the test before it takes equals",
+    ),
+    (
+        "muf::curmuf",
+        &["< 2 at NaN"],
+        "a distance that is NaN is refused",
+    ),
+    (
+        "muf::curmuf",
+        &[">= 1 at NaN"],
+        "a sporadic E that is NaN is not taken",
+    ),
+    (
+        "muf::curmuf",
+        &["/ 23 taken"],
+        "it differs at subnormal angles only, where the ray is vertical or there is none",
+    ),
+    (
+        "ionogram::alosfv",
+        &["max 5 NaN", "max 9 NaN", "max 13 NaN", "max 15 NaN"],
+        NO_NAN,
+    ),
+    ("sigdis::xlin", &["- 2 is", "1 1 less"], LEAVES),
+    ("sigdis::xlin", &["<= 1 at equals"], ALIKE),
+    (
+        "sigdis::xlin",
+        &[
+            "- 11 is",
+            "+ 6 is",
+            "> 2 always",
+            "> 2 at equals",
+            "> 2 at NaN",
+        ],
+        "what a falling step holds is its first number, above those beside it",
+    ),
+    (
+        "circuit::read",
+        &["RECORD 2 less", ">= 1 at equals"],
+        LEAVES,
+    ),
+    (
+        "predict::curmuf",
+        &["2 2 less"],
+        "the hops of F2 were let through before",
+    ),
+    (
+        "marks::mark",
+        &["5 1 and"],
+        "a density that is not zero is that of a shape",
+    ),
+    ("programs::slots", &["0 2 "], "only its sign is read"),
+    (
+        "programs::hour",
+        &["13 2 "],
+        "deviations and deciles are not printed",
+    ),
 ];
 
+const ROOT: &str = "the root of the constant a place up is the same";
+const ALIKE: &str = "both branches interpolate alike";
+const LEAVES: &str = "where it makes a difference it leaves its array";
+const NAN_HEIGHT: &str = "where the true height is NaN the virtual one is, whatever is read";
+const NO_NAN: &str = "it gets no NaN";
 const NOT_READ: &str = "fsecv is neither read nor printed";
 const NO_F1: &str = "an F1 of zero is none: what is worked out of it is not read, or zero";
 const SCANS: &str = "scans read what the walk reads";
