@@ -6,6 +6,7 @@ use Rattle.statement_checks.proofs.Figures.{figures-as-read}
 use Rattle.statement_checks.proofs.Files.{files-as-read}
 use Rattle.statement_checks.proofs.Words.{words-as-read, mark-stands}
 use Rattle.statement_checks.proofs.Bits.{bits-are-all}
+use Rattle.statement_checks.proofs.Points.{count-is-all}
 
 pub statement-checks : StatementChecks
 statement-checks =
@@ -18,4 +19,5 @@ statement-checks =
       words-as-read = words-as-read;
       mark-stands = mark-stands;
       bits-are-all = bits-are-all;
+      count-is-all = count-is-all;
     }

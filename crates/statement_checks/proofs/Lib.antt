@@ -5,4 +5,5 @@ mod Figures
 mod Files
 mod Words
 mod Bits
+mod Points
 pub mod Checks

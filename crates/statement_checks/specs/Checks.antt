@@ -5,6 +5,7 @@ use Rattle.statement_checks.specs.Figures.{FiguresAsRead}
 use Rattle.statement_checks.specs.Files.{FilesAsRead}
 use Rattle.statement_checks.specs.Words.{WordsAsRead, MarkStands}
 use Rattle.statement_checks.specs.Bits.{BitsAreAll}
+use Rattle.statement_checks.specs.Points.{CountIsAll}
 
 pub record StatementChecks : Type 0 where
   -- no literal, coefficient or trial is left out, and each is as written
@@ -19,3 +20,5 @@ pub record StatementChecks : Type 0 where
   pub words-as-read : WordsAsRead
   pub mark-stands : MarkStands
   pub bits-are-all : BitsAreAll
+  -- how far a nominal MUF reads
+  pub count-is-all : CountIsAll

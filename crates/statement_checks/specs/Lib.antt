@@ -5,4 +5,5 @@ pub mod Figures
 pub mod Files
 pub mod Words
 pub mod Bits
+pub mod Points
 pub mod Checks
