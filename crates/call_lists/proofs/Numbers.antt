@@ -13,10 +13,10 @@ use Rattle.scalar.specs.Scalar.{orSecond, minOf, maxOf}
 use Rattle.scalar.specs.Root.{sqrtOf}
 use Rattle.layers.specs.State.{withKfx}
 use Rattle.layers.specs.Owners.{disowned}
-use Rattle.layers.proofs.OwnersLeft.{disowned-only}
-use Rattle.layers.specs.FromLayers.{countTaken}
-use Rattle.layers.specs.Ionset.{layerFrom, twoSlots, threeSlots, assignedBy, assignedOf, tooClose, f1KeptBy, f1Settled, f2Settled, slotSettled, slotsSettled, ionsetBy, ionsetOf}
-use Rattle.layers.specs.Ionset as ionset
+use Rattle.slots.proofs.OwnersLeft.{disowned-only}
+use Rattle.layer_rules.specs.Rules.{countTaken, tooClose}
+use Rattle.slots.specs.Ionset.{layerFrom, twoSlots, threeSlots, assignedBy, assignedOf, f1KeptBy, f1Settled, f2Settled, slotSettled, slotsSettled, ionsetBy, ionsetOf}
+use Rattle.slots.specs.Ionset as ionset
 use Rattle.layers.specs.declared.IonoState.{IonoState}
 use Rattle.profile.specs.Lecden.{slotAt, slotWritten, tailOf, suppliedOf, lecdenBy, lecdenOf}
 use Rattle.profile.specs.F1.{valleyOf, f1Of, reshapedOf}

@@ -7,8 +7,8 @@ use lib.Dec.{T}
 use lib.Ieee.{Float}
 use Rattle.same.specs.Same.{Same, SameAll}
 use Rattle.scalar.specs.F32.{at}
-use Rattle.layers.specs.Ionset.{ionsetOf}
-use Rattle.layers.specs.FromLayers.{countTaken}
+use Rattle.slots.specs.Ionset.{ionsetOf}
+use Rattle.layer_rules.specs.Rules.{countTaken}
 use Rattle.layers.specs.declared.IonoState.{IonoState}
 use Rattle.layers.specs.declared.LayerMuf.{LayerMuf}
 use Rattle.layers.specs.declared.EsParams.{EsParams}

@@ -13,8 +13,8 @@ use Rattle.circuit.specs.Read.{readOf}
 use Rattle.circuit.specs.Point.{pointNumber}
 use Rattle.circuit.specs.declared.Circuit as file
 use Rattle.layers.specs.State.{withIedp}
-use Rattle.layers.specs.FromLayers.{fromLayersOf}
-use Rattle.layers.specs.Ionset.{ionsetOf}
+use Rattle.slots.specs.FromLayers.{fromLayersOf}
+use Rattle.slots.specs.Ionset.{ionsetOf}
 use Rattle.layers.specs.declared.IonoState.{IonoState}
 use Rattle.layers.specs.declared.LayerParams.{LayerParams}
 use Rattle.layers.specs.declared.LayerMuf.{LayerMuf}

@@ -102,10 +102,10 @@ pub fn slots(c: circuit::Circuit) -> IonoState
 {
     let words = c.points;
     let points = params(&words);
-    let made = layers::from_layers(points, c.km);
+    let made = slots::from_layers(points, c.km);
     let s = made.state;
     let s = shaped(s, c.shape);
-    let set = layers::ionset(s);
+    let set = slots::ionset(s);
     set.state
 }
 

@@ -6,8 +6,8 @@ use Prim.Native.Nat.{ℕ, _/_, _%_}
 use lib.Dec.{leb, ltb, eqb}
 use lib.ListN.{length}
 use Rattle.record_chain.specs.Chain.{member}
-use Rattle.layers.specs.FromLayers as layers
-use Rattle.layers.specs.Ionset as ionset
+use Rattle.slots.specs.FromLayers as layers
+use Rattle.slots.specs.Ionset as ionset
 use Rattle.layers.specs.declared.IonoState.{IonoState}
 use Rattle.layers.specs.declared.LayerParams.{LayerParams}
 use Rattle.layers.specs.declared.StateAnswer.{StateAnswer}

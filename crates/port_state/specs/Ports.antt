@@ -9,8 +9,8 @@ use Rattle.refusal.specs.Number.{numberOf}
 use Rattle.refusal.specs.declared.Refusal.{Refusal}
 use Rattle.refusal.specs.declared.Outcome.{Outcome}
 use Rattle.layers.specs.Owners.{ownerNumber, ownerSlot, ownerOf}
-use Rattle.layers.specs.FromLayers.{fromLayersOf}
-use Rattle.layers.specs.Ionset.{ionsetOf}
+use Rattle.slots.specs.FromLayers.{fromLayersOf}
+use Rattle.slots.specs.Ionset.{ionsetOf}
 use Rattle.layers.specs.declared.IonoState.{IonoState}
 use Rattle.layers.specs.declared.LayerParams.{LayerParams}
 use Rattle.layers.specs.declared.Owner.{Owner}

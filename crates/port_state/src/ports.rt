@@ -35,7 +35,7 @@ pub extern "C" fn port_ionset(state: &mut [u32]) -> u32
     ensures { λ r. ⌜ r ≡ portIonset (now (state .entry)) .number ⌝ ∗ ⌜ now (state .exit) ≡ portIonset (now (state .entry)) .words ⌝ }
 {
     if STATE_WORDS <= state.len() {
-        let a = layers::ionset(state_of(state));
+        let a = slots::ionset(state_of(state));
         return answer_into(a, state);
     }
     1
@@ -94,7 +94,7 @@ pub extern "C" fn port_from_layers(points: &[u32], state: &mut [u32]) -> u32
         if len % 9 == 0 {
             if len <= 45 {
                 let n = len / 9;
-                let a = layers::from_layers(points_of(points, n), n);
+                let a = slots::from_layers(points_of(points, n), n);
                 return answer_into(a, state);
             }
         }

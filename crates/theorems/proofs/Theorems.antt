@@ -69,7 +69,7 @@ use Rattle.call_lists.proofs.PaperWords.{paper-words, refusal-by-arguments, wit
 use Rattle.call_lists.proofs.SameLists.{lists-of-calls-same}
 use Rattle.call_lists.proofs.Nominal.{nominal-anywhere}
 use Rattle.theorems.specs.Theorems.{Theorems}
-use Rattle.layers.proofs.OwnersLeft.{layers-unowned, ionset-disowns}
+use Rattle.slots.proofs.OwnersLeft.{layers-unowned, ionset-disowns}
 use Rattle.profile.proofs.Owns.{lecden-owner, lecden-owned}
 use Rattle.height_integral.proofs.Above.{above-lowest}
 use Rattle.height_integral.proofs.First.{last-from-one}

@@ -49,7 +49,7 @@ use Rattle.call_lists.specs.SameLists.{SameListsOfCalls}
 use Rattle.call_lists.specs.Nominal.{NominalAnywhere}
 use Rattle.arc_series.specs.OwnSeries.{AtanOwnSeries}
 use Rattle.theorems.specs.Unnamed.{LecdenKeeps, LecdenSupplied, NeverBoth, ReadsOfWalk, MarkUnread, AnyList, MarkRules, SlotsMarked, ExactRules}
-use Rattle.layers.specs.OwnersLeft.{LayersUnowned, IonsetDisowns}
+use Rattle.slots.specs.OwnersLeft.{LayersUnowned, IonsetDisowns}
 use Rattle.profile.specs.LecdenOwns.{LecdenOwner, LecdenOwned}
 use Rattle.height_integral.specs.Lowest.{AboveLowest, LastFromOne}
 use Rattle.heights.specs.Segments.{SegmentsFound}

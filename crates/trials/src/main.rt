@@ -40,8 +40,8 @@ fn points() -> [LayerParams; 5] {
 
 // One such point, as `ionset` leaves it.
 fn slots() -> IonoState {
-    let made = layers::from_layers(points(), 1);
-    let set = layers::ionset(made.state);
+    let made = slots::from_layers(points(), 1);
+    let set = slots::ionset(made.state);
     set.state
 }
 
@@ -184,13 +184,13 @@ fn prepared_twice() {
 
 // One to five points.
 fn counts() {
-    let made = layers::from_layers(points(), 0);
+    let made = slots::from_layers(points(), 0);
     let none = made.outcome;
     say(b"no point: ", refusal::outcome_number(none) as u64);
-    let made = layers::from_layers(points(), 6);
+    let made = slots::from_layers(points(), 6);
     let many = made.outcome;
     say(b"six points: ", refusal::outcome_number(many) as u64);
-    let set = layers::ionset(layers::zero_state());
+    let set = slots::ionset(layers::zero_state());
     let unset = set.outcome;
     say(
         b"slots of no point: ",
