@@ -20,7 +20,8 @@ use Rattle.parabolas.specs.Bendy.{bendyOf, penOf}
 use Rattle.heights.proofs.Finders.{FindAlike}
 use Rattle.readings.specs.Scan.{unsearched}
 use Rattle.reflectrix.specs.declared.Ionogram.{Ionogram}
-use Rattle.sounding.specs.Genion.{HTE, HPE, rowsOf, trueByProfile, segmentByProfile, virtualByParabola, virtualBy, made, rowsBy, fvertAt, rowsWith, genionWith}
+use Rattle.sounding_rows.specs.Rows.{HTE, HPE, rowsOf, trueByProfile, segmentByProfile, virtualByParabola, virtualBy, made, rowsBy, rowsWith}
+use Rattle.sounding.specs.Genion.{fvertAt, genionWith}
 use Rattle.sounding.proofs.Ways.{rows-agree}
 use Rattle.losses.specs.Alosfv.{eRows, lineAt, aboveBy, aboveOf, notBelowZeros, withAfac, alosfvOf}
 use Rattle.losses.specs.declared.Factors.{Factors}

@@ -13,7 +13,8 @@ use Rattle.layers.specs.declared.LayerParams.{LayerParams}
 use Rattle.layers.specs.declared.StateAnswer.{StateAnswer}
 use Rattle.profile.specs.Lecden.{lecdenAnswerBy, lecdenAnswer}
 use Rattle.port_state.specs.State.{stateWords, stateOf}
-use Rattle.port_state.specs.Ports.{answerBy, answerOf, ionsetBy, portIonset, lecdenBy, portLecden, pointsOf, fromPointsBy, fromLayersBy, portFromLayers, ownerAnswerBy, portOwner}
+use Rattle.port_state.specs.Ports.{pointsOf}
+use Rattle.port_layers.specs.Exports.{answerBy, answerOf, ionsetBy, portIonset, lecdenBy, portLecden, fromPointsBy, fromLayersBy, portFromLayers, ownerAnswerBy, portOwner}
 use Rattle.sheet_refusals.specs.Refusals.{Among}
 use Rattle.sheet_refusals.proofs.Chain.{OutcomeIn}
 use Rattle.export_refusals.specs.Exports.{OneOf, fromLayersNumbers, ionsetNumbers, lecdenNumbers, ownerNumbers}

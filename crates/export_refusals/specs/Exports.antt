@@ -7,7 +7,7 @@ use lib.IntN.{ℤ}
 use Rattle.record_chain.specs.Chain.{member}
 use Rattle.port_circuit.specs.Exports.{portRead, portWrite}
 use Rattle.port_wide.specs.Exports.{portRead128, portWrite128}
-use Rattle.port_state.specs.Ports.{portFromLayers, portIonset, portLecden, portOwner}
+use Rattle.port_layers.specs.Exports.{portFromLayers, portIonset, portLecden, portOwner}
 use Rattle.port_heights.specs.Exports.{gethpLeft, gethpScanLeft, readingLeft, bendyLeft, penLeft, xlinLeft}
 use Rattle.deviation_words.specs.F2disWords.{f2disLeft}
 use Rattle.port_muf.specs.Exports.{curmufLeft}

@@ -17,7 +17,8 @@ use Rattle.circuit_sheet.specs.declared.SlotRows.{SlotRows}
 use Rattle.circuit_plot.specs.declared.Profile.{Profile}
 use Rattle.circuit_plot.specs.declared.Plot.{Plot}
 use Rattle.aligned.specs.Ascii.{ascii}
-use Rattle.svg_text.proofs.Lengths.{counted, trace, mark, muf-line}
+use Rattle.svg_trace.proofs.Lengths.{counted, trace}
+use Rattle.svg_text.proofs.Lengths.{mark, muf-line}
 use Rattle.svg_frame.proofs.Lengths.{head}
 use Rattle.plot_text.specs.PlotText.{namedText, topText, rowsText, heightText, noMark, heightAt, profileText, panelText, noRows, noProfile, panelAt, answeredText}
 

@@ -18,7 +18,8 @@ use Rattle.circuit_plot.specs.declared.Profile.{Profile}
 use Rattle.circuit_plot.specs.declared.Plot.{Plot}
 use Rattle.circuit_plot.specs.CircuitPlot.{plotOf}
 use Rattle.aligned.specs.Ascii.{ascii}
-use Rattle.svg_text.specs.Pieces.{traceText, markText, mufText}
+use Rattle.svg_trace.specs.Trace.{traceText}
+use Rattle.svg_text.specs.Pieces.{markText, mufText}
 use Rattle.svg_frame.specs.Frame.{headText}
 
 -- the controlling slot is named

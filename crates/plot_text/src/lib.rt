@@ -43,9 +43,9 @@ fn put_rows(out: &mut [u8], at: usize, ion: Ionogram) -> usize
     let hprim = ion.hprim;
     let htrue = ion.htrue;
     let a = lines::put_word(out, at, b"<path class='virtual' d='");
-    let b = svg_text::put_trace(out, a, fvert, hprim);
+    let b = svg_trace::put_trace(out, a, fvert, hprim);
     let c = lines::put_word(out, b, b"'/>\n<path class='true' d='");
-    let d = svg_text::put_trace(out, c, fvert, htrue);
+    let d = svg_trace::put_trace(out, c, fvert, htrue);
     lines::put_word(out, d, b"'/>\n")
 }
 

@@ -64,7 +64,7 @@ use Rattle.marking.proofs.Laws.{marking-laws, marking-cases}
 use Rattle.starred.proofs.Starred.{starred-trials}
 use Rattle.call_lists.proofs.Lists.{lists-of-calls, any-list, read-all}
 use Rattle.call_lists.proofs.OnlyState.{only-state}
-use Rattle.port_state.proofs.ReadBack.{state-read-back, words-suffice}
+use Rattle.state_laws.proofs.ReadBack.{state-read-back, words-suffice}
 use Rattle.call_lists.proofs.PaperWords.{paper-words, refusal-by-arguments, with-contracts}
 use Rattle.call_lists.proofs.SameLists.{lists-of-calls-same}
 use Rattle.call_lists.proofs.Nominal.{nominal-anywhere}
@@ -81,7 +81,7 @@ use Rattle.deciles.proofs.NanRow.{nan-middle}
 use Rattle.cell_test.proofs.Test.{test-suffices}
 use Rattle.aligned.proofs.Widths.{right-width}
 use Rattle.decimal_text.proofs.Widths.{number-width}
-use Rattle.svg_text.proofs.Frame.{in-frame}
+use Rattle.svg_points.proofs.Frame.{in-frame}
 use Rattle.compose_laws.proofs.Written.{text-written}
 use Rattle.compose_laws.proofs.ReadBack.{text-read-back}
 use Rattle.statement_checks.proofs.Checks.{statement-checks}

@@ -42,7 +42,7 @@ use Rattle.nominal.specs.Inputs.{ReadsOnly, EsRewritten}
 use Rattle.starred.specs.Starred.{Holds, starred}
 use Rattle.walk.specs.Walk.{DistanceRule}
 use Rattle.heights.specs.SameReads.{WalkSameAsScan}
-use Rattle.port_state.specs.ReadBack.{StateReadBack, WordsSufficeRead}
+use Rattle.state_laws.specs.ReadBack.{StateReadBack, WordsSufficeRead}
 use Rattle.call_lists.specs.Lists.{ListsOfCalls, OnlyState, ReadAll}
 use Rattle.call_lists.specs.PaperWords.{PaperWords, RefusalByArguments, WithContracts}
 use Rattle.call_lists.specs.SameLists.{SameListsOfCalls}
@@ -59,7 +59,7 @@ use Rattle.deciles.specs.NanRow.{NanMiddle}
 use Rattle.cell_test.specs.Laws.{TestSuffices}
 use Rattle.aligned.specs.Aligned.{RightWidth}
 use Rattle.decimal_text.specs.Number.{NumberWidth}
-use Rattle.svg_text.specs.Points.{InFrame}
+use Rattle.svg_points.specs.Points.{InFrame}
 use Rattle.compose_laws.specs.Laws.{TextWritten}
 use Rattle.compose_laws.specs.Laws.{TextReadBack}
 use Rattle.statement_checks.specs.Checks.{StatementChecks}
