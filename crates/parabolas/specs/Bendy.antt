@@ -7,7 +7,7 @@ use lib.Ieee.{Float}
 use Rattle.scalar.specs.F32.{_+f_, _-f_, _*f_, _/f_, at}
 use Rattle.scalar.specs.Literals.{f0·5, f0·999, f1, f1·001}
 use Rattle.scalar.specs.Scalar.{minOf, maxOf}
-use Rattle.exponential.specs.Ln.{lnOf}
+use Rattle.logarithm.specs.Ln.{lnOf}
 use Rattle.refusal.specs.declared.Refusal.{Refusal}
 use Rattle.refusal.specs.Number.{numberOf}
 use Rattle.layers.specs.declared.IonoState.{IonoState}

@@ -17,7 +17,7 @@ pub fn bendy_at(s: IonoState, i: usize, k: usize, f: f32) -> f32
 {
     let n = 3 * k + i;
     let x = scalar::min(f / s.fi[n], 0.999);
-    let l = exponential::ln((1.0 + x) / (1.0 - x));
+    let l = logarithm::ln((1.0 + x) / (1.0 - x));
     0.5 * x * s.yi[n] * l
 }
 
@@ -27,7 +27,7 @@ pub fn pen_at(s: IonoState, i: usize, k: usize, f: f32) -> f32
 {
     let n = 3 * k + i;
     let x = scalar::max(f / s.fi[n], 1.001);
-    let l = exponential::ln((1.0 + x) / (x - 1.0));
+    let l = logarithm::ln((1.0 + x) / (x - 1.0));
     s.yi[n] * l * x
 }
 

@@ -16,7 +16,7 @@ use Rattle.series.proofs.Pins.{sine-pins, tangent-pins}
 use Rattle.exact_exponential.proofs.ExpTheorem.{exp-near}
 use Rattle.exact_exponential.proofs.LnTheorem.{ln-near}
 use Rattle.exponential_bounds.proofs.Atanh.{ln-own-series}
-use Rattle.exponential.proofs.Special.{exponential-values}
+use Rattle.logarithm.proofs.Special.{exponential-values}
 use Rattle.exact_waves.proofs.Waves.{sin-near, cos-near}
 use Rattle.exact_waves.proofs.Literal.{sin-literal, cos-literal}
 use Rattle.waves.proofs.Special.{wave-values}

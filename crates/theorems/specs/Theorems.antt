@@ -5,7 +5,7 @@ use Rattle.scalar.specs.Laws.{LiteralsNearest, TruncIsCast, MinMax, SqrtCorrect
 use Rattle.same.specs.Same.{SameIsEqual}
 use Rattle.series.specs.Rises.{CosineFalls, SineRises, SinePins, TangentPins}
 use Rattle.exact.specs.Enclosure.{OneWave}
-use Rattle.exponential.specs.Special.{ExponentialValues}
+use Rattle.logarithm.specs.Special.{ExponentialValues}
 use Rattle.exponential_bounds.specs.OwnSeries.{LnOwnSeries}
 use Rattle.exact_exponential.specs.Exp.{ExpNear}
 use Rattle.exact_exponential.specs.Enclosure.{ExpEnclosed, ExpOneNumber, ExpRises, ExpPins}
