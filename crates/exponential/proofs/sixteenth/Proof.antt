@@ -1,4 +1,4 @@
--- `exponential::exponent::sixteenth` meets its contract: each arm's number is the list's at that place, by computation; 11 is the only place left for the last arm.
+-- Each arm's number is the list's at that place, by computation; 11 is the only place left for the last arm.
 use mathlib.Core.Path.{_≡_, sym, ap}
 use Prim.Native.Nat.{ℕ, _<_, _≤_}
 use native.Mathlib.Omega.{arith}
