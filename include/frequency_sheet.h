@@ -61,12 +61,12 @@ extern "C" {
 /* The bytes to lend for the text of a sheet. */
 #define FS_TEXT_BYTES 8192
 
-/* Circuit files. A file is written into as many bytes as it takes; port_write: out 1: how
- * many those are. */
+/* Circuit files. A file is written into as many bytes as it takes; port_write and
+ * port_write128: out 1: how many those are. */
 uint32_t port_read(const uint8_t *file, size_t file_len, uint32_t *out, size_t out_len);
 uint32_t port_write(const uint32_t *words, size_t words_len, uint8_t *file, size_t file_len, uint32_t *out, size_t out_len);
 uint32_t port_read128(const uint8_t *file, size_t file_len, uint32_t *out, size_t out_len);
-uint32_t port_write128(const uint32_t *words, size_t words_len, uint8_t *file, size_t file_len);
+uint32_t port_write128(const uint32_t *words, size_t words_len, uint8_t *file, size_t file_len, uint32_t *out, size_t out_len);
 
 /* The state of an hour. points: 9 words each, fi, yi, hi. */
 uint32_t port_from_layers(const uint32_t *points, size_t points_len, uint32_t *state, size_t state_len);

@@ -85,7 +85,7 @@ const EXPORTS: [Export; 41] = [
     Export(
         "port_wide",
         "port_write128",
-        &[Words, LentBytes],
+        &[Words, LentBytes, Lent],
         "u32",
         NONE,
     ),

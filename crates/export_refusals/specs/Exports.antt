@@ -140,7 +140,7 @@ pub record ExportRefusals : Type 0 where
   pub read : (file out : List ℕ) → OneOf readNumbers (portRead file out .number)
   pub write : (words file out : List ℕ) → OneOf writeNumbers (portWrite words file out .number)
   pub read128 : (file out : List ℕ) → OneOf read128Numbers (portRead128 file out .number)
-  pub write128 : (words file : List ℕ) → OneOf write128Numbers (portWrite128 words file .number)
+  pub write128 : (words file out : List ℕ) → OneOf write128Numbers (portWrite128 words file out .number)
   -- ---- The state of an hour
   pub from-layers : (points state : List ℕ) → OneOf fromLayersNumbers (portFromLayers points state .number)
   pub ionset : (state : List ℕ) → OneOf ionsetNumbers (portIonset state .number)

@@ -52,9 +52,12 @@ abbrev pub regularNumber : RegularAnswer → ℕ
 regularNumber (RegularAnswer.Found m) = 0
 regularNumber (RegularAnswer.Refused r) = numberOf r
 
+abbrev pub noLines : RegularLines
+noLines = record { e = zeroLine; f1 = zeroLine; f2 = zeroLine }
+
 abbrev pub regularValue : RegularAnswer → RegularLines
 regularValue (RegularAnswer.Found m) = m
-regularValue (RegularAnswer.Refused r) = record { e = zeroLine; f1 = zeroLine; f2 = zeroLine }
+regularValue (RegularAnswer.Refused r) = noLines
 
 -- then Es
 

@@ -5,7 +5,8 @@ ghost use Prim.Native.Nat.{_+_, _*_, _<_, _≤_};
 ghost use lib.ListN.{length};
 ghost use Rattle.heights.specs.Gethp.{gethpOf};
 ghost use Rattle.muf.specs.Hour.{modeOf, hourOf, zeroHour, refusedOf};
-ghost use Rattle.muf.specs.Curmuf.{regularWith, regularNumber, regularValue, refusedRowsKept, esBy, mufAtSlotOf, mufFromSearchOf, flatOf, esAfterOf, curmufOf};
+ghost use Rattle.muf.specs.Curmuf.{regularWith, refusedRowsKept, esBy, mufAtSlotOf, mufFromSearchOf, flatOf, esAfterOf, curmufOf};
+ghost use Rattle.muf.specs.Says.{RegularSays, SlotSays};
 use layer_mufs::LineAnswer;
 use layer_mufs::PathNumbers;
 use layers::IonoState;
@@ -140,29 +141,6 @@ pub fn refused(s: IonoState, r: Refusal) -> MufAnswer
     }
 }
 
-// 0 for the three lines, else the refusal's number.
-pub fn regular_number(a: RegularAnswer) -> u32
-    ensures { λ n. ⌜ n ≡ regularNumber a ⌝ }
-{
-    match a {
-        RegularAnswer::Found(_) => 0,
-        RegularAnswer::Refused(r) => refusal::number(r),
-    }
-}
-
-// The lines, of +0 beside a refusal.
-pub fn regular_value(a: RegularAnswer) -> RegularLines
-    ensures { λ m. ⌜ m ≡ regularValue a ⌝ }
-{
-    match a {
-        RegularAnswer::Found(m) => m,
-        RegularAnswer::Refused(_) => {
-            let z = layer_mufs::zero_line();
-            RegularLines { e: z, f1: z, f2: z }
-        }
-    }
-}
-
 // E, then F2, then F1.
 fn regular_lines(
     t: IonoState,
@@ -175,6 +153,7 @@ fn regular_lines(
 ) -> RegularAnswer
     requires { ⌜ ks < 3 ⌝ }
     ensures { λ r. ⌜ r ≡ regularWith gethpOf t l ks (now (f2d .entry)) clat clck c ⌝ }
+    ensures { λ r. ⌜ RegularSays r t l ks (now (f2d .entry)) clat clck c ⌝ }
 {
     let x = layer_mufs::tangent_frequencies(l, c.gcdkm);
     let e_answer = layer_mufs::e_line(t, x.fxe, c.gcdkm, c.amind);
@@ -263,6 +242,7 @@ pub fn muf_at_slot(
 ) -> AnswerAndRow
     requires { ⌜ ks < 3 ⌝ }
     ensures { λ r. ⌜ r ≡ mufAtSlotOf s ks step (now (f2d .entry)) clat clck c ⌝ }
+    ensures { λ r. ⌜ SlotSays r s ks step (now (f2d .entry)) clat clck c ⌝ }
 {
     let t = profile::lecden_slot(s, ks);
     let l = profile::slot_at(t, ks);

@@ -43,6 +43,7 @@ use Rattle.profile.proofs.NeverBoth.{never-both}
 use Rattle.walk.proofs.Walks.{distance-rule}
 use Rattle.heights.proofs.Whole.{forty-reads, mark-unread, exact-rule}
 use Rattle.heights.proofs.SameReads.{walk-same-as-scan}
+use Rattle.walk_apart.proofs.Apart.{walk-apart}
 use Rattle.angles.proofs.Angles.{sin-answers, cos-answers, never-refused-13}
 use Rattle.angles.proofs.Reflectrix.{fobby-small, fobby-answers}
 use Rattle.any_waves.proofs.AnyWaves.{any-waves, mark-unmet}
@@ -150,6 +151,7 @@ theorems =
       never-both = never-both;
       forty-reads = forty-reads;
       walk-same-as-scan = walk-same-as-scan;
+      walk-apart = walk-apart;
       distance-rule = distance-rule;
       mark-unread = mark-unread;
       sin-answers = sin-answers;

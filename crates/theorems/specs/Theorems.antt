@@ -42,6 +42,7 @@ use Rattle.nominal.specs.Inputs.{ReadsOnly, EsRewritten}
 use Rattle.starred.specs.Starred.{Holds, starred}
 use Rattle.walk.specs.Walk.{DistanceRule}
 use Rattle.heights.specs.SameReads.{WalkSameAsScan}
+use Rattle.walk_apart.specs.Apart.{WalkApart}
 use Rattle.state_laws.specs.ReadBack.{StateReadBack, WordsSufficeRead}
 use Rattle.call_lists.specs.Lists.{ListsOfCalls, OnlyState, ReadAll}
 use Rattle.call_lists.specs.PaperWords.{PaperWords, RefusalByArguments, WithContracts}
@@ -173,6 +174,8 @@ pub record Theorems : Type 0 where
   pub forty-reads : ReadsOfWalk
   -- by bits, each reading of the walk is the scan's, and the heights found by walks and by scans are the contract's
   pub walk-same-as-scan : WalkSameAsScan
+  -- told to walk, `gethp_read` promises on profiles that do not rise what neither scans find nor the cursor's rule counts
+  pub walk-apart : WalkApart
   -- the distance that the cursor's moves sum: the lesser and the distance are the greater, both ways
   pub distance-rule : DistanceRule
   -- the stored rising mark does not matter

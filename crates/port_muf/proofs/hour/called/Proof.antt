@@ -46,7 +46,7 @@ returns c =
     let f = c .before .before .before .before .before .before .before .before in
     let q = f .before .before .before .before .before in
     let a = q .before .before .before .before .before .args in
-    c .muf-at-slot .ensures
+    c .muf-at-slot .ensures .0
     ∙ taken-up (a .s) (a .es .now) (a .deciles .now) (a .clat .now) (a .clck .now) (a .c) _ _ _ _ _ (f .before .before .before .controlling .ensures)
     (sym (q .in-domain .ensures) ∙ f .before .before .before .before .if1 .taken)
     (sym (f .before .before .lists-reach .ensures) ∙ f .before .if2 .taken)
