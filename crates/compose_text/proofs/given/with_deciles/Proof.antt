@@ -11,20 +11,8 @@ use borrow.Author.Needs.{needs}
 use Rattle.compose_text.proofs.given.with_deciles.Statement.{statement}
 use Rattle.compose_text.proofs.given.with_deciles.Tie as tie
 
-slice-aggregate-put-all : tie.Need-slice-aggregate-put-all
-slice-aggregate-put-all c = search needs
-
-mul-put-all : tie.Need-mul-put-all
-mul-put-all c = search needs
-
-array-share-prefix-values : tie.Need-array-share-prefix-values
-array-share-prefix-values c = search needs
-
 slice-aggregate-put-all-2 : tie.Need-slice-aggregate-put-all-2
 slice-aggregate-put-all-2 c = let h : 12 ≤ length (c .before .before .before .before .args .t3) = omega arith in sym (length-take-le 12 (c .before .before .before .before .args .t3) h)
-
-put-all-requires : tie.Need-put-all-requires
-put-all-requires c κs = search needs
 
 returns : tie.Need-returns
 unfolding deciled
@@ -33,10 +21,5 @@ returns c = ap (withTwelve (c .before .before .before .before .before .before .a
 pub with-deciles-spec : {M : Type 1} → statement M
 with-deciles-spec =
     tie.close
-    (tie.spec
-    slice-aggregate-put-all
-    mul-put-all
-    array-share-prefix-values
-    slice-aggregate-put-all-2
-    put-all-requires
-    returns)
+    (tie.spec (λ c. search needs) (λ c. search needs) (λ c. search needs) slice-aggregate-put-all-2
+    (λ c κs. search needs) returns)
