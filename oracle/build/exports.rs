@@ -20,6 +20,8 @@ enum Kind {
     Number,
     Word,
     Words,
+    /// f32 there, words here.
+    Floats,
     Lent,
     Bytes,
     LentBytes,
@@ -141,11 +143,17 @@ const EXPORTS: [Export; 41] = [
         "u32",
         NONE,
     ),
-    Export("port_muf", "port_f2dis", &[Words, Words, Lent], "u32", NONE),
+    Export(
+        "port_muf",
+        "port_f2dis",
+        &[Floats, Words, Lent],
+        "u32",
+        NONE,
+    ),
     Export(
         "port_muf",
         "port_curmuf",
-        &[Lent, Lent, Words, Words, Words, Words, Lent],
+        &[Lent, Lent, Floats, Words, Words, Words, Lent],
         "u32",
         NONE,
     ),
@@ -298,7 +306,7 @@ impl Kind {
         match self {
             Number => "f32",
             Word => "u32",
-            Words => "&[u32]",
+            Words | Floats => "&[u32]",
             Lent | LentCells => "&mut [u32]",
             Bytes => "&[u8]",
             LentBytes => "&mut [u8]",
@@ -312,6 +320,7 @@ impl Kind {
             Number => format!("a{i}: f32"),
             Word => format!("a{i}: u32"),
             Words => format!("a{i}: *const u32, n{i}: usize"),
+            Floats => format!("a{i}: *const f32, n{i}: usize"),
             Lent => format!("a{i}: *mut u32, n{i}: usize"),
             Bytes => format!("a{i}: *const u8, n{i}: usize"),
             LentBytes => format!("a{i}: *mut u8, n{i}: usize"),
@@ -324,6 +333,7 @@ impl Kind {
         match self {
             Number | Word => format!("a{i}"),
             Words | Bytes => format!("a{i}.as_ptr(), a{i}.len()"),
+            Floats => format!("a{i}.as_ptr().cast(), a{i}.len()"),
             Lent | LentBytes | LentSigned => format!("a{i}.as_mut_ptr(), a{i}.len()"),
             LentCells => format!("a{i}.as_mut_ptr().cast(), a{i}.len()"),
         }
