@@ -14,26 +14,26 @@ use Rattle.cell_test.specs.Cell.{sqcosOf, tame, squareOf, lowOf, highOf, Told}
 pub record Turn (fv radii : List Float) (rcosd : Float) (out : List ℕ) (doubts i : ℕ) : Type 0 where
   pub told : (j : ℕ) → j < i → Told (at fv j) (sqcosOf (rcosd /f at radii j)) (getD out j 0)
   pub few : doubts ≤ i
-  pub sure : doubts ≡ 0 → (j : ℕ) → j < i → getD out j 0 < 4194304
+  pub sure : doubts ≡ 0 → (j : ℕ) → j < i → getD out j 0 < 2147483648
 
 pub none : (fv radii : List Float) (rcosd : Float) (out : List ℕ) → Turn fv radii rcosd out 0 0
 none fv radii rcosd out = record { told = λ j h. absurd (not-suc-le-zero h); few = omega arith; sure = λ e j h. absurd (not-suc-le-zero h) }
 
 pub next : (fv radii : List Float) (rcosd : Float) (out : List ℕ) (doubts i r : ℕ) → i < length out → Turn fv radii rcosd out doubts i → Told (at fv i) (sqcosOf (rcosd /f at radii i)) r
-    → Turn fv radii rcosd (set out i r) (doubts + r / 4194304) (suc i)
+    → Turn fv radii rcosd (set out i r) (doubts + r / 2147483648) (suc i)
 next fv radii rcosd out doubts i r h t k = record {
   told = λ j l. go j (eq-or-lt-of-le (le-of-suc-le-suc l));
   few = one-more doubts i r (t .few) (k .most);
   sure = λ e j l. certain (none-before doubts r e) (this-one doubts r e) j (eq-or-lt-of-le (le-of-suc-le-suc l));
 }
   where
-    one-more : (d i r : ℕ) → d ≤ i → r ≤ 4194304 → d + r / 4194304 ≤ suc i
+    one-more : (d i r : ℕ) → d ≤ i → r < 4294967296 → d + r / 2147483648 ≤ suc i
     one-more d i r a b = omega arith
 
-    none-before : (d r : ℕ) → d + r / 4194304 ≡ 0 → d ≡ 0
+    none-before : (d r : ℕ) → d + r / 2147483648 ≡ 0 → d ≡ 0
     none-before d r e = omega arith
 
-    this-one : (d r : ℕ) → d + r / 4194304 ≡ 0 → r < 4194304
+    this-one : (d r : ℕ) → d + r / 2147483648 ≡ 0 → r < 2147483648
     this-one d r e = omega arith
 
     stays : (j : ℕ) → j < i → getD (set out i r) j 0 ≡ getD out j 0
@@ -46,9 +46,9 @@ next fv radii rcosd out doubts i r h t k = record {
     go j (inl e) = subst (λ (z : ℕ). Told (at fv j) (sqcosOf (rcosd /f at radii j)) z) (sym (set-here j e)) (subst (λ (z : ℕ). Told (at fv z) (sqcosOf (rcosd /f at radii z)) r) (sym e) k)
     go j (inr l) = subst (λ (z : ℕ). Told (at fv j) (sqcosOf (rcosd /f at radii j)) z) (sym (stays j l)) (t .told j l)
 
-    certain : doubts ≡ 0 → r < 4194304 → (j : ℕ) → (j ≡ i) ⊎ (j < i) → getD (set out i r) j 0 < 4194304
-    certain e f j (inl x) = subst (λ (z : ℕ). z < 4194304) (sym (set-here j x)) f
-    certain e f j (inr l) = subst (λ (z : ℕ). z < 4194304) (sym (stays j l)) (t .sure e j l)
+    certain : doubts ≡ 0 → r < 2147483648 → (j : ℕ) → (j ≡ i) ⊎ (j < i) → getD (set out i r) j 0 < 2147483648
+    certain e f j (inl x) = subst (λ (z : ℕ). z < 2147483648) (sym (set-here j x)) f
+    certain e f j (inr l) = subst (λ (z : ℕ). z < 2147483648) (sym (stays j l)) (t .sure e j l)
 
 -- ---- a bound of the list of bounds
 low-nan : lowOf nan ≡ nan

@@ -11,7 +11,7 @@ use Rattle.cell_test.specs.Cell.{khzOf, sqcosOf, Told}
 -- What is answered for the frequencies fv and the radii at their heights: each cell or that it is in doubt, and how many are.
 pub record RowTold (fv radii : List Float) (rcosd : Float) (out : List ℕ) (doubts : ℕ) : Type 0 where
   pub told : (i : ℕ) → i < 32 → Told (at fv i) (sqcosOf (rcosd /f at radii i)) (getD out i 0)
-  pub sure : doubts ≡ 0 → (i : ℕ) → i < 32 → getD out i 0 < 4194304
+  pub sure : doubts ≡ 0 → (i : ℕ) → i < 32 → getD out i 0 < 2147483648
 
 -- n cells of an angle, from the cell `from` on
 unfoldable pub rowOf : List Float → List Float → Float → ℕ → List ℤ → ℕ → List ℤ

@@ -44,7 +44,7 @@ pub fn highs(fv: [f32; 32]) -> [f32; 32]
     r
 }
 
-// The cells for an angle, 2^22 where one is in doubt, and how many are.
+// The cells for an angle, 2^31 or more where one is in doubt, and how many are.
 fn row(
     fv: &[f32; 32],
     radii: &[f32; 32],
@@ -61,7 +61,7 @@ fn row(
         let sqcos = cell_test::squared_cosine(rcosd / radii[i]);
         let r = cell_test::cell(fv[i], sqcos, low[i], high[i]);
         out[i] = r;
-        doubts += r / 0x40_0000;
+        doubts += r / 0x8000_0000;
     }
     doubts
 }
@@ -71,7 +71,7 @@ fn mended(told: u32, fvv: f32, sqcos: f32) -> i32
     requires { ⌜ Told fvv sqcos told ⌝ }
     ensures { λ r. ⌜ r ≡ khzOf fvv sqcos ⌝ }
 {
-    if told < 0x40_0000 {
+    if told < 0x8000_0000 {
         return told as i32;
     }
     cell_test::khz(fvv, sqcos)
@@ -79,7 +79,7 @@ fn mended(told: u32, fvv: f32, sqcos: f32) -> i32
 
 // The thirty cells, none of them in doubt.
 fn store(out: &[u32; 32], from: usize, cells: &mut [i32])
-    requires { ⌜ (from + 30 ≤ length (now cells)) × ((i : ℕ) → i < 32 → getD (now out) i 0 < 4194304) ⌝ }
+    requires { ⌜ (from + 30 ≤ length (now cells)) × ((i : ℕ) → i < 32 → getD (now out) i 0 < 2147483648) ⌝ }
     ensures { λ _. ⌜ now (cells .exit) ≡ storedOf (now (out .entry)) from (now (cells .entry)) 30 ⌝ }
 {
     for i in 0..30 {
