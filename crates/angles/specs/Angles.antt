@@ -13,7 +13,7 @@ use Rattle.waves.specs.declared.Answer.{Answer}
 use Rattle.constants.specs.Constants.{D2R}
 use Rattle.hops.specs.Geometry.{hopsOf, psiOf, delOf}
 use Rattle.hops.specs.declared.Hops.{Hops}
-use Rattle.reflectrix.specs.Angles.{ANG}
+use Rattle.scan_angles.specs.Angles.{ANG}
 
 -- neither below -4 nor above 4; NaN is neither
 abbrev pub Small : Float → Type 0

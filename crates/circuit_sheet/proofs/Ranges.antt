@@ -32,10 +32,10 @@ use Rattle.slots.proofs.Counts.{three-at-most}
 use Rattle.slots.proofs.OwnersLeft.{disowned-only}
 use Rattle.layer_mufs.specs.Controlling.{compareE, controllingOf}
 use Rattle.layer_mufs.proofs.Small.{controlling-small}
-use Rattle.reflectrix.specs.Angles.{ANG, NANGX, stepOf, raisedBy, raisedFrom, countBy, countOf, scanBy, sangOf}
+use Rattle.scan_angles.specs.Angles.{ANG, NANGX, stepOf, raisedBy, raisedFrom, countBy, countOf, scanBy, sangOf}
 use Rattle.reflectrix.specs.Fobby.{roomFor}
-use Rattle.reflectrix.specs.declared.Scan.{Scan}
-use Rattle.reflectrix.proofs.Counts.{step-range, nangx-range}
+use Rattle.scan_angles.specs.declared.Scan.{Scan}
+use Rattle.scan_angles.proofs.Counts.{step-range, nangx-range}
 use Rattle.slot_sheet.specs.Sheet.{slotSheetWith, slotSheetOf}
 use Rattle.muf.specs.Curmuf.{listsReach}
 use Rattle.circuit_sheet.specs.CircuitSheet.{Circuit, paramsOf, columnOf, shapedOf, slotsOf}

@@ -23,8 +23,8 @@ use Rattle.muf.specs.Hour.{zeroHour}
 use Rattle.muf.specs.Curmuf.{curmufOf}
 use Rattle.muf.specs.declared.MufHour.{MufHour}
 use Rattle.muf.specs.declared.MufAnswer.{MufAnswer}
-use Rattle.reflectrix.specs.Angles.{sangOf}
-use Rattle.reflectrix.specs.declared.Scan.{Scan}
+use Rattle.scan_angles.specs.Angles.{sangOf}
+use Rattle.scan_angles.specs.declared.Scan.{Scan}
 use Rattle.reflectrix.specs.Rows.{noRows}
 use Rattle.shapes.specs.Marks.{unmarked}
 use Rattle.slot_sheet.specs.Sheet.{slotSheetOf}

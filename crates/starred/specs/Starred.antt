@@ -13,7 +13,7 @@ use Rattle.layers.specs.declared.LayerParams.{LayerParams}
 use Rattle.slots.specs.FromLayers.{fromLayersOf}
 use Rattle.slots.specs.Ionset.{ionsetOf}
 use Rattle.deciles.specs.F2dis.{iccOf, f2disOf, deviationNumber}
-use Rattle.reflectrix.specs.Angles.{sangOf, scanNumber, scanValue}
+use Rattle.scan_angles.specs.Angles.{sangOf, scanNumber, scanValue}
 
 pub data Trial : Type 0 where
   -- `sang` at gcdkm and amind

@@ -6,9 +6,9 @@ use native.Mathlib.Omega.{arith}
 use lib.Ieee.{Float}
 use Rattle.scalar.specs.F32.{_-f_, _≥f_, at}
 use Rattle.scalar.specs.Literals.{f0, f8·5}
-use Rattle.reflectrix.specs.Angles.{ANG, raisedBy, raisedFrom}
-use Rattle.reflectrix.proofs.angles.raised.Statement.{statement}
-use Rattle.reflectrix.proofs.angles.raised.Tie as tie
+use Rattle.scan_angles.specs.Angles.{ANG, raisedBy, raisedFrom}
+use Rattle.scan_angles.proofs.raised.Statement.{statement}
+use Rattle.scan_angles.proofs.raised.Tie as tie
 
 next : (amind : Float) (i : ℕ) → i < 40 → raisedFrom amind (40 - i) i ≡ raisedBy (at ANG i -f f8·5 -f amind ≥f f0) (i + 1) (raisedFrom amind (40 - (i + 1)) (i + 1))
 unfolding raisedFrom

@@ -1,6 +1,6 @@
 // `selmod`: the slot by which ray paths are worked out.
 ghost use mathlib.Core.Path.{_≡_};
-ghost use Rattle.reflectrix.specs.Selmod.{selmodOf, slotIf};
+ghost use Rattle.selmod.specs.Selmod.{selmodOf, slotIf};
 use layers::IonoState;
 
 fn slot_if(test: bool, k: usize) -> usize

@@ -1,9 +1,9 @@
 -- The table is the definition's list.
 use mathlib.Core.Path.{refl}
-use Rattle.reflectrix.specs.Angles.{ANG}
+use Rattle.scan_angles.specs.Angles.{ANG}
 use borrow.Author.Needs.{needs}
-use Rattle.reflectrix.proofs.angles.angle.Statement.{statement}
-use Rattle.reflectrix.proofs.angles.angle.Tie as tie
+use Rattle.scan_angles.proofs.angle.Statement.{statement}
+use Rattle.scan_angles.proofs.angle.Tie as tie
 
 returns : tie.Need-returns
 unfolding ANG

@@ -1,8 +1,8 @@
 -- Each path is the clause that its tests choose; each call is what its contract says.
-use Rattle.reflectrix.specs.Angles.{countOf}
+use Rattle.scan_angles.specs.Angles.{countOf}
 use borrow.Author.Needs.{needs}
-use Rattle.reflectrix.proofs.angles.count.Statement.{statement}
-use Rattle.reflectrix.proofs.angles.count.Tie as tie
+use Rattle.scan_angles.proofs.count.Statement.{statement}
+use Rattle.scan_angles.proofs.count.Tie as tie
 
 returns : tie.Need-returns
 unfolding countOf

@@ -1,12 +1,12 @@
 -- The step is at most 8, so that the table has an entry for it and the entry is a count of the scan.
-use Rattle.reflectrix.specs.Angles.{sangOf}
+use Rattle.scan_angles.specs.Angles.{sangOf}
 use Prim.Native.Nat.{_-_, _≤_}
 use native.Mathlib.Omega.{arith}
 use borrow.Author.Needs.{needs}
 use borrow.Author.Tests.{ne-eqb}
-use Rattle.reflectrix.proofs.Counts.{step-range, nangx-range}
-use Rattle.reflectrix.proofs.angles.sang.Statement.{statement}
-use Rattle.reflectrix.proofs.angles.sang.Tie as tie
+use Rattle.scan_angles.proofs.Counts.{step-range, nangx-range}
+use Rattle.scan_angles.proofs.sang.Statement.{statement}
+use Rattle.scan_angles.proofs.sang.Tie as tie
 
 returns : tie.Need-returns
 unfolding sangOf

@@ -12,7 +12,7 @@ use Rattle.scalar.specs.Literals.{f0, f0·5, f1, f2, f3, f4, f5, f6, f8, f8·5,
 use Rattle.scalar.specs.Scalar.{truncOf}
 use Rattle.refusal.specs.declared.Refusal.{Refusal}
 use Rattle.refusal.specs.Number.{numberOf}
-use Rattle.reflectrix.specs.declared.Scan.{Scan}
+use Rattle.scan_angles.specs.declared.Scan.{Scan}
 
 -- the elevation angles, degrees
 unfoldable pub ANG : List Float

@@ -2,10 +2,10 @@
 use native.Mathlib.Omega.{arith}
 use mir.Facts.{toZ-ofZ}
 use borrow.Author.Needs.{needs, sfits-of}
-use Rattle.reflectrix.specs.Angles.{stepOf}
+use Rattle.scan_angles.specs.Angles.{stepOf}
 use Rattle.scalar.proofs.Casts.{castable}
-use Rattle.reflectrix.proofs.angles.step.Statement.{statement}
-use Rattle.reflectrix.proofs.angles.step.Tie as tie
+use Rattle.scan_angles.proofs.step.Statement.{statement}
+use Rattle.scan_angles.proofs.step.Tie as tie
 
 returns : tie.Need-returns
 unfolding stepOf

@@ -1,7 +1,7 @@
 -- A refusal's own number.
 use borrow.Author.Needs.{needs}
-use Rattle.reflectrix.proofs.angles.scan_number.Statement.{statement}
-use Rattle.reflectrix.proofs.angles.scan_number.Tie as tie
+use Rattle.scan_angles.proofs.scan_number.Statement.{statement}
+use Rattle.scan_angles.proofs.scan_number.Tie as tie
 
 returns-2 : tie.Need-returns-2
 returns-2 c = rw (c .before .before .a .given .1) (c .number .ensures)

@@ -14,7 +14,7 @@ use Rattle.scalar.specs.Literals.{f1, f2000}
 use Rattle.scalar.specs.Scalar.{truncOf}
 use Rattle.cases.proofs.Entries.{entry}
 use Rattle.scalar.proofs.Casts.{between}
-use Rattle.reflectrix.specs.Angles.{NANGX, stepBy, stepOf}
+use Rattle.scan_angles.specs.Angles.{NANGX, stepBy, stepOf}
 
 step-by : (b c : Bool) (z : ℤ) → ltZ z (pos 1) ≡ b → ltZ (pos 8) z ≡ c → stepBy b c z ≤ 8
 step-by true c z p q = omega arith

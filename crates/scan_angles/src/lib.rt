@@ -3,9 +3,14 @@ ghost use mathlib.Core.Path.{_≡_};
 ghost use Prim.Native.Nat.{_+_, _-_, _<_, _≤_};
 ghost use lib.ListN.{getD};
 ghost use Rattle.scalar.specs.F32.{at};
-ghost use Rattle.reflectrix.specs.Angles.{ANG as Angles·ANG, NANGX as Angles·NANGX, stepOf, raisedFrom, countOf, sangOf, scanNumber, scanValue};
-use crate::Scan;
+ghost use Rattle.scan_angles.specs.Angles.{ANG as Angles·ANG, NANGX as Angles·NANGX, stepOf, raisedFrom, countOf, sangOf, scanNumber, scanValue};
 use refusal::Refusal;
+
+// How many of the scan's angles apply to a path.
+pub enum Scan {
+    Angles(usize),
+    Refused(Refusal),
+}
 
 const ANG: [f32; 40] = [
     0.0,

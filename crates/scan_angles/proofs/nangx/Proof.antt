@@ -1,9 +1,9 @@
 -- The table is the definition's list.
 use mathlib.Core.Path.{refl}
-use Rattle.reflectrix.specs.Angles.{NANGX}
+use Rattle.scan_angles.specs.Angles.{NANGX}
 use borrow.Author.Needs.{needs}
-use Rattle.reflectrix.proofs.angles.nangx.Statement.{statement}
-use Rattle.reflectrix.proofs.angles.nangx.Tie as tie
+use Rattle.scan_angles.proofs.nangx.Statement.{statement}
+use Rattle.scan_angles.proofs.nangx.Tie as tie
 
 returns : tie.Need-returns
 unfolding NANGX

@@ -1,9 +1,9 @@
 -- Each path is the clause that its tests choose; each call is what its contract says.
-use Rattle.reflectrix.specs.Selmod.{selmodOf}
+use Rattle.selmod.specs.Selmod.{selmodOf}
 use borrow.Author.Needs.{needs}
 use borrow.Author.Tests.{ne-eqb}
-use Rattle.reflectrix.proofs.control.selmod.Statement.{statement}
-use Rattle.reflectrix.proofs.control.selmod.Tie as tie
+use Rattle.selmod.proofs.selmod.Statement.{statement}
+use Rattle.selmod.proofs.selmod.Tie as tie
 
 returns : tie.Need-returns
 unfolding selmodOf
