@@ -1,7 +1,7 @@
 -- A refusal's own number.
 use borrow.Author.Needs.{needs}
-use Rattle.waves.proofs.answer_number.Statement.{statement}
-use Rattle.waves.proofs.answer_number.Tie as tie
+use Rattle.wave_answers.proofs.answer_number.Statement.{statement}
+use Rattle.wave_answers.proofs.answer_number.Tie as tie
 
 returns-2 : tie.Need-returns-2
 returns-2 c = rw (c .before .before .a2 .given .1) (c .number .ensures)

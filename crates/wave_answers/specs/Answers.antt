@@ -6,9 +6,9 @@ use Rattle.scalar.specs.F32.{_<f_, _>f_, negf}
 use Rattle.scalar.specs.Literals.{f0, f4}
 use Rattle.refusal.specs.declared.Refusal.the-variants.{Angle}
 use Rattle.refusal.specs.Number.{numberOf}
 use Rattle.waves.specs.SinCos.{sinOf, cosOf}
-use Rattle.waves.specs.declared.Answer.{Answer}
-use Rattle.waves.specs.declared.Answer.the-variants.{Value, Refused}
+use Rattle.wave_answers.specs.declared.Answer.{Answer}
+use Rattle.wave_answers.specs.declared.Answer.the-variants.{Value, Refused}
 
 -- below -4, above 4, and the value
 abbrev pub unlessOutside : Bool → Bool → Float → Answer

@@ -1,7 +1,7 @@
-use Rattle.waves.specs.Answers.{cosAnswer}
+use Rattle.wave_answers.specs.Answers.{cosAnswer}
 use borrow.Author.Needs.{needs}
-use Rattle.waves.proofs.cos_or_refuse.Statement.{statement}
-use Rattle.waves.proofs.cos_or_refuse.Tie as tie
+use Rattle.wave_answers.proofs.cos_or_refuse.Statement.{statement}
+use Rattle.wave_answers.proofs.cos_or_refuse.Tie as tie
 
 returns : tie.Need-returns
 unfolding cosAnswer

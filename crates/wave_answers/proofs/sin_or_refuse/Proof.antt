@@ -1,7 +1,7 @@
-use Rattle.waves.specs.Answers.{sinAnswer}
+use Rattle.wave_answers.specs.Answers.{sinAnswer}
 use borrow.Author.Needs.{needs}
-use Rattle.waves.proofs.sin_or_refuse.Statement.{statement}
-use Rattle.waves.proofs.sin_or_refuse.Tie as tie
+use Rattle.wave_answers.proofs.sin_or_refuse.Statement.{statement}
+use Rattle.wave_answers.proofs.sin_or_refuse.Tie as tie
 
 returns : tie.Need-returns
 unfolding sinAnswer
