@@ -1,25 +1,17 @@
--- `arc_entries::node_cosine` meets its contract: each arm's number is the list's at that place, by computation; 182 is the only place left for the last arm.
-use mathlib.Core.Path.{_≡_, sym, ap}
-use Prim.Native.Nat.{ℕ, _<_, _≤_}
-use native.Mathlib.Omega.{arith}
+-- Each arm has the number of `cosines` at its place, by computation; only 182 is left for the last arm.
+use mathlib.Core.Path.{_≡_}
+use Prim.Native.Nat.{ℕ}
 use lib.ListN.{getD}
 use Rattle.arc_tables.specs.Tables.{cosines}
-use Rattle.cases.proofs.Arms.{Others, from-up}
+use Rattle.cases.proofs.Arms.{Others, arm, last-arm}
 use Rattle.arc_entries.proofs.node_cosine.Statement.{statement}
 use Rattle.arc_entries.proofs.node_cosine.Tie as tie
 
 at : {i j : ℕ} → i ≡ j → getD cosines j 0 ≡ getD cosines i 0
-at e = sym (ap (λ (i : ℕ). getD cosines i 0) e)
-
-last : tie.Need-returns-183
-unfolding cosines Others
-last c = at (only (c .before .args .i) (c .before .pre) (from-up (c .before .args .i) 182 (c .match .rest)))
-  where
-    only : (i : ℕ) → i < 183 → 182 ≤ i → i ≡ 182
-    only i h g = omega arith
+at = arm cosines
 
 pub node-cosine-spec : {M : Type 1} → statement M
-unfolding cosines
+unfolding cosines Others
 node-cosine-spec =
     tie.close
     (tie.spec (λ c. at (c .match .keys1)) (λ c. at (c .match .keys2)) (λ c. at (c .match .keys3))
@@ -81,4 +73,4 @@ node-cosine-spec =
     (λ c. at (c .match .keys171)) (λ c. at (c .match .keys172)) (λ c. at (c .match .keys173))
     (λ c. at (c .match .keys174)) (λ c. at (c .match .keys175)) (λ c. at (c .match .keys176))
     (λ c. at (c .match .keys177)) (λ c. at (c .match .keys178)) (λ c. at (c .match .keys179))
-    (λ c. at (c .match .keys180)) (λ c. at (c .match .keys181)) (λ c. at (c .match .keys182)) last)
+    (λ c. at (c .match .keys180)) (λ c. at (c .match .keys181)) (λ c. at (c .match .keys182)) (λ c. last-arm cosines _ 182 (c .before .pre) (c .match .rest)))

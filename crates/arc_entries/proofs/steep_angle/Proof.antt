@@ -1,25 +1,17 @@
--- `arc_entries::steep_angle` meets its contract: each arm's number is the list's at that place, by computation; 128 is the only place left for the last arm.
-use mathlib.Core.Path.{_≡_, sym, ap}
-use Prim.Native.Nat.{ℕ, _<_, _≤_}
-use native.Mathlib.Omega.{arith}
+-- Each arm has the number of `steep` at its place, by computation; only 128 is left for the last arm.
+use mathlib.Core.Path.{_≡_}
+use Prim.Native.Nat.{ℕ}
 use lib.ListN.{getD}
 use Rattle.arc_tables.specs.Tables.{steep}
-use Rattle.cases.proofs.Arms.{Others, from-up}
+use Rattle.cases.proofs.Arms.{Others, arm, last-arm}
 use Rattle.arc_entries.proofs.steep_angle.Statement.{statement}
 use Rattle.arc_entries.proofs.steep_angle.Tie as tie
 
 at : {i j : ℕ} → i ≡ j → getD steep j 0 ≡ getD steep i 0
-at e = sym (ap (λ (i : ℕ). getD steep i 0) e)
-
-last : tie.Need-returns-129
-unfolding steep Others
-last c = at (only (c .before .args .i) (c .before .pre) (from-up (c .before .args .i) 128 (c .match .rest)))
-  where
-    only : (i : ℕ) → i < 129 → 128 ≤ i → i ≡ 128
-    only i h g = omega arith
+at = arm steep
 
 pub steep-angle-spec : {M : Type 1} → statement M
-unfolding steep
+unfolding steep Others
 steep-angle-spec =
     tie.close
     (tie.spec (λ c. at (c .match .keys1)) (λ c. at (c .match .keys2)) (λ c. at (c .match .keys3))
@@ -63,4 +55,4 @@ steep-angle-spec =
     (λ c. at (c .match .keys117)) (λ c. at (c .match .keys118)) (λ c. at (c .match .keys119))
     (λ c. at (c .match .keys120)) (λ c. at (c .match .keys121)) (λ c. at (c .match .keys122))
     (λ c. at (c .match .keys123)) (λ c. at (c .match .keys124)) (λ c. at (c .match .keys125))
-    (λ c. at (c .match .keys126)) (λ c. at (c .match .keys127)) (λ c. at (c .match .keys128)) last)
+    (λ c. at (c .match .keys126)) (λ c. at (c .match .keys127)) (λ c. at (c .match .keys128)) (λ c. last-arm steep _ 128 (c .before .pre) (c .match .rest)))
