@@ -10,8 +10,12 @@ use Rattle.arc_entries.proofs.gentle_angle.Tie as tie
 at : {i j : ℕ} → i ≡ j → getD angles j 0 ≡ getD angles i 0
 at = arm angles
 
-pub gentle-angle-spec : {M : Type 1} → statement M
+last : tie.Need-returns-128
 unfolding angles Others
+last c = last-arm angles _ 127 (c .before .pre) (c .match .rest)
+
+pub gentle-angle-spec : {M : Type 1} → statement M
+unfolding angles
 gentle-angle-spec =
     tie.close
     (tie.spec (λ c. at (c .match .keys1)) (λ c. at (c .match .keys2)) (λ c. at (c .match .keys3))
@@ -55,4 +59,4 @@ gentle-angle-spec =
     (λ c. at (c .match .keys117)) (λ c. at (c .match .keys118)) (λ c. at (c .match .keys119))
     (λ c. at (c .match .keys120)) (λ c. at (c .match .keys121)) (λ c. at (c .match .keys122))
     (λ c. at (c .match .keys123)) (λ c. at (c .match .keys124)) (λ c. at (c .match .keys125))
-    (λ c. at (c .match .keys126)) (λ c. at (c .match .keys127)) (λ c. last-arm angles _ 127 (c .before .pre) (c .match .rest)))
+    (λ c. at (c .match .keys126)) (λ c. at (c .match .keys127)) last)

@@ -10,8 +10,12 @@ use Rattle.arc_entries.proofs.node_angle.Tie as tie
 at : {i j : ℕ} → i ≡ j → getD arcs j 0 ≡ getD arcs i 0
 at = arm arcs
 
-pub node-angle-spec : {M : Type 1} → statement M
+last : tie.Need-returns-183
 unfolding arcs Others
+last c = last-arm arcs _ 182 (c .before .pre) (c .match .rest)
+
+pub node-angle-spec : {M : Type 1} → statement M
+unfolding arcs
 node-angle-spec =
     tie.close
     (tie.spec (λ c. at (c .match .keys1)) (λ c. at (c .match .keys2)) (λ c. at (c .match .keys3))
@@ -73,4 +77,4 @@ node-angle-spec =
     (λ c. at (c .match .keys171)) (λ c. at (c .match .keys172)) (λ c. at (c .match .keys173))
     (λ c. at (c .match .keys174)) (λ c. at (c .match .keys175)) (λ c. at (c .match .keys176))
     (λ c. at (c .match .keys177)) (λ c. at (c .match .keys178)) (λ c. at (c .match .keys179))
-    (λ c. at (c .match .keys180)) (λ c. at (c .match .keys181)) (λ c. at (c .match .keys182)) (λ c. last-arm arcs _ 182 (c .before .pre) (c .match .rest)))
+    (λ c. at (c .match .keys180)) (λ c. at (c .match .keys181)) (λ c. at (c .match .keys182)) last)

@@ -10,8 +10,12 @@ use Rattle.arc_entries.proofs.node_cosine.Tie as tie
 at : {i j : ℕ} → i ≡ j → getD cosines j 0 ≡ getD cosines i 0
 at = arm cosines
 
-pub node-cosine-spec : {M : Type 1} → statement M
+last : tie.Need-returns-183
 unfolding cosines Others
+last c = last-arm cosines _ 182 (c .before .pre) (c .match .rest)
+
+pub node-cosine-spec : {M : Type 1} → statement M
+unfolding cosines
 node-cosine-spec =
     tie.close
     (tie.spec (λ c. at (c .match .keys1)) (λ c. at (c .match .keys2)) (λ c. at (c .match .keys3))
@@ -73,4 +77,4 @@ node-cosine-spec =
     (λ c. at (c .match .keys171)) (λ c. at (c .match .keys172)) (λ c. at (c .match .keys173))
     (λ c. at (c .match .keys174)) (λ c. at (c .match .keys175)) (λ c. at (c .match .keys176))
     (λ c. at (c .match .keys177)) (λ c. at (c .match .keys178)) (λ c. at (c .match .keys179))
-    (λ c. at (c .match .keys180)) (λ c. at (c .match .keys181)) (λ c. at (c .match .keys182)) (λ c. last-arm cosines _ 182 (c .before .pre) (c .match .rest)))
+    (λ c. at (c .match .keys180)) (λ c. at (c .match .keys181)) (λ c. at (c .match .keys182)) last)

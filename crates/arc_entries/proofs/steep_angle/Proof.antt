@@ -10,8 +10,12 @@ use Rattle.arc_entries.proofs.steep_angle.Tie as tie
 at : {i j : ℕ} → i ≡ j → getD steep j 0 ≡ getD steep i 0
 at = arm steep
 
-pub steep-angle-spec : {M : Type 1} → statement M
+last : tie.Need-returns-129
 unfolding steep Others
+last c = last-arm steep _ 128 (c .before .pre) (c .match .rest)
+
+pub steep-angle-spec : {M : Type 1} → statement M
+unfolding steep
 steep-angle-spec =
     tie.close
     (tie.spec (λ c. at (c .match .keys1)) (λ c. at (c .match .keys2)) (λ c. at (c .match .keys3))
@@ -55,4 +59,4 @@ steep-angle-spec =
     (λ c. at (c .match .keys117)) (λ c. at (c .match .keys118)) (λ c. at (c .match .keys119))
     (λ c. at (c .match .keys120)) (λ c. at (c .match .keys121)) (λ c. at (c .match .keys122))
     (λ c. at (c .match .keys123)) (λ c. at (c .match .keys124)) (λ c. at (c .match .keys125))
-    (λ c. at (c .match .keys126)) (λ c. at (c .match .keys127)) (λ c. at (c .match .keys128)) (λ c. last-arm steep _ 128 (c .before .pre) (c .match .rest)))
+    (λ c. at (c .match .keys126)) (λ c. at (c .match .keys127)) (λ c. at (c .match .keys128)) last)
