@@ -52,9 +52,9 @@ unfolding f2BentOf
 f2-by (Geometry.Found g) l h x f2d clat clck c = let b = bentOf (l .fi2) (x .fx2) h g in bent-by (deviationsOf f2d (b .fob) (c .ssn) clat clck) b (h .ht) (x .fx2) (g .xhops)
 f2-by (Geometry.Refused r) l h x f2d clat clck c = (rw (no-answer r), rw (no-answer r, no-answer r))
 
-pub f2-says : (r : LineAnswer) (t : IonoState) (l : Slot) (ks : ℕ) (x : Tangents) (f2d : List Float) (clat clck : Float) (c : PathNumbers) → r ≡ f2LineOf t l ks x f2d clat clck c → (r ≡ f2LineOf t l ks x f2d clat clck c) × F2Says r t l ks x f2d clat clck c
+pub f2-says : (r : LineAnswer) (t : IonoState) (l : Slot) (x : Tangents) (f2d : List Float) (clat clck : Float) (c : PathNumbers) → r ≡ f2LineOf t l x f2d clat clck c → (r ≡ f2LineOf t l x f2d clat clck c) × F2Says r t l x f2d clat clck c
 unfolding f2LineWith F2Says
-f2-says r t l ks x f2d clat clck c e = let h = f2HeightsWith gethpOf t l ks x in (e, rw e (f2-by (geometryOf (c .gcdkm) (c .amind) (h .hp) (h .ht) false) l h x f2d clat clck c))
+f2-says r t l x f2d clat clck c e = let h = f2HeightsWith gethpOf t l x in (e, rw e (f2-by (geometryOf (c .gcdkm) (c .amind) (h .hp) (h .ht) false) l h x f2d clat clck c))
 
 own-by : (g : Geometry) (h : HeightPair) (fc fx1 : Float) → LineIs (f1OwnBy g h fc fx1) (geometryNumber g) (f1FoundOf (geometryValue g) h fc fx1)
 own-by (Geometry.Found g) h fc fx1 = (refl, refl)

@@ -44,9 +44,9 @@ ESays r t fxe gcdkm amind =
     LineIs r (geometryNumber g) (eFoundOf (geometryValue g) h fxe)
 
 -- the F2 line: its hops, then its deviations
-unfoldable pub F2Says : LineAnswer → IonoState → Slot → ℕ → Tangents → List Float → Float → Float → PathNumbers → Type 0
-F2Says r t l ks x f2d clat clck c =
-    let h = f2HeightsWith gethpOf t l ks x in
+unfoldable pub F2Says : LineAnswer → IonoState → Slot → Tangents → List Float → Float → Float → PathNumbers → Type 0
+F2Says r t l x f2d clat clck c =
+    let h = f2HeightsWith gethpOf t l x in
     let g = geometryOf (c .gcdkm) (c .amind) (h .hp) (h .ht) false in
     let b = bentOf (l .fi2) (x .fx2) h (geometryValue g) in
     let sig = deviationsOf f2d (b .fob) (c .ssn) clat clck in

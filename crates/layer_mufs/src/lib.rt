@@ -237,12 +237,11 @@ pub fn e_line(t: IonoState, fxe: f32, gcdkm: f32, amind: f32) -> LineAnswer
 }
 
 // Parabolic F2 over a parabolic E layer.
-fn parabolic(t: IonoState, l: Slot, ks: usize, x: Tangents) -> HeightPair
-    requires { ⌜ ks < 3 ⌝ }
-    ensures { λ r. ⌜ r ≡ parabolicOf t l ks x ⌝ }
+fn parabolic(l: Slot, x: Tangents) -> HeightPair
+    ensures { λ r. ⌜ r ≡ parabolicOf l x ⌝ }
 {
-    let bend = parabolas::bendy_at(t, 2, ks, x.fx2);
-    let pass = parabolas::pen_at(t, 0, ks, x.fx2);
+    let bend = parabolas::bendy_at(l.fi2, l.yi2, x.fx2);
+    let pass = parabolas::pen_at(l.fi0, l.yi0, x.fx2);
     let root = scalar::sqrt(1.0 - x.xt2 * x.xt2);
     HeightPair {
         hp: l.hi2 - l.yi2 + bend + (pass - 2.0 * l.yi0),
@@ -251,9 +250,8 @@ fn parabolic(t: IonoState, l: Slot, ks: usize, x: Tangents) -> HeightPair
 }
 
 // By parabolas only if F1 is missing: the closed form is of E and F2 alone.
-fn f2_heights(t: IonoState, l: Slot, ks: usize, x: Tangents) -> HeightPair
-    requires { ⌜ ks < 3 ⌝ }
-    ensures { λ r. ⌜ r ≡ f2HeightsWith gethpOf t l ks x ⌝ }
+fn f2_heights(t: IonoState, l: Slot, x: Tangents) -> HeightPair
+    ensures { λ r. ⌜ r ≡ f2HeightsWith gethpOf t l x ⌝ }
 {
     if layers::profile_only(t) {
         let h = heights::gethp(t, x.fx2);
@@ -263,7 +261,7 @@ fn f2_heights(t: IonoState, l: Slot, ks: usize, x: Tangents) -> HeightPair
         let h = heights::gethp(t, x.fx2);
         return HeightPair { hp: h.hp, ht: h.ht };
     }
-    parabolic(t, l, ks, x)
+    parabolic(l, x)
 }
 
 // The rounds of a layer with critical frequency `fc`.
@@ -336,18 +334,16 @@ fn f2_bent(
 pub fn f2_line(
     t: IonoState,
     l: Slot,
-    ks: usize,
     x: Tangents,
     f2d: &[f32],
     clat: f32,
     clck: f32,
     c: PathNumbers,
 ) -> LineAnswer
-    requires { ⌜ ks < 3 ⌝ }
-    ensures { λ r. ⌜ r ≡ f2LineOf t l ks x (now (f2d .entry)) clat clck c ⌝ }
-    ensures { λ r. ⌜ F2Says r t l ks x (now (f2d .entry)) clat clck c ⌝ }
+    ensures { λ r. ⌜ r ≡ f2LineOf t l x (now (f2d .entry)) clat clck c ⌝ }
+    ensures { λ r. ⌜ F2Says r t l x (now (f2d .entry)) clat clck c ⌝ }
 {
-    let h = f2_heights(t, l, ks, x);
+    let h = f2_heights(t, l, x);
     let found = hops::hop_geometry(c.gcdkm, c.amind, h.hp, h.ht, false);
     match found {
         Geometry::Refused(r) => LineAnswer::Refused(r),

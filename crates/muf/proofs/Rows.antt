@@ -105,7 +105,7 @@ unfolding mufAtSlotWith refusedRowsKept
 done-by-below true true m s step f2d clat clck c w =
     let ks = controllingOf s in
     let t = lecdenOf s ks in
-    three-below (regularWith gethpOf t (slotAt t ks) ks f2d (at clat ks) (at clck ks) c) m s t (slotAt t ks) ks step w
+    three-below (regularWith gethpOf t (slotAt t ks) f2d (at clat ks) (at clck ks) c) m s t (slotAt t ks) ks step w
 done-by-below true false m s step f2d clat clck c w = never
 done-by-below false b m s step f2d clat clck c w = never
 

@@ -38,11 +38,11 @@ then-by : (a : LineAnswer) (next : LayerMuf → RegularAnswer) (number : LayerMu
 then-by (LineAnswer.Found m) next number value h = h m
 then-by (LineAnswer.Refused r) next number value h = (rw (no-answer r), rw (no-answer r, no-answer r))
 
-pub regular-says : (r : RegularAnswer) (t : IonoState) (l : Slot) (ks : ℕ) (f2d : List Float) (clat clck : Float) (c : PathNumbers) → r ≡ regularWith gethpOf t l ks f2d clat clck c → (r ≡ regularWith gethpOf t l ks f2d clat clck c) × RegularSays r t l ks f2d clat clck c
+pub regular-says : (r : RegularAnswer) (t : IonoState) (l : Slot) (f2d : List Float) (clat clck : Float) (c : PathNumbers) → r ≡ regularWith gethpOf t l f2d clat clck c → (r ≡ regularWith gethpOf t l f2d clat clck c) × RegularSays r t l f2d clat clck c
 unfolding regularWith RegularSays
-regular-says r t l ks f2d clat clck c e =
+regular-says r t l f2d clat clck c e =
     let x = tangentsOf l (c .gcdkm) in
-    let f2 = f2LineOf t l ks x f2d clat clck c in
+    let f2 = f2LineOf t l x f2d clat clck c in
     let f1 : LayerMuf → LineAnswer = λ m. f1LineOf t l (x .fx1) m (c .gcdkm) (c .amind) in
     let last : LayerMuf → LayerMuf → RegularAnswer = λ m n. foundThen (f1 m) (λ k. RegularAnswer.Found (record { e = m; f1 = k; f2 = n })) in
     let lines : LayerMuf → LayerMuf → RegularLines = λ m n. record { e = m; f1 = lineValue (f1 m); f2 = n } in (
@@ -67,4 +67,4 @@ unfolding mufAtSlotWith SlotSays
 slot-says r s ks step f2d clat clck c e =
     let t = lecdenOf s ks in
     let l = slotAt t ks in
-    (e, rw e (slot-by (regularWith gethpOf t l ks f2d clat clck c) s t l ks step))
+    (e, rw e (slot-by (regularWith gethpOf t l f2d clat clck c) s t l ks step))

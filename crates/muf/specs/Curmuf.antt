@@ -39,11 +39,11 @@ abbrev pub foundThen : LineAnswer → (LayerMuf → RegularAnswer) → RegularAn
 foundThen (LineAnswer.Found m) next = next m
 foundThen (LineAnswer.Refused r) next = RegularAnswer.Refused r
 
-unfoldable pub regularWith : Finder → IonoState → Slot → ℕ → List Float → Float → Float → PathNumbers → RegularAnswer
-regularWith find t l ks f2d clat clck c =
+unfoldable pub regularWith : Finder → IonoState → Slot → List Float → Float → Float → PathNumbers → RegularAnswer
+regularWith find t l f2d clat clck c =
     let x = tangentsOf l (c .gcdkm) in
     foundThen (eLineWith find t (x .fxe) (c .gcdkm) (c .amind))
-    (λ e. foundThen (f2LineWith find t l ks x f2d clat clck c)
+    (λ e. foundThen (f2LineWith find t l x f2d clat clck c)
     (λ f2. foundThen (f1LineWith find t l (x .fx1) e (c .gcdkm) (c .amind))
     (λ f1. RegularAnswer.Found (record { e = e; f1 = f1; f2 = f2 }))))
 
@@ -83,7 +83,7 @@ unfoldable pub mufAtSlotWith : Finder → IonoState → ℕ → EsStep → List 
 mufAtSlotWith find s ks step f2d clat clck c =
     let t = lecdenOf s ks in
     let l = slotAt t ks in
-    regularBy (regularWith find t l ks f2d clat clck c) s t l ks step
+    regularBy (regularWith find t l f2d clat clck c) s t l ks step
 
 abbrev pub mufAtSlotOf : IonoState → ℕ → EsStep → List Float → Float → Float → PathNumbers → AnswerAndRow
 mufAtSlotOf = mufAtSlotWith gethpOf

@@ -21,11 +21,11 @@ use Rattle.muf.specs.declared.RegularAnswer.{RegularAnswer}
 use Rattle.muf.specs.declared.AnswerAndRow.{AnswerAndRow}
 
 -- the first line that refuses, or the three; the F1 line may be the E line again
-unfoldable pub RegularSays : RegularAnswer → IonoState → Slot → ℕ → List Float → Float → Float → PathNumbers → Type 0
-RegularSays r t l ks f2d clat clck c =
+unfoldable pub RegularSays : RegularAnswer → IonoState → Slot → List Float → Float → Float → PathNumbers → Type 0
+RegularSays r t l f2d clat clck c =
     let x = tangentsOf l (c .gcdkm) in
     let e = eLineOf t (x .fxe) (c .gcdkm) (c .amind) in
-    let f2 = f2LineOf t l ks x f2d clat clck c in
+    let f2 = f2LineOf t l x f2d clat clck c in
     let f1 = f1LineOf t l (x .fx1) (lineValue e) (c .gcdkm) (c .amind) in
     let number = firstOf (lineNumber e) (firstOf (lineNumber f2) (lineNumber f1)) in
     (regularNumber r ≡ number) × (regularValue r ≡ cond (eqb number 0) (record { e = lineValue e; f1 = lineValue f1; f2 = lineValue f2 }) noLines)
@@ -34,4 +34,4 @@ RegularSays r t l ks f2d clat clck c =
 unfoldable pub SlotSays : AnswerAndRow → IonoState → ℕ → EsStep → List Float → Float → Float → PathNumbers → Type 0
 SlotSays r s ks step f2d clat clck c =
     let t = lecdenOf s ks in
-    outcomeNumber (r .answer .outcome) ≡ firstOf (regularNumber (regularWith gethpOf t (slotAt t ks) ks f2d clat clck c)) (stepNumber step)
+    outcomeNumber (r .answer .outcome) ≡ firstOf (regularNumber (regularWith gethpOf t (slotAt t ks) f2d clat clck c)) (stepNumber step)

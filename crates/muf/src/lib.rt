@@ -145,22 +145,20 @@ pub fn refused(s: IonoState, r: Refusal) -> MufAnswer
 fn regular_lines(
     t: IonoState,
     l: Slot,
-    ks: usize,
     f2d: &[f32],
     clat: f32,
     clck: f32,
     c: PathNumbers,
 ) -> RegularAnswer
-    requires { ⌜ ks < 3 ⌝ }
-    ensures { λ r. ⌜ r ≡ regularWith gethpOf t l ks (now (f2d .entry)) clat clck c ⌝ }
-    ensures { λ r. ⌜ RegularSays r t l ks (now (f2d .entry)) clat clck c ⌝ }
+    ensures { λ r. ⌜ r ≡ regularWith gethpOf t l (now (f2d .entry)) clat clck c ⌝ }
+    ensures { λ r. ⌜ RegularSays r t l (now (f2d .entry)) clat clck c ⌝ }
 {
     let x = layer_mufs::tangent_frequencies(l, c.gcdkm);
     let e_answer = layer_mufs::e_line(t, x.fxe, c.gcdkm, c.amind);
     match e_answer {
         LineAnswer::Refused(r) => RegularAnswer::Refused(r),
         LineAnswer::Found(e) => {
-            let f2_answer = layer_mufs::f2_line(t, l, ks, x, f2d, clat, clck, c);
+            let f2_answer = layer_mufs::f2_line(t, l, x, f2d, clat, clck, c);
             match f2_answer {
                 LineAnswer::Refused(r) => RegularAnswer::Refused(r),
                 LineAnswer::Found(f2) => {
@@ -246,7 +244,7 @@ pub fn muf_at_slot(
 {
     let t = profile::lecden_slot(s, ks);
     let l = profile::slot_at(t, ks);
-    let found = regular_lines(t, l, ks, f2d, clat, clck, c);
+    let found = regular_lines(t, l, f2d, clat, clck, c);
     match found {
         RegularAnswer::Refused(r) => refused_rows_kept(s, r),
         RegularAnswer::Found(m) => finish(s, t, l.fi0, m, ks, step),

@@ -163,8 +163,8 @@ fn virtual_by_parabola(s: IonoState, k: usize, f: f32) -> f32
 {
     let e = 3 * k;
     let f2 = 3 * k + 2;
-    let bend = parabolas::bendy_at(s, 2, k, f);
-    let lag = parabolas::pen_at(s, 0, k, f);
+    let bend = parabolas::bendy_at(s.fi[f2], s.yi[f2], f);
+    let lag = parabolas::pen_at(s.fi[e], s.yi[e], f);
     s.hi[f2] - s.yi[f2] + bend + (lag - 2.0 * s.yi[e])
 }
 
