@@ -6,23 +6,31 @@ use native.Mathlib.Omega.{arith}
 use borrow.Author.Needs.{needs}
 use lib.Ieee.{nan}
 use lib.ListN.{length}
-use Rattle.profile.specs.Density.{densityOf}
+use Rattle.profile.specs.Density.{fndOf, densityOf}
 use Rattle.cases.proofs.Tabulate.{mapped, mapped-more, mapped-all}
+use Rattle.profile.proofs.MapAt.{map-at}
 use Rattle.profile.proofs.densities.Statement.{statement}
 use Rattle.profile.proofs.densities.Tie as tie
 
 abbrev Inv-loop : tie.InvT-loop
-Inv-loop c htr fnsq₀ ih₀ fnsq ih = (ih ≤ 50) × (fnsq ≡ mapped (densityOf c) nan htr fnsq₀ ih)
+Inv-loop c htr fnd fnsq₀ ih₀ fnsq ih = (ih ≤ 50) × (fnsq ≡ mapped (densityOf c) nan htr fnsq₀ ih)
 
 abbrev μ-loop : tie.MeasureT-loop
-μ-loop c htr fnsq₀ ih₀ fnsq ih = 50 - ih
+μ-loop c htr fnd fnsq₀ ih₀ fnsq ih = 50 - ih
 
 loop-holds : tie.Need-loop-holds Inv-loop μ-loop
 loop-holds c = (omega arith, refl)
 
+density-requires : tie.Need-density-requires Inv-loop μ-loop
+density-requires c κs =
+    let a = c .before .before .before .args in
+    let i = c .before .loop .ih in
+    let h : i < length (a .t2) = search needs in
+    rw (c .before .before .tails .ensures) (map-at (fndOf (a .c)) (a .t2) i h)
+
 loop-again : tie.Need-loop-again Inv-loop μ-loop
 loop-again c =
-    let a = c .before .before .before .args in
+    let a = c .before .before .before .before .args in
     let i = c .before .before .loop .ih in
     let h : i < length (a .t2) = search needs in (
       omega arith,
@@ -32,7 +40,7 @@ loop-again c =
 
 returns : tie.Need-returns Inv-loop μ-loop
 returns c =
-    let a = c .before .before .args in
+    let a = c .before .before .before .args in
     let f = densityOf (a .c) in
     let n : length (a .t2) ≡ 50 = search needs in
     let e : c .before .loop .ih ≡ length (a .t2) = omega arith in
@@ -41,5 +49,6 @@ returns c =
 pub densities-spec : {M : Type 1} → statement M
 densities-spec =
     tie.close
-    (tie.spec Inv-loop μ-loop loop-holds (λ c. omega arith) (λ c. omega arith) (λ c κs. search needs)
-    (λ c. omega arith) (λ c. omega arith) (λ c. omega arith) (λ c. omega arith) loop-again returns)
+    (tie.spec Inv-loop μ-loop (λ c κs. search needs) loop-holds (λ c. omega arith) (λ c. omega arith) (λ c. omega arith)
+    (λ c. omega arith) density-requires (λ c. omega arith) (λ c. omega arith) (λ c. omega arith) (λ c. omega arith)
+    loop-again returns)

@@ -1,12 +1,12 @@
--- The largest of what the five shapes answer.
-use Rattle.profile.specs.Density.{densityOf}
+-- The largest of the five, the tail's density being what is asked for.
+use Rattle.profile.specs.Density.{candidatesOf, densityOf}
 use borrow.Author.Needs.{needs}
 use Rattle.profile.proofs.density.density.Statement.{statement}
 use Rattle.profile.proofs.density.density.Tie as tie
 
 returns : tie.Need-returns
-unfolding densityOf
-returns c = rw (← c .before .candidates .ensures, ← c .largest .ensures)
+unfolding densityOf candidatesOf
+returns c = rw (← c .before .before .pre, ← c .before .candidates .ensures, ← c .largest .ensures)
 
 pub density-spec : {M : Type 1} → statement M
 density-spec = tie.close (tie.spec (λ c κs. search needs) (λ c κs. search needs) returns)
