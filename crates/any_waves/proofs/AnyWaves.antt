@@ -17,7 +17,7 @@ use Rattle.arcs.specs.Asin.{asinOf}
 use Rattle.layers.specs.declared.IonoState.{IonoState}
 use Rattle.layers.specs.declared.LayerMuf.{LayerMuf}
 use Rattle.profile.specs.Lecden.{slotAt, lecdenOf}
-use Rattle.profile.specs.declared.Slot.{Slot}
+use Rattle.slot_curves.specs.declared.Slot.{Slot}
 use Rattle.heights.specs.Gethp.{Finder}
 use Rattle.hops.specs.Geometry.{hopRatioOf, hopsBy, hopsOf, psiOf, delOf, spheOf, secpOf, hopGeometryOf, geometryBy, geometryOf}
 use Rattle.hops.specs.Rounds.{sphOf, roundOf, settledOf, stopBy, roundsOf}

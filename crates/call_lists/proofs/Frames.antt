@@ -19,7 +19,7 @@ use Rattle.layers.specs.declared.IonoState.{IonoState}
 use Rattle.layers.specs.declared.LayerMuf.{LayerMuf}
 use Rattle.profile.specs.Lecden.{slotAt, suppliedOf, lecdenOf}
 use Rattle.shapes.specs.Marks.{marksOf}
-use Rattle.profile.specs.declared.Slot.{Slot}
+use Rattle.slot_curves.specs.declared.Slot.{Slot}
 use Rattle.heights.specs.Gethp.{Finder, gethpOf}
 use Rattle.heights.specs.declared.Heights.{Heights}
 use Rattle.heights.proofs.Finders.{FindAlike, Agree}

@@ -14,7 +14,7 @@ use Rattle.layers.specs.declared.LayerMuf.{LayerMuf}
 use Rattle.layers.specs.declared.EsParams.{EsParams}
 use Rattle.profile.specs.Lecden.{slotAt}
 use Rattle.profile.specs.Rising.{risesOf}
-use Rattle.profile.specs.declared.Slot.{Slot}
+use Rattle.slot_curves.specs.declared.Slot.{Slot}
 use Rattle.heights.specs.SameReads.{SameReads}
 use Rattle.reflectrix.specs.declared.Ionogram.{Ionogram}
 use Rattle.muf.specs.declared.MufHour.{MufHour}

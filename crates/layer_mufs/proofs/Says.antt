@@ -17,7 +17,7 @@ use Rattle.hops.specs.declared.Round.{Round}
 use Rattle.heights.specs.Gethp.{gethpOf}
 use Rattle.layers.specs.declared.IonoState.{IonoState}
 use Rattle.layers.specs.declared.LayerMuf.{LayerMuf}
-use Rattle.profile.specs.declared.Slot.{Slot}
+use Rattle.slot_curves.specs.declared.Slot.{Slot}
 use Rattle.layer_mufs.specs.Lines.{layerLineOf, readWith, eHeightsWith, eFoundOf, eLineBy, eLineWith, eLineOf, f2HeightsWith, bentOf, bothBy, deviationsOf, deviationsNumber, lowerValue, upperValue, f2BentBy, f2BentOf, f2LineBy, f2LineWith, f2LineOf, f1FoundOf, f1OwnBy, f1OwnWith, f1LineBy, f1LineWith, f1LineOf}
 use Rattle.layer_mufs.specs.Says.{firstOf, DeviationsSay, LineIs, ESays, F2Says, F1Says}
 use Rattle.layer_mufs.specs.declared.PathNumbers.{PathNumbers}

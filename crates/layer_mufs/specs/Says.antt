@@ -13,7 +13,7 @@ use Rattle.hops.specs.Geometry.{geometryOf, geometryNumber, geometryValue}
 use Rattle.heights.specs.Gethp.{gethpOf}
 use Rattle.layers.specs.declared.IonoState.{IonoState}
 use Rattle.layers.specs.declared.LayerMuf.{LayerMuf}
-use Rattle.profile.specs.declared.Slot.{Slot}
+use Rattle.slot_curves.specs.declared.Slot.{Slot}
 use Rattle.layer_mufs.specs.Lines.{layerLineOf, zeroLine, lineNumber, lineValue, readWith, eHeightsWith, eFoundOf, f2HeightsWith, bentOf, deviationsOf, deviationsNumber, lowerValue, upperValue, f1FoundOf}
 use Rattle.layer_mufs.specs.declared.PathNumbers.{PathNumbers}
 use Rattle.layer_mufs.specs.declared.Tangents.{Tangents}

@@ -14,8 +14,8 @@ use hops::Ray;
 use hops::Round;
 use layers::IonoState;
 use layers::LayerMuf;
-use profile::Slot;
 use refusal::Refusal;
+use slot_curves::Slot;
 
 // The numbers of a circuit: path length in radians and in kilometres, least takeoff angle in
 // degrees, sunspot number.

@@ -17,7 +17,7 @@ use Rattle.hops.specs.declared.Hops.{Hops}
 use Rattle.layers.specs.declared.IonoState.{IonoState}
 use Rattle.layer_mufs.specs.Controlling.{controllingOf}
 use Rattle.profile.specs.Lecden.{slotAt, lecdenOf}
-use Rattle.profile.specs.declared.Slot.{Slot}
+use Rattle.slot_curves.specs.declared.Slot.{Slot}
 use Rattle.heights.specs.Gethp.{gethpOf}
 use Rattle.layer_mufs.specs.declared.PathNumbers.{PathNumbers}
 use Rattle.sporadic.specs.Sporadic.{rayOf, takenBy, takenOf, hopBy, rowBy, esRowOf, startOf, nextBy, esFrom, esLineBy, esLineOf, rowAt}

@@ -10,7 +10,7 @@ use Rattle.refusal.proofs.Numbers.{no-answer}
 use Rattle.layers.specs.declared.IonoState.{IonoState}
 use Rattle.layers.specs.declared.LayerMuf.{LayerMuf}
 use Rattle.profile.specs.Lecden.{slotAt, lecdenOf}
-use Rattle.profile.specs.declared.Slot.{Slot}
+use Rattle.slot_curves.specs.declared.Slot.{Slot}
 use Rattle.heights.specs.Gethp.{gethpOf}
 use Rattle.layer_mufs.specs.Tangents.{tangentsOf}
 use Rattle.layer_mufs.specs.Lines.{lineNumber, lineValue, eLineOf, f2LineOf, f1LineOf}

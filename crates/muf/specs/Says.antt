@@ -8,7 +8,7 @@ use lib.Ieee.{Float}
 use Rattle.refusal.specs.Number.{outcomeNumber}
 use Rattle.layers.specs.declared.IonoState.{IonoState}
 use Rattle.profile.specs.Lecden.{slotAt, lecdenOf}
-use Rattle.profile.specs.declared.Slot.{Slot}
+use Rattle.slot_curves.specs.declared.Slot.{Slot}
 use Rattle.heights.specs.Gethp.{gethpOf}
 use Rattle.layer_mufs.specs.Tangents.{tangentsOf}
 use Rattle.layer_mufs.specs.Lines.{lineNumber, lineValue, eLineOf, f2LineOf, f1LineOf}

@@ -11,9 +11,9 @@ use layer_mufs::LineAnswer;
 use layer_mufs::PathNumbers;
 use layers::IonoState;
 use layers::LayerMuf;
-use profile::Slot;
 use refusal::Outcome;
 use refusal::Refusal;
+use slot_curves::Slot;
 use sporadic::EsStep;
 
 // The lines of the regular layers.

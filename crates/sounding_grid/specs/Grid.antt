@@ -6,7 +6,7 @@ use lib.Ieee.{Float}
 use Rattle.scalar.specs.F32.{_-f_, _+f_, _*f_, _/f_, _≤f_, at}
 use Rattle.scalar.specs.Literals.{f0, f0·01, f0·85, f0·92, f0·957, f0·96, f0·98, f0·99, f1, f1·01, f1·05, f3, f5, f6, f9, f16}
 use Rattle.scalar.specs.Root.{sqrtOf}
-use Rattle.profile.specs.Grid.{filled}
+use Rattle.slot_curves.specs.Grid.{filled}
 
 -- D-E tail, whose xtail is that of `lecden`, and the E nose: places 0 to 9
 unfoldable pub eGrid : List Float → Float → List Float

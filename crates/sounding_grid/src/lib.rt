@@ -2,7 +2,7 @@
 // and F2, or F2 alone.
 ghost use mathlib.Core.Path.{_≡_};
 ghost use Prim.Native.Nat.{_+_, _<_};
-ghost use Rattle.profile.specs.Grid.{filled};
+ghost use Rattle.slot_curves.specs.Grid.{filled};
 ghost use Rattle.sounding_grid.specs.Grid.{eGrid, noseGrid, fGrid, fvertOf};
 
 // The n places after `from`, each fdif above the one before.

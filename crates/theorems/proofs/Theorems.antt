@@ -39,7 +39,7 @@ use Rattle.export_refusals.proofs.Exports.{export-refusals}
 use Rattle.wide_circuit.proofs.Laws.{wide-laws}
 use Rattle.circuit_turn.proofs.Laws.{turn-laws}
 use Rattle.profile.proofs.Keeps.{lecden-keeps, lecden-supplied}
-use Rattle.profile.proofs.NeverBoth.{never-both}
+use Rattle.shape_densities.proofs.NeverBoth.{never-both}
 use Rattle.walk.proofs.Walks.{distance-rule}
 use Rattle.heights.proofs.Whole.{forty-reads, mark-unread, exact-rule}
 use Rattle.heights.proofs.SameReads.{walk-same-as-scan}

@@ -1,6 +1,6 @@
 -- Candidates and density are what the calls answer, the tail's density being what is asked for; the test on zero comes first.
 use borrow.Author.Needs.{needs}
-use Rattle.profile.specs.Density.{candidatesOf}
+use Rattle.shape_densities.specs.Density.{candidatesOf}
 use Rattle.shapes.specs.Marks.{markOf}
 use Rattle.shapes.proofs.mark_at.Statement.{statement}
 use Rattle.shapes.proofs.mark_at.Tie as tie

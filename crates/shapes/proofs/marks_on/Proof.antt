@@ -6,8 +6,8 @@ use native.Mathlib.Omega.{arith}
 use borrow.Author.Needs.{needs}
 use lib.Ieee.{nan}
 use lib.ListN.{length}
-use Rattle.profile.specs.Density.{fndOf}
-use Rattle.profile.proofs.MapAt.{map-at}
+use Rattle.shape_densities.specs.Density.{fndOf}
+use Rattle.shape_densities.proofs.MapAt.{map-at}
 use Rattle.cases.proofs.Tabulate.{mapped, mapped-more, mapped-all}
 use Rattle.shapes.specs.Marks.{heightMark}
 use Rattle.shapes.proofs.marks_on.Statement.{statement}

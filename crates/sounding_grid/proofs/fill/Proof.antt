@@ -4,7 +4,7 @@ use Prim.Native.Nat.{_≤_, _-_}
 use native.Mathlib.Nat.{le-antisymm}
 use native.Mathlib.Numerals.{add-one}
 use native.Mathlib.Omega.{arith}
-use Rattle.profile.specs.Grid.{filled}
+use Rattle.slot_curves.specs.Grid.{filled}
 use Rattle.sounding_grid.proofs.fill.Statement.{statement}
 use Rattle.sounding_grid.proofs.fill.Tie as tie
 
