@@ -68,8 +68,8 @@ fn mark_at(c: Curves, fnd: f32, h: f32) -> Mark
     requires { ⌜ fnd ≡ fndOf c h ⌝ }
     ensures { λ r. ⌜ r ≡ markOf c h ⌝ }
 {
-    let shapes = shape_densities::candidates(c, fnd, h);
-    let density = shape_densities::largest(shapes);
+    let shapes = shape_densities::density::candidates(c, fnd, h);
+    let density = shape_densities::density::largest(shapes);
     if density == 0.0 {
         return Mark::Gap;
     }

@@ -1,8 +1,8 @@
 -- Line or parabola, and the range: picked by the definition's tests.
 use Rattle.shape_densities.specs.Density.{fn1Of}
 use borrow.Author.Needs.{needs}
-use Rattle.shape_densities.proofs.f1_layer.Statement.{statement}
-use Rattle.shape_densities.proofs.f1_layer.Tie as tie
+use Rattle.shape_densities.proofs.density.f1_layer.Statement.{statement}
+use Rattle.shape_densities.proofs.density.f1_layer.Tie as tie
 
 returns : tie.Need-returns
 unfolding fn1Of

@@ -1,8 +1,8 @@
 -- Each path is the clause that its test chooses.
 use Rattle.shape_densities.specs.Density.{fndOf}
 use borrow.Author.Needs.{needs}
-use Rattle.shape_densities.proofs.tail_density.Statement.{statement}
-use Rattle.shape_densities.proofs.tail_density.Tie as tie
+use Rattle.shape_densities.proofs.density.tail_density.Statement.{statement}
+use Rattle.shape_densities.proofs.density.tail_density.Tie as tie
 
 returns : tie.Need-returns
 unfolding fndOf

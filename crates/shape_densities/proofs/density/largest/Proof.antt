@@ -1,8 +1,8 @@
 -- Four maxima, in the Rust's order.
 use Rattle.shape_densities.specs.Density.{largestOf}
 use borrow.Author.Needs.{needs}
-use Rattle.shape_densities.proofs.largest.Statement.{statement}
-use Rattle.shape_densities.proofs.largest.Tie as tie
+use Rattle.shape_densities.proofs.density.largest.Statement.{statement}
+use Rattle.shape_densities.proofs.density.largest.Tie as tie
 
 returns : tie.Need-returns
 unfolding largestOf

@@ -1,8 +1,8 @@
 -- Picked by the definition's test.
 use Rattle.shape_densities.specs.Density.{fneOf}
 use borrow.Author.Needs.{needs}
-use Rattle.shape_densities.proofs.e_layer.Statement.{statement}
-use Rattle.shape_densities.proofs.e_layer.Tie as tie
+use Rattle.shape_densities.proofs.density.e_layer.Statement.{statement}
+use Rattle.shape_densities.proofs.density.e_layer.Tie as tie
 
 returns : tie.Need-returns
 unfolding fneOf

@@ -1,8 +1,8 @@
 -- Picked by the definition's test.
 use Rattle.shape_densities.specs.Density.{fnvalOf}
 use borrow.Author.Needs.{needs}
-use Rattle.shape_densities.proofs.valley_density.Statement.{statement}
-use Rattle.shape_densities.proofs.valley_density.Tie as tie
+use Rattle.shape_densities.proofs.density.valley_density.Statement.{statement}
+use Rattle.shape_densities.proofs.density.valley_density.Tie as tie
 
 returns : tie.Need-returns
 unfolding fnvalOf

@@ -1,8 +1,8 @@
 -- Picked by the definition's test.
 use Rattle.shape_densities.specs.Density.{fn2Of}
 use borrow.Author.Needs.{needs}
-use Rattle.shape_densities.proofs.f2_layer.Statement.{statement}
-use Rattle.shape_densities.proofs.f2_layer.Tie as tie
+use Rattle.shape_densities.proofs.density.f2_layer.Statement.{statement}
+use Rattle.shape_densities.proofs.density.f2_layer.Tie as tie
 
 returns : tie.Need-returns
 unfolding fn2Of

@@ -1,8 +1,8 @@
 -- The largest of the five, the tail's density being what is asked for.
 use Rattle.shape_densities.specs.Density.{candidatesOf, densityOf}
 use borrow.Author.Needs.{needs}
-use Rattle.shape_densities.proofs.density.Statement.{statement}
-use Rattle.shape_densities.proofs.density.Tie as tie
+use Rattle.shape_densities.proofs.density.density.Statement.{statement}
+use Rattle.shape_densities.proofs.density.density.Tie as tie
 
 returns : tie.Need-returns
 unfolding densityOf candidatesOf
