@@ -3,7 +3,7 @@
 // picked, so that heights are taken four at a time.
 ghost use mathlib.Core.Path.{_≡_};
 ghost use mathlib.Core.Bool.{cond};
-ghost use Rattle.shape_densities.specs.Density.{fnvalOf, parabolaOf, fneOf, fndOf, fn1Of, fn2Of, candidatesBy, largestOf, densityOf};
+ghost use Rattle.shape_densities.specs.Density.{fnvalOf, parabolaOf, fneOf, fndOf, fn1Of, fn2Of, candidatesBy, largestOf};
 use crate::Candidates;
 use crate::Curves;
 
@@ -86,11 +86,4 @@ pub fn largest(c: Candidates) -> f32
         scalar::max(scalar::max(scalar::max(c.fnd, c.fne), c.fnval), c.fn1),
         c.fn2,
     )
-}
-
-pub fn density(c: Curves, fnd: f32, h: f32) -> f32
-    requires { ⌜ fnd ≡ fndOf c h ⌝ }
-    ensures { λ r. ⌜ r ≡ densityOf c h ⌝ }
-{
-    largest(candidates(c, fnd, h))
 }

@@ -59,7 +59,7 @@ pub fn densities(c: Curves, htr: [f32; 50]) -> [f32; 50]
     let fnd = tails(c, htr);
     let mut fnsq = htr;
     for ih in 0..50 {
-        let d = density::density(c, fnd[ih], htr[ih]);
+        let d = density::largest(density::candidates(c, fnd[ih], htr[ih]));
         fnsq[ih] = d;
     }
     fnsq

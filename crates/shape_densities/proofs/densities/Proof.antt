@@ -6,7 +6,7 @@ use native.Mathlib.Omega.{arith}
 use borrow.Author.Needs.{needs}
 use lib.Ieee.{nan}
 use lib.ListN.{length}
-use Rattle.shape_densities.specs.Density.{fndOf, densityOf}
+use Rattle.shape_densities.specs.Density.{fndOf, candidatesOf, densityOf}
 use Rattle.cases.proofs.Tabulate.{mapped, mapped-more, mapped-all}
 use Rattle.shape_densities.proofs.MapAt.{map-at}
 use Rattle.shape_densities.proofs.densities.Statement.{statement}
@@ -21,20 +21,16 @@ abbrev μ-loop : tie.MeasureT-loop
 loop-holds : tie.Need-loop-holds Inv-loop μ-loop
 loop-holds c = (omega arith, refl)
 
-density-requires : tie.Need-density-requires Inv-loop μ-loop
-density-requires c κs =
-    let a = c .before .before .before .args in
-    let i = c .before .loop .ih in
-    let h : i < length (a .t2) = search needs in
-    rw (c .before .before .tails .ensures) (map-at (fndOf (a .c)) (a .t2) i h)
-
+-- the tail's density at the height of the turn
 loop-again : tie.Need-loop-again Inv-loop μ-loop
+unfolding densityOf candidatesOf
 loop-again c =
-    let a = c .before .before .before .before .args in
-    let i = c .before .before .loop .ih in
-    let h : i < length (a .t2) = search needs in (
+    let a = c .before .before .before .before .before .args in
+    let i = c .before .before .before .loop .ih in
+    let h : i < length (a .t2) = search needs in
+    let e = map-at (fndOf (a .c)) (a .t2) i h in (
       omega arith,
-      rw (c .density .ensures, c .before .before .loop .inv .1, add-one i)
+      rw (c .largest .ensures, c .before .candidates .ensures, c .before .before .before .before .tails .ensures, e, c .before .before .before .loop .inv .1, add-one i)
           (mapped-more (densityOf (a .c)) nan (a .t2) (a .t2) i h),
     )
 
@@ -50,5 +46,5 @@ pub densities-spec : {M : Type 1} → statement M
 densities-spec =
     tie.close
     (tie.spec Inv-loop μ-loop (λ c κs. search needs) loop-holds (λ c. omega arith) (λ c. omega arith) (λ c. omega arith)
-    (λ c. omega arith) density-requires (λ c. omega arith) (λ c. omega arith) (λ c. omega arith) (λ c. omega arith)
-    loop-again returns)
+    (λ c. omega arith) (λ c κs. search needs) (λ c κs. search needs) (λ c. omega arith) (λ c. omega arith)
+    (λ c. omega arith) (λ c. omega arith) loop-again returns)
