@@ -9,17 +9,24 @@ use Rattle.composing.proofs.put_fault_words.Tie as tie
 other : tie.Need-returns-17
 unfolding faultWords
 other c =
-    rw (ne-eqb _ 1 (c .match .rest .0 .0 .0 .0 .0 .0 .0 .0 .0 .0 .0 .0 .0 .0 .0 .1),
-    ne-eqb _ 2 (c .match .rest .0 .0 .0 .0 .0 .0 .0 .0 .0 .0 .0 .0 .0 .0 .1),
-    ne-eqb _ 3 (c .match .rest .0 .0 .0 .0 .0 .0 .0 .0 .0 .0 .0 .0 .0 .1),
-    ne-eqb _ 4 (c .match .rest .0 .0 .0 .0 .0 .0 .0 .0 .0 .0 .0 .0 .1),
-    ne-eqb _ 5 (c .match .rest .0 .0 .0 .0 .0 .0 .0 .0 .0 .0 .0 .1),
-    ne-eqb _ 6 (c .match .rest .0 .0 .0 .0 .0 .0 .0 .0 .0 .0 .1),
-    ne-eqb _ 7 (c .match .rest .0 .0 .0 .0 .0 .0 .0 .0 .0 .1),
-    ne-eqb _ 8 (c .match .rest .0 .0 .0 .0 .0 .0 .0 .0 .1), ne-eqb _ 9 (c .match .rest .0 .0 .0 .0 .0 .0 .0 .1),
-    ne-eqb _ 10 (c .match .rest .0 .0 .0 .0 .0 .0 .1), ne-eqb _ 11 (c .match .rest .0 .0 .0 .0 .0 .1),
-    ne-eqb _ 12 (c .match .rest .0 .0 .0 .0 .1), ne-eqb _ 13 (c .match .rest .0 .0 .0 .1),
-    ne-eqb _ 14 (c .match .rest .0 .0 .1), ne-eqb _ 15 (c .match .rest .0 .1), ne-eqb _ 16 (c .match .rest .1))
+    rw (
+      ne-eqb _ 1 (c .match .rest .0 .0 .0 .0 .0 .0 .0 .0 .0 .0 .0 .0 .0 .0 .0 .1),
+      ne-eqb _ 2 (c .match .rest .0 .0 .0 .0 .0 .0 .0 .0 .0 .0 .0 .0 .0 .0 .1),
+      ne-eqb _ 3 (c .match .rest .0 .0 .0 .0 .0 .0 .0 .0 .0 .0 .0 .0 .0 .1),
+      ne-eqb _ 4 (c .match .rest .0 .0 .0 .0 .0 .0 .0 .0 .0 .0 .0 .0 .1),
+      ne-eqb _ 5 (c .match .rest .0 .0 .0 .0 .0 .0 .0 .0 .0 .0 .0 .1),
+      ne-eqb _ 6 (c .match .rest .0 .0 .0 .0 .0 .0 .0 .0 .0 .0 .1),
+      ne-eqb _ 7 (c .match .rest .0 .0 .0 .0 .0 .0 .0 .0 .0 .1),
+      ne-eqb _ 8 (c .match .rest .0 .0 .0 .0 .0 .0 .0 .0 .1),
+      ne-eqb _ 9 (c .match .rest .0 .0 .0 .0 .0 .0 .0 .1),
+      ne-eqb _ 10 (c .match .rest .0 .0 .0 .0 .0 .0 .1),
+      ne-eqb _ 11 (c .match .rest .0 .0 .0 .0 .0 .1),
+      ne-eqb _ 12 (c .match .rest .0 .0 .0 .0 .1),
+      ne-eqb _ 13 (c .match .rest .0 .0 .0 .1),
+      ne-eqb _ 14 (c .match .rest .0 .0 .1),
+      ne-eqb _ 15 (c .match .rest .0 .1),
+      ne-eqb _ 16 (c .match .rest .1),
+    )
     clip-none
 
 pub put-fault-words-spec : {M : Type 1} → statement M
