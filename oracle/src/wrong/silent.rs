@@ -339,16 +339,17 @@ const FLOOR: &str = "the floor of the factor hides it";
 ///   most 568, and the step ends 1/12 km below `a` or less.
 /// - Such densities are below 2^-116. An F1 that is kept makes those of E, or those of F1
 ///   and F2 where they are not zero, far greater: there is none.
-/// - The steps of F2 are too short, at most 16 places of their height, for `a` to pass
-///   `b`. So the step ends at F2's lowest height `c` or below it, a kilometre or more above
-///   E's peak.
+/// - The last steps, of F2, are at most 16 places of their height, or `a` would not pass
+///   `b`: too short. So the step ends at the height `c` where these begin or below it, and
+///   that is above E's peak.
 /// - Its upper density, above the one sought, is not E's, which falls there. Nor the
 ///   valley's, which is at most 0.961 of E's greatest and 1.5 of the least numbers more:
 ///   the one sought is above the density read at E's peak, 0.961 of E's greatest less half
-///   of one at least, or its height would be found there, and the upper one more yet.
-/// - So it is F2's. Each step is rounded to less than its double or not at all, so `a` is
-///   no farther above the peak `b` than `c` is below it: F2's density is above the one
-///   sought at `a` and at `b`, and both are cut at 0.9999.
+///   of one at least, or its height would be found there, and the upper one is more yet.
+/// - So it is F2's. A step is rounded to its double at most, or heights would not rise, and
+///   there is one fewer before `a` than up to `b`: `a` is no farther above the peak `b` than
+///   `c` is below it. So F2's density is above the one sought at `a` and at `b`, and both
+///   are cut at 0.9999.
 const LAST_FALLS: &str = "a read of the height before the last, if that is lower, is of a density above the one sought, as the last height's is";
 const GIVEN: &str = "it is given a value before it is read";
 
