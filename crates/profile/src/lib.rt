@@ -3,7 +3,7 @@ ghost use mathlib.Core.Path.{_≡_};
 ghost use mathlib.Core.List.{map};
 ghost use Prim.Native.Nat.{_<_};
 ghost use Rattle.profile.specs.Rising.{risesOf};
-ghost use Rattle.profile.specs.Density.{densityOf};
+ghost use Rattle.profile.specs.Density.{fndOf, densityOf};
 ghost use Rattle.profile.specs.Lecden.{slotAt, slotWritten, tailOf, curvesOf, suppliedOf, lecdenOf, lecdenAnswer};
 ghost use Rattle.profile.specs.Prepared.{drawnOf};
 use layers::IonoState;
@@ -212,12 +212,25 @@ pub fn draw(p: Slot) -> Drawn
     }
 }
 
+// The tail's densities, in a loop of their own: what is left of a density has no call.
+pub fn tails(c: Curves, htr: [f32; 50]) -> [f32; 50]
+    ensures { λ r. ⌜ r ≡ map (fndOf c) htr ⌝ }
+{
+    let mut fnd = htr;
+    for ih in 0..50 {
+        let d = density::tail_density(c, htr[ih]);
+        fnd[ih] = d;
+    }
+    fnd
+}
+
 fn densities(c: Curves, htr: [f32; 50]) -> [f32; 50]
     ensures { λ r. ⌜ r ≡ map (densityOf c) htr ⌝ }
 {
+    let fnd = tails(c, htr);
     let mut fnsq = htr;
     for ih in 0..50 {
-        let d = density::density(c, htr[ih]);
+        let d = density::largest(density::candidates(c, fnd[ih], htr[ih]));
         fnsq[ih] = d;
     }
     fnsq

@@ -3,6 +3,7 @@
 ghost use mathlib.Core.Path.{_≡_};
 ghost use mathlib.Core.List.{map};
 ghost use Prim.Native.Nat.{_<_};
+ghost use Rattle.profile.specs.Density.{fndOf};
 ghost use Rattle.shapes.specs.Mark.{numberOf};
 ghost use Rattle.shapes.specs.Marks.{firstOf, markOf, heightMark, unmarked, marksOf};
 use layers::IonoState;
@@ -63,10 +64,11 @@ fn first(c: Candidates, density: f32) -> Mark
     Mark::F2
 }
 
-fn mark_at(c: Curves, h: f32) -> Mark
+fn mark_at(c: Curves, fnd: f32, h: f32) -> Mark
+    requires { ⌜ fnd ≡ fndOf c h ⌝ }
     ensures { λ r. ⌜ r ≡ markOf c h ⌝ }
 {
-    let shapes = profile::density::candidates(c, h);
+    let shapes = profile::density::candidates(c, fnd, h);
     let density = profile::density::largest(shapes);
     if density == 0.0 {
         return Mark::Gap;
@@ -85,9 +87,10 @@ pub fn no_marks() -> [HeightMark; 50]
 fn marks_on(c: Curves, htr: [f32; 50]) -> [HeightMark; 50]
     ensures { λ r. ⌜ r ≡ map (heightMark c) htr ⌝ }
 {
+    let fnd = profile::tails(c, htr);
     let mut marks = no_marks();
     for ih in 0..50 {
-        let mark = mark_at(c, htr[ih]);
+        let mark = mark_at(c, fnd[ih], htr[ih]);
         marks[ih] = HeightMark { mark };
     }
     marks

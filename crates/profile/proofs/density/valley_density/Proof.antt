@@ -1,19 +1,12 @@
--- Each path is the clause that its tests choose.
+-- Picked by the definition's test.
 use Rattle.profile.specs.Density.{fnvalOf}
+use borrow.Author.Needs.{needs}
 use Rattle.profile.proofs.density.valley_density.Statement.{statement}
 use Rattle.profile.proofs.density.valley_density.Tie as tie
 
 returns : tie.Need-returns
 unfolding fnvalOf
-returns c = rw (c .before .before .before .before .before .if1 .taken, c .before .before .before .if2 .taken)
-
-returns-2 : tie.Need-returns-2
-unfolding fnvalOf
-returns-2 c = rw (c .before .before .if1 .taken, c .if2 .left)
-
-returns-3 : tie.Need-returns-3
-unfolding fnvalOf
-returns-3 c = rw (c .if1 .left)
+returns c = c .pick .ensures
 
 pub valley-density-spec : {M : Type 1} → statement M
-valley-density-spec = tie.close (tie.spec returns returns-2 returns-3)
+valley-density-spec = tie.close (tie.spec (λ c κs. search needs) returns)
