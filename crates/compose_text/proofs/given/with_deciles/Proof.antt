@@ -1,12 +1,11 @@
--- Twelve words more.
+-- The cells that hold the deciles get twelve words more, and nothing else of the circuit changes.
 use lib.ListN.{length}
 use lib.Seq.{length-take-le}
 use mathlib.Core.List.{List}
 use Prim.Native.Nat.{ℕ, _+_, _≤_}
 use native.Mathlib.Omega.{arith}
 use mathlib.Core.Path.{_≡_, sym, ap}
-use Rattle.compose_text.specs.Draft.{deciled}
-use Rattle.compose_text.proofs.Cells.{withTwelve}
+use Rattle.compose_text.specs.Draft.{decilesSet, deciled}
 use borrow.Author.Needs.{needs}
 use Rattle.compose_text.proofs.given.with_deciles.Statement.{statement}
 use Rattle.compose_text.proofs.given.with_deciles.Tie as tie
@@ -16,7 +15,7 @@ slice-aggregate-put-all-2 c = let h : 12 ≤ length (c .before .before .before .
 
 returns : tie.Need-returns
 unfolding deciled
-returns c = ap (withTwelve (c .before .before .before .before .before .before .args .c)) (c .before .put-all .ensures .cells)
+returns c = ap (decilesSet (c .before .before .before .before .before .before .args .c)) (c .before .put-all .ensures .cells)
 
 pub with-deciles-spec : {M : Type 1} → statement M
 with-deciles-spec =
