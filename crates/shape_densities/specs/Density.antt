@@ -37,6 +37,7 @@ fn1Of c h =
 unfoldable pub fn2Of : Curves → Float → Float
 fn2Of c h = cond (c .hb2v -f h ≤f f0) (parabolaOf (c .fc2) (c .hi2) (c .yi2) h) f0
 
+-- the five at a height, the tail's density there given
 abbrev pub candidatesBy : Float → Curves → Float → Candidates
 candidatesBy fnd c h = record { fnd = fnd; fne = fneOf c h; fnval = fnvalOf c h; fn1 = fn1Of c h; fn2 = fn2Of c h }
 
