@@ -28,9 +28,11 @@ int main(void) {
     state[FS_STATE_IEDP] = c[1] == 0 ? UINT32_MAX : 0; /* shape 0: iedp -1 */
     if ((no = port_ionset(state, FS_STATE_WORDS))) return refused(no);
 
+    float deciles[FS_DECILES];
+    memcpy(deciles, c + FS_CIRCUIT_DECILES, sizeof deciles);
     /* gcd, gcdkm, amind, ssn are words 2 to 5 */
-    no = port_curmuf(state, FS_STATE_WORDS, es, 4 * km, c + FS_CIRCUIT_DECILES, FS_DECILES, clat, km, clck, km, c + 2, 4,
-                     hour, FS_HOUR_WORDS);
+    no = port_curmuf(state, FS_STATE_WORDS, es, 4 * km, deciles, FS_DECILES, clat, km, clck, km, c + 2, 4, hour,
+                     FS_HOUR_WORDS);
     if (no) return refused(no);
     float muf;
     memcpy(&muf, hour + FS_HOUR_ALLMUF, sizeof muf);

@@ -48,7 +48,7 @@ call(
     "port_curmuf",
     state,
     words(w for p in points for w in p[9:13]),
-    words(circuit[DECILES:]),
+    (ctypes.c_float * (CIRCUIT - DECILES)).from_buffer_copy(circuit, 4 * DECILES),
     words(p[13] for p in points),
     words(p[14] for p in points),
     words(circuit[2:6]),  # gcd, gcdkm, amind, ssn

@@ -1,11 +1,11 @@
 /* The exports of the frequency sheet, for C and whatever calls C.
  *
  * A list is a pointer and a length, in elements. An f32 crosses as its bits in a
- * u32, so that a NaN keeps its payload and -0 its sign; the scalar functions
- * alone take and give floats. Each port_ function answers 0, or the number of
- * the refusal, and then no lent cell has changed. A list lent shorter than is
- * said here, and an input list of another length, is refused with 1. Cells past
- * those that are named stay as they are.
+ * u32, so that a NaN keeps its payload and -0 its sign; floats are only the
+ * deciles and what the scalar functions take and give. Each port_ function
+ * answers 0, or the number of the refusal, and then no lent cell has changed. A
+ * list lent shorter than is said here, and an input list of another length, is
+ * refused with 1. Cells past those that are named stay as they are.
  *
  * Refusals: 1 length, 2 record 0, 3 a chain's step, 4 a chain's record, 5 count of
  * points, 6 slot or layer, 7 path for the angles, 8 angles or cells, 9 path, 10
@@ -61,12 +61,12 @@ extern "C" {
 /* The bytes to lend for the text of a sheet. */
 #define FS_TEXT_BYTES 8192
 
-/* Circuit files. A file is written into as many bytes as it takes; port_write: out 1: how
- * many those are. */
+/* Circuit files. A file is written into as many bytes as it takes; port_write and
+ * port_write128: out 1: how many those are. */
 uint32_t port_read(const uint8_t *file, size_t file_len, uint32_t *out, size_t out_len);
 uint32_t port_write(const uint32_t *words, size_t words_len, uint8_t *file, size_t file_len, uint32_t *out, size_t out_len);
 uint32_t port_read128(const uint8_t *file, size_t file_len, uint32_t *out, size_t out_len);
-uint32_t port_write128(const uint32_t *words, size_t words_len, uint8_t *file, size_t file_len);
+uint32_t port_write128(const uint32_t *words, size_t words_len, uint8_t *file, size_t file_len, uint32_t *out, size_t out_len);
 
 /* The state of an hour. points: 9 words each, fi, yi, hi. */
 uint32_t port_from_layers(const uint32_t *points, size_t points_len, uint32_t *state, size_t state_len);
@@ -86,10 +86,10 @@ uint32_t port_pen(const uint32_t *state, size_t state_len, uint32_t i, uint32_t 
 /* xn, yn: 50 words each; out 2: the value, its segment. */
 uint32_t port_xlin(uint32_t x, const uint32_t *xn, size_t xn_len, const uint32_t *yn, size_t yn_len, uint32_t *out, size_t out_len);
 
-/* MUF. numbers: fmuf, ssn, clat, freq, abb; out: the deviation. */
-uint32_t port_f2dis(const uint32_t *deciles, size_t deciles_len, const uint32_t *numbers, size_t numbers_len, uint32_t *out, size_t out_len);
+/* MUF. deciles: FS_DECILES floats; numbers: fmuf, ssn, clat, freq, abb; out: the deviation. */
+uint32_t port_f2dis(const float *deciles, size_t deciles_len, const uint32_t *numbers, size_t numbers_len, uint32_t *out, size_t out_len);
 /* es: 4 words a row, fs 3 and hs; numbers: gcd, gcdkm, amind, ssn; out: an hour. */
-uint32_t port_curmuf(uint32_t *state, size_t state_len, uint32_t *es, size_t es_len, const uint32_t *deciles, size_t deciles_len, const uint32_t *clat, size_t clat_len, const uint32_t *clck, size_t clck_len, const uint32_t *numbers, size_t numbers_len, uint32_t *out, size_t out_len);
+uint32_t port_curmuf(uint32_t *state, size_t state_len, uint32_t *es, size_t es_len, const float *deciles, size_t deciles_len, const uint32_t *clat, size_t clat_len, const uint32_t *clck, size_t clck_len, const uint32_t *numbers, size_t numbers_len, uint32_t *out, size_t out_len);
 /* points: 9 words each; f2m3: a word a point; es as above; numbers: gcd, gcdkm; out: an hour. */
 uint32_t port_nommuf(const uint32_t *points, size_t points_len, const uint32_t *f2m3, size_t f2m3_len, const uint32_t *es, size_t es_len, const uint32_t *numbers, size_t numbers_len, uint32_t *out, size_t out_len);
 

@@ -20,7 +20,7 @@ made() {
     log=$("$@" 2>&1) || { echo "$log"; exit 1; }
     echo "$log" | tail -n 1
 }
-for name in scalar_c port_circuit port_wide port_state port_heights port_muf port_nominal port_ionogram port_figures port_tariff port_totals port_traces port_mark port_text; do
+for name in scalar_c port_circuit port_wide port_layers port_heights port_muf port_nominal port_ionogram port_figures port_tariff port_totals port_traces port_mark port_text; do
     if [ -d "crates/$name" ]; then
         made rt staticlib "$name"
     else

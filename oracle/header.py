@@ -6,7 +6,7 @@ import sys
 
 ROOT = pathlib.Path(__file__).resolve().parent.parent
 PLAIN = {"u32": "uint32_t", "i32": "int32_t", "f32": "float", "usize": "size_t"}
-CELL = {"u8": "uint8_t", "u32": "uint32_t", "i32": "int32_t", "i64": "int64_t"}
+CELL = {"u8": "uint8_t", "u32": "uint32_t", "i32": "int32_t", "i64": "int64_t", "f32": "float"}
 
 
 def prototype(name, arguments, answer):

@@ -21,7 +21,7 @@ use Rattle.order.proofs.Keys.{lt-key, overflow-pos}
 use Rattle.order.proofs.Sums.{round-as, round-key, rounded-mono, finite-real}
 use Rattle.order.proofs.Tests.{nought-is, nought-key, le→keys, le-real, lt→keys, lt-real}
 use Rattle.arcs.specs.Atan.{atanBits, atanOf}
-use Rattle.waves.specs.Answers.{sinAnswer, cosAnswer}
+use Rattle.wave_answers.specs.Answers.{sinAnswer, cosAnswer}
 use Rattle.arcs.proofs.Within.{atan-within}
 use Rattle.constants.specs.Constants.{D2R, PIO2, RZ}
 use Rattle.hops.specs.Geometry.{hopRatioOf, hopsBy, hopsOf, psiOf, delOf}

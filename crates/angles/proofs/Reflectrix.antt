@@ -9,7 +9,7 @@ use lib.Ieee.Fits.{and-l, and-r}
 use Rattle.scalar.specs.F32.{_*f_, _<f_, _>f_, negf, at}
 use Rattle.scalar.specs.Literals.{f4}
 use Rattle.constants.specs.Constants.{D2R}
-use Rattle.reflectrix.specs.Angles.{ANG}
+use Rattle.scan_angles.specs.Angles.{ANG}
 use Rattle.angles.specs.Angles.{Small, FobbySmall, FobbyAnswers}
 use Rattle.angles.proofs.Angles.{cos-answers}
 

@@ -8,12 +8,12 @@ use Rattle.scalar.specs.F32.{_*f_, _/f_, _≤f_, _<f_, _>f_, negf, at}
 use Rattle.scalar.specs.Literals.{f0, f0·5, f4, f6·3, f90, f40100}
 use Rattle.scalar.specs.Scalar.{maxOf}
 use Rattle.waves.specs.SinCos.{sinOf, cosOf}
-use Rattle.waves.specs.Answers.{sinAnswer, cosAnswer}
-use Rattle.waves.specs.declared.Answer.{Answer}
+use Rattle.wave_answers.specs.Answers.{sinAnswer, cosAnswer}
+use Rattle.wave_answers.specs.declared.Answer.{Answer}
 use Rattle.constants.specs.Constants.{D2R}
 use Rattle.hops.specs.Geometry.{hopsOf, psiOf, delOf}
 use Rattle.hops.specs.declared.Hops.{Hops}
-use Rattle.reflectrix.specs.Angles.{ANG}
+use Rattle.scan_angles.specs.Angles.{ANG}
 
 -- neither below -4 nor above 4; NaN is neither
 abbrev pub Small : Float → Type 0

@@ -17,7 +17,7 @@ use Rattle.arcs.specs.Asin.{asinOf}
 use Rattle.layers.specs.declared.IonoState.{IonoState}
 use Rattle.layers.specs.declared.LayerMuf.{LayerMuf}
 use Rattle.profile.specs.Lecden.{slotAt, lecdenOf}
-use Rattle.profile.specs.declared.Slot.{Slot}
+use Rattle.slot_curves.specs.declared.Slot.{Slot}
 use Rattle.heights.specs.Gethp.{Finder}
 use Rattle.hops.specs.Geometry.{hopRatioOf, hopsBy, hopsOf, psiOf, delOf, spheOf, secpOf, hopGeometryOf, geometryBy, geometryOf}
 use Rattle.hops.specs.Rounds.{sphOf, roundOf, settledOf, stopBy, roundsOf}
@@ -118,10 +118,10 @@ module _ (w : Waves) (alike : OursWhereSmall w) where
         ap (λ (b : Round). f2BentOf f2d b (h .ht) (x .fx2) n (c .ssn) clat clck) (bent-so (l .fi2) (x .fx2) h g (λ hp. small .takeoff (h .hp) n (g .cpsi) (g .spsi) hp false e))
     f2-by (Hops.Refused r) l h x f2d clat clck e = refl
 
-    f2-so : (find : Finder) (t : IonoState) (l : Slot) (ks : ℕ) (x : Tangents) (f2d : List Float) (clat clck : Float) → f2LineOver w find t l ks x f2d clat clck c ≡ f2LineWith find t l ks x f2d clat clck c
+    f2-so : (find : Finder) (t : IonoState) (l : Slot) (x : Tangents) (f2d : List Float) (clat clck : Float) → f2LineOver w find t l x f2d clat clck c ≡ f2LineWith find t l x f2d clat clck c
     unfolding f2LineOver f2LineWith geometryOf
-    f2-so find t l ks x f2d clat clck =
-        let h = f2HeightsWith find t l ks x in
+    f2-so find t l x f2d clat clck =
+        let h = f2HeightsWith find t l x in
         ap (λ (g : Geometry). f2LineOverBy g w l h x f2d clat clck c) (geometry-so (h .hp) (h .ht) false) ∙ f2-by (hopsOf (c .gcdkm) (c .amind) (h .hp)) l h x f2d clat clck refl
 
     f1-found : (h : HeightPair) (n fc fx1 : Float) → hopsOf (c .gcdkm) (c .amind) (h .hp) ≡ Hops.Count n → f1FoundOver w (hopGeometryOf (c .gcdkm) n (h .hp) (h .ht) true) h fc fx1 ≡ f1FoundOf (hopGeometryOf (c .gcdkm) n (h .hp) (h .ht) true) h fc fx1
@@ -153,19 +153,19 @@ module _ (w : Waves) (alike : OursWhereSmall w) where
     then-so (LineAnswer.Found m) f g h = h m
     then-so (LineAnswer.Refused r) f g h = refl
 
-    regular-so : (find : Finder) (t : IonoState) (l : Slot) (ks : ℕ) (f2d : List Float) (clat clck : Float) → regularOver w find t l ks f2d clat clck c ≡ regularWith find t l ks f2d clat clck c
+    regular-so : (find : Finder) (t : IonoState) (l : Slot) (f2d : List Float) (clat clck : Float) → regularOver w find t l f2d clat clck c ≡ regularWith find t l f2d clat clck c
     unfolding regularOver regularWith
-    regular-so find t l ks f2d clat clck =
+    regular-so find t l f2d clat clck =
         let x = tangentsOf l (c .gcdkm) in
         let whole : LayerMuf → LayerMuf → LayerMuf → RegularAnswer = λ e f2 f1. RegularAnswer.Found (record { e = e; f1 = f1; f2 = f2 }) in
         let last : LayerMuf → LayerMuf → RegularAnswer = λ e f2. foundThen (f1LineWith find t l (x .fx1) e (c .gcdkm) (c .amind)) (whole e f2) in
         let lastOver : LayerMuf → LayerMuf → RegularAnswer = λ e f2. foundThen (f1LineOver w find t l (x .fx1) e (c .gcdkm) (c .amind)) (whole e f2) in
-        let next : LayerMuf → RegularAnswer = λ e. foundThen (f2LineWith find t l ks x f2d clat clck c) (last e) in
-        let nextOver : LayerMuf → RegularAnswer = λ e. foundThen (f2LineOver w find t l ks x f2d clat clck c) (lastOver e) in
+        let next : LayerMuf → RegularAnswer = λ e. foundThen (f2LineWith find t l x f2d clat clck c) (last e) in
+        let nextOver : LayerMuf → RegularAnswer = λ e. foundThen (f2LineOver w find t l x f2d clat clck c) (lastOver e) in
         ap (λ (a : LineAnswer). foundThen a nextOver) (e-so find t (x .fxe))
         ∙ then-so (eLineWith find t (x .fxe) (c .gcdkm) (c .amind)) nextOver next
-        (λ (e : LayerMuf). ap (λ (a : LineAnswer). foundThen a (lastOver e)) (f2-so find t l ks x f2d clat clck)
-        ∙ then-so (f2LineWith find t l ks x f2d clat clck c) (lastOver e) (last e)
+        (λ (e : LayerMuf). ap (λ (a : LineAnswer). foundThen a (lastOver e)) (f2-so find t l x f2d clat clck)
+        ∙ then-so (f2LineWith find t l x f2d clat clck c) (lastOver e) (last e)
         (λ (f2 : LayerMuf). ap (λ (a : LineAnswer). foundThen a (whole e f2)) (f1-so find t l (x .fx1) e)))
 
     -- ---- Es
@@ -207,7 +207,7 @@ module _ (w : Waves) (alike : OursWhereSmall w) where
     slot-so find s ks step f2d clat clck =
         let t = lecdenOf s ks in
         let l = slotAt t ks in
-        ap (λ (x : RegularAnswer). regularBy x s t l ks step) (regular-so find t l ks f2d clat clck)
+        ap (λ (x : RegularAnswer). regularBy x s t l ks step) (regular-so find t l f2d clat clck)
 
   -- where it is refused 9 nothing is looked at
   and-both : (a b : Bool) → (a && b) ≡ true → (a ≡ true) × (b ≡ true)

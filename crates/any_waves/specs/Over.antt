@@ -16,7 +16,7 @@ use Rattle.refusal.specs.declared.Refusal.{Refusal}
 use Rattle.layers.specs.declared.IonoState.{IonoState}
 use Rattle.layers.specs.declared.LayerMuf.{LayerMuf}
 use Rattle.profile.specs.Lecden.{slotAt, lecdenOf}
-use Rattle.profile.specs.declared.Slot.{Slot}
+use Rattle.slot_curves.specs.declared.Slot.{Slot}
 use Rattle.heights.specs.Gethp.{Finder}
 use Rattle.hops.specs.Geometry.{hopsBy, psiOf, delOf, secpOf}
 use Rattle.hops.specs.Rounds.{sphOf, settledOf, stopBy}
@@ -105,9 +105,9 @@ abbrev pub f2LineOverBy : Geometry → Waves → Slot → HeightPair → Tangent
 f2LineOverBy (Geometry.Found g) w l h x f2d clat clck c = f2BentOf f2d (bentOver w (l .fi2) (x .fx2) h g) (h .ht) (x .fx2) (g .xhops) (c .ssn) clat clck
 f2LineOverBy (Geometry.Refused r) w l h x f2d clat clck c = LineAnswer.Refused r
 
-unfoldable pub f2LineOver : Waves → Finder → IonoState → Slot → ℕ → Tangents → List Float → Float → Float → PathNumbers → LineAnswer
-f2LineOver w find t l ks x f2d clat clck c =
-    let h = f2HeightsWith find t l ks x in
+unfoldable pub f2LineOver : Waves → Finder → IonoState → Slot → Tangents → List Float → Float → Float → PathNumbers → LineAnswer
+f2LineOver w find t l x f2d clat clck c =
+    let h = f2HeightsWith find t l x in
     f2LineOverBy (geometryOver w (c .gcdkm) (c .amind) (h .hp) (h .ht) false) w l h x f2d clat clck c
 
 unfoldable pub f1FoundOver : Waves → HopGeometry → HeightPair → Float → Float → LayerMuf
@@ -130,11 +130,11 @@ f1LineOverBy false w find t l fx1 e gcdkm amind = f1OwnOver w find t (l .fi1) fx
 unfoldable pub f1LineOver : Waves → Finder → IonoState → Slot → Float → LayerMuf → Float → Float → LineAnswer
 f1LineOver w find t l fx1 e gcdkm amind = f1LineOverBy (l .fi1 ≤f f0) w find t l fx1 e gcdkm amind
 
-unfoldable pub regularOver : Waves → Finder → IonoState → Slot → ℕ → List Float → Float → Float → PathNumbers → RegularAnswer
-regularOver w find t l ks f2d clat clck c =
+unfoldable pub regularOver : Waves → Finder → IonoState → Slot → List Float → Float → Float → PathNumbers → RegularAnswer
+regularOver w find t l f2d clat clck c =
     let x = tangentsOf l (c .gcdkm) in
     foundThen (eLineOver w find t (x .fxe) (c .gcdkm) (c .amind))
-    (λ e. foundThen (f2LineOver w find t l ks x f2d clat clck c)
+    (λ e. foundThen (f2LineOver w find t l x f2d clat clck c)
     (λ f2. foundThen (f1LineOver w find t l (x .fx1) e (c .gcdkm) (c .amind))
     (λ f1. RegularAnswer.Found (record { e = e; f1 = f1; f2 = f2 }))))
 
@@ -170,7 +170,7 @@ unfoldable pub mufAtSlotOver : Waves → Finder → IonoState → ℕ → EsStep
 mufAtSlotOver w find s ks step f2d clat clck c =
     let t = lecdenOf s ks in
     let l = slotAt t ks in
-    regularBy (regularOver w find t l ks f2d clat clck c) s t l ks step
+    regularBy (regularOver w find t l f2d clat clck c) s t l ks step
 
 abbrev pub mufFromSearchOverBy : Bool → Bool → Waves → Finder → IonoState → EsStep → List Float → List Float → List Float → PathNumbers → AnswerAndRow
 mufFromSearchOverBy true true w find s step f2d clat clck c = let ks = controllingOf s in mufAtSlotOver w find s ks step f2d (at clat ks) (at clck ks) c

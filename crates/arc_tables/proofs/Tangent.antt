@@ -119,47 +119,49 @@ module _ (m x₀ y₀ A B C S a₂ a₃ σ κ f g D c n R : ℕ) (b : 0 < B) (T 
       go : (B D : ℕ) → 0 < B → D ≤ B * D
       go B D b = omega (arith, mul-le-mul-right D b)
 
-  joined : Enc4 (A + (σ + g)) B (64 * B * B)
-      ((a₂ + C) * (κ + f) + (a₃ + S) * g + a₂ * f + a₃ * (σ + g))
-      ((a₂ + C) * (σ + g) + (a₃ + S) * (κ + f) + a₂ * g + a₃ * f)
-      ((a₂ + C) * f + (a₃ + S) * (σ + g) + a₂ * (κ + f) + a₃ * g)
-      ((a₂ + C) * g + (a₃ + S) * f + a₂ * (σ + g) + a₃ * (κ + f))
-      ((a₂ + C + 2) * (κ + f + D) + (a₃ + S + 2) * (g + D) + (a₂ + 2) * (f + D) + (a₃ + 2) * (σ + g + D))
-      ((a₂ + C + 2) * (σ + g + D) + (a₃ + S + 2) * (κ + f + D) + (a₂ + 2) * (g + D) + (a₃ + 2) * (f + D))
-      ((a₂ + C + 2) * (f + D) + (a₃ + S + 2) * (σ + g + D) + (a₂ + 2) * (κ + f + D) + (a₃ + 2) * (g + D))
-      ((a₂ + C + 2) * (g + D) + (a₃ + S + 2) * (f + D) + (a₂ + 2) * (σ + g + D) + (a₃ + 2) * (κ + f + D))
+  -- the classes of the sum, from below and from above, and their widths
+  abbrev l₀ : ℕ
+  l₀ = (a₂ + C) * (κ + f) + (a₃ + S) * g + a₂ * f + a₃ * (σ + g)
+
+  abbrev l₁ : ℕ
+  l₁ = (a₂ + C) * (σ + g) + (a₃ + S) * (κ + f) + a₂ * g + a₃ * f
+
+  abbrev l₂ : ℕ
+  l₂ = (a₂ + C) * f + (a₃ + S) * (σ + g) + a₂ * (κ + f) + a₃ * g
+
+  abbrev l₃ : ℕ
+  l₃ = (a₂ + C) * g + (a₃ + S) * f + a₂ * (σ + g) + a₃ * (κ + f)
+
+  abbrev h₀ : ℕ
+  h₀ = (a₂ + C + 2) * (κ + f + D) + (a₃ + S + 2) * (g + D) + (a₂ + 2) * (f + D) + (a₃ + 2) * (σ + g + D)
+
+  abbrev h₁ : ℕ
+  h₁ = (a₂ + C + 2) * (σ + g + D) + (a₃ + S + 2) * (κ + f + D) + (a₂ + 2) * (g + D) + (a₃ + 2) * (f + D)
+
+  abbrev h₂ : ℕ
+  h₂ = (a₂ + C + 2) * (f + D) + (a₃ + S + 2) * (σ + g + D) + (a₂ + 2) * (κ + f + D) + (a₃ + 2) * (g + D)
+
+  abbrev h₃ : ℕ
+  h₃ = (a₂ + C + 2) * (g + D) + (a₃ + S + 2) * (f + D) + (a₂ + 2) * (σ + g + D) + (a₃ + 2) * (κ + f + D)
+
+  abbrev err : ℕ
+  err = Err a₂ a₃ C S σ κ f g D
+
+  joined : Enc4 (A + (σ + g)) B (64 * B * B) l₀ l₁ l₂ l₃ h₀ h₁ h₂ h₃
   joined = plus A (σ + g) B (64 * B) (a₂ + C) (a₃ + S) a₂ a₃ (a₂ + C + 2) (a₃ + S + 2) (a₂ + 2) (a₃ + 2) B (κ + f) (σ + g) f g (κ + f + D) (σ + g + D) (f + D) (g + D) b (T .enc) W
 
   -- tan (A + w) is at most n / c
   pub tan-le : (σ + (2571 + 33 * D)) * (x₀ * c + y₀ * n) ≤ κ * R → SinLe (A + (σ + g)) B n c
   tan-le h =
-      sin-le (A + (σ + g)) B (64 * B * B)
-      ((a₂ + C) * (κ + f) + (a₃ + S) * g + a₂ * f + a₃ * (σ + g))
-      ((a₂ + C) * (σ + g) + (a₃ + S) * (κ + f) + a₂ * g + a₃ * f)
-      ((a₂ + C) * f + (a₃ + S) * (σ + g) + a₂ * (κ + f) + a₃ * g)
-      ((a₂ + C) * g + (a₃ + S) * f + a₂ * (σ + g) + a₃ * (κ + f))
-      ((a₂ + C + 2) * (κ + f + D) + (a₃ + S + 2) * (g + D) + (a₂ + 2) * (f + D) + (a₃ + 2) * (σ + g + D))
-      ((a₂ + C + 2) * (σ + g + D) + (a₃ + S + 2) * (κ + f + D) + (a₂ + 2) * (g + D) + (a₃ + 2) * (f + D))
-      ((a₂ + C + 2) * (f + D) + (a₃ + S + 2) * (σ + g + D) + (a₂ + 2) * (κ + f + D) + (a₃ + 2) * (g + D))
-      ((a₂ + C + 2) * (g + D) + (a₃ + S + 2) * (f + D) + (a₂ + 2) * (σ + g + D) + (a₃ + 2) * (κ + f + D))
-      b (mul-pos (mul-pos (omega arith) b) b) joined n c
-      (close-le ((a₂ + C + 2) * (σ + g + D) + (a₃ + S + 2) * (κ + f + D) + (a₂ + 2) * (g + D) + (a₃ + 2) * (f + D)) ((a₂ + C + 2) * (f + D) + (a₃ + S + 2) * (σ + g + D) + (a₂ + 2) * (κ + f + D) + (a₃ + 2) * (g + D)) ((a₂ + C) * g + (a₃ + S) * f + a₂ * (σ + g) + a₃ * (κ + f)) ((a₂ + C) * (κ + f) + (a₃ + S) * g + a₂ * f + a₃ * (σ + g)) (C * σ + S * κ) (C * κ) (S * σ) (Err a₂ a₃ C S σ κ f g D) c n (eq-1 a₂ a₃ C S σ κ f g D) (eq-2 a₂ a₃ C S σ κ f g D)
-      (slope-le x₀ y₀ C S σ κ c n R (Err a₂ a₃ C S σ κ f g D) (80 * (x₀ + y₀)) (T .left-pos) eR (T .slope-low)
-      (room-le C (x₀ * c + y₀ * n) σ κ R (2571 + 33 * D) (80 * (x₀ + y₀) * (κ * c + σ * n) + x₀ * ((c + n) * (Err a₂ a₃ C S σ κ f g D))) h error)))
+      sin-le (A + (σ + g)) B (64 * B * B) l₀ l₁ l₂ l₃ h₀ h₁ h₂ h₃ b (mul-pos (mul-pos (omega arith) b) b) joined n c
+      (close-le h₁ h₂ l₃ l₀ (C * σ + S * κ) (C * κ) (S * σ) err c n (eq-1 a₂ a₃ C S σ κ f g D) (eq-2 a₂ a₃ C S σ κ f g D)
+      (slope-le x₀ y₀ C S σ κ c n R err (80 * (x₀ + y₀)) (T .left-pos) eR (T .slope-low)
+      (room-le C (x₀ * c + y₀ * n) σ κ R (2571 + 33 * D) (80 * (x₀ + y₀) * (κ * c + σ * n) + x₀ * ((c + n) * err)) h error)))
 
   -- and at least
   pub tan-ge : κ * R + (2571 + 33 * D) * (x₀ * c + y₀ * n) ≤ σ * (x₀ * c + y₀ * n) → SinGe (A + (σ + g)) B n c
   tan-ge h =
-      sin-ge (A + (σ + g)) B (64 * B * B)
-      ((a₂ + C) * (κ + f) + (a₃ + S) * g + a₂ * f + a₃ * (σ + g))
-      ((a₂ + C) * (σ + g) + (a₃ + S) * (κ + f) + a₂ * g + a₃ * f)
-      ((a₂ + C) * f + (a₃ + S) * (σ + g) + a₂ * (κ + f) + a₃ * g)
-      ((a₂ + C) * g + (a₃ + S) * f + a₂ * (σ + g) + a₃ * (κ + f))
-      ((a₂ + C + 2) * (κ + f + D) + (a₃ + S + 2) * (g + D) + (a₂ + 2) * (f + D) + (a₃ + 2) * (σ + g + D))
-      ((a₂ + C + 2) * (σ + g + D) + (a₃ + S + 2) * (κ + f + D) + (a₂ + 2) * (g + D) + (a₃ + 2) * (f + D))
-      ((a₂ + C + 2) * (f + D) + (a₃ + S + 2) * (σ + g + D) + (a₂ + 2) * (κ + f + D) + (a₃ + 2) * (g + D))
-      ((a₂ + C + 2) * (g + D) + (a₃ + S + 2) * (f + D) + (a₂ + 2) * (σ + g + D) + (a₃ + 2) * (κ + f + D))
-      b (mul-pos (mul-pos (omega arith) b) b) joined n c
-      (close-ge ((a₂ + C + 2) * (g + D) + (a₃ + S + 2) * (f + D) + (a₂ + 2) * (σ + g + D) + (a₃ + 2) * (κ + f + D)) ((a₂ + C + 2) * (κ + f + D) + (a₃ + S + 2) * (g + D) + (a₂ + 2) * (f + D) + (a₃ + 2) * (σ + g + D)) ((a₂ + C) * (σ + g) + (a₃ + S) * (κ + f) + a₂ * g + a₃ * f) ((a₂ + C) * f + (a₃ + S) * (σ + g) + a₂ * (κ + f) + a₃ * g) (C * σ + S * κ) (C * κ) (S * σ) (Err a₂ a₃ C S σ κ f g D) c n (eq-3 a₂ a₃ C S σ κ f g D) (eq-0 a₂ a₃ C S σ κ f g D)
-      (slope-ge x₀ y₀ C S σ κ c n R (Err a₂ a₃ C S σ κ f g D) (80 * (x₀ + y₀)) (T .left-pos) eR (T .slope-high)
-      (room-ge C (x₀ * c + y₀ * n) σ κ R (2571 + 33 * D) (80 * (x₀ + y₀) * (κ * c + σ * n) + x₀ * ((c + n) * (Err a₂ a₃ C S σ κ f g D))) h error)))
+      sin-ge (A + (σ + g)) B (64 * B * B) l₀ l₁ l₂ l₃ h₀ h₁ h₂ h₃ b (mul-pos (mul-pos (omega arith) b) b) joined n c
+      (close-ge h₃ h₀ l₁ l₂ (C * σ + S * κ) (C * κ) (S * σ) err c n (eq-3 a₂ a₃ C S σ κ f g D) (eq-0 a₂ a₃ C S σ κ f g D)
+      (slope-ge x₀ y₀ C S σ κ c n R err (80 * (x₀ + y₀)) (T .left-pos) eR (T .slope-high)
+      (room-ge C (x₀ * c + y₀ * n) σ κ R (2571 + 33 * D) (80 * (x₀ + y₀) * (κ * c + σ * n) + x₀ * ((c + n) * err)) h error)))

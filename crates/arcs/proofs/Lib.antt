@@ -10,3 +10,4 @@ pub mod AsinBits
 pub mod AtanMost
 pub mod Within
 pub mod Special
+mod Signed

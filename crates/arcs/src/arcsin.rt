@@ -16,8 +16,8 @@ fn sixth(s: u64) -> u64
     requires { ⌜ s < 2 ^ 50 ⌝ }
     ensures { λ r. ⌜ r ≡ sixthOf s ⌝ }
 {
-    let t = s / 16777216;
-    t * t / 1048576 * t / 1048576 / 6
+    let t = s / 0x100_0000;
+    t * t / 0x10_0000 * t / 0x10_0000 / 6
 }
 
 // the angle a, and the small one whose sine is s * 2^-56
@@ -74,7 +74,7 @@ fn rest_of_square(n: u64) -> u64
     requires { ⌜ n < 2 ^ 32 ⌝ }
     ensures { λ r. ⌜ (r ≡ 2 ^ 64 - 1 - n * n) × (0 < r) ⌝ }
 {
-    18446744073709551615 - n * n
+    0xffff_ffff_ffff_ffff - n * n
 }
 
 // the cosine to the sine n
@@ -101,7 +101,7 @@ fn chord(i: usize, x: u64, e: u64) -> u64
     requires { ⌜ (1 ≤ i) × (i ≤ 181) × (x ≡ getD cosines i 0) × (2 ^ 16 ≤ e) × (e ≤ 2 ^ 24 + 2 ^ 16) ⌝ }
     ensures { λ r. ⌜ (0 < r) × (r ≤ 2 ^ 32) × (2 ^ 32 ≤ r + (i * 2 ^ 24 + e)) ⌝ }
 {
-    x - (x - node_cosine(i + 1)) * e / 16777216
+    x - (x - node_cosine(i + 1)) * e / 0x100_0000
 }
 
 // the angle with the sine n up to the root of 1/2
@@ -109,8 +109,8 @@ fn gentle_arc(n: u64) -> u64
     requires { ⌜ (2 ^ 25 ≤ n) × (n ≤ 3037000499) ⌝ }
     ensures { λ r. ⌜ r ≡ gentleArc n (cosineOf n) ⌝ }
 {
-    let i = (n - 65536) / 16777216;
-    let y = i * 16777216;
+    let i = (n - 0x1_0000) / 0x100_0000;
+    let y = i * 0x100_0000;
     let x = node_cosine(i as usize);
     let c = near_cosine(n, chord(i as usize, x, n - y));
     arc_sum(node_angle(i as usize), (x * n - y * c) / 256)
@@ -122,11 +122,11 @@ fn steep_arc(n: u64) -> u64
     ensures { λ r. ⌜ r ≡ steepArc n (cosineOf n) ⌝ }
 {
     let c = cosine(n);
-    let j = (c + 65536) / 16777216 + 1;
+    let j = (c + 0x1_0000) / 0x100_0000 + 1;
     let y = node_cosine(j as usize);
     arc_sum(
         113187804032455044 - node_angle(j as usize),
-        (j * 16777216 * n - y * c) / 256,
+        (j * 0x100_0000 * n - y * c) / 256,
     )
 }
 
@@ -163,8 +163,8 @@ fn asin_mag(a: u32) -> u64
 pub fn asin_bits(b: u32) -> u32
     ensures { λ r. ⌜ r ≡ asinBits b ⌝ }
 {
-    let a = b % 2147483648;
-    let t = b / 2147483648 * 2147483648;
+    let a = b % 0x8000_0000;
+    let t = b / 0x8000_0000 * 0x8000_0000;
     if a < 0x39800000 {
         return b;
     }

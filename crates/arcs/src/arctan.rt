@@ -23,8 +23,8 @@ fn quotient(n: u64, d: u64) -> u64
     requires { ⌜ (n < 2 ^ 31) × (2 ^ 25 ≤ d) × (d ≤ 2 ^ 38) ⌝ }
     ensures { λ r. ⌜ r ≡ n * 2 ^ 56 / d ⌝ }
 {
-    let m = n * 1073741824;
-    (m / d) * 67108864 + (m % d) * 67108864 / d
+    let m = n * 0x4000_0000;
+    (m / d) * 0x400_0000 + (m % d) * 0x400_0000 / d
 }
 
 // the angle a, and the small one whose tangent is q * 2^-56
@@ -49,8 +49,8 @@ fn mid_angle(a: u32) -> u64
     ensures { λ r. ⌜ r ≡ midAngle a ⌝ }
 {
     let x = scaled(a, 120);
-    let i = (128 * x - 1048576) / 1073741824;
-    let q = quotient(128 * x - i * 1073741824, 137438953472 + i * x);
+    let i = (128 * x - 0x10_0000) / 0x4000_0000;
+    let q = quotient(128 * x - i * 0x4000_0000, 0x20_0000_0000 + i * x);
     angle_sum(gentle_angle(i as usize), q)
 }
 
@@ -59,9 +59,9 @@ fn high_angle(a: u32) -> u64
     requires { ⌜ (0x3f80_0000 ≤ a) × (a < 0x4c80_0000) ⌝ }
     ensures { λ r. ⌜ r ≡ highAngle a ⌝ }
 {
-    let n = 4 * ((8388608 + a % 8388608) as u64);
-    let e = power(152 - a / 8388608);
-    let i = (128 * e + 65536) / n;
+    let n = 4 * ((0x80_0000 + a % 0x80_0000) as u64);
+    let e = power(152 - a / 0x80_0000);
+    let i = (128 * e + 0x1_0000) / n;
     let j = i + 1;
     let q = quotient(n * j - 128 * e, e * j + 128 * n);
     angle_sum(steep_angle(i as usize), q)
@@ -84,8 +84,8 @@ fn atan_mag(a: u32) -> u64
 pub fn atan_bits(b: u32) -> u32
     ensures { λ r. ⌜ r ≡ atanBits b ⌝ }
 {
-    let a = b % 2147483648;
-    let t = b / 2147483648 * 2147483648;
+    let a = b % 0x8000_0000;
+    let t = b / 0x8000_0000 * 0x8000_0000;
     if a < 0x39800000 {
         return b;
     }

@@ -14,20 +14,21 @@ use Rattle.layers.specs.State.{profileOnly}
 use Rattle.layers.specs.declared.IonoState.{IonoState}
 use Rattle.layers.specs.declared.LayerMuf.{LayerMuf}
 use Rattle.profile.specs.Lecden.{slotAt}
-use Rattle.profile.specs.declared.Slot.{Slot}
+use Rattle.slot_curves.specs.declared.Slot.{Slot}
 use Rattle.heights.specs.Gethp.{Finder, gethpOf}
 use Rattle.parabolas.specs.Bendy.{bendyOf, penOf}
 use Rattle.heights.proofs.Finders.{FindAlike}
 use Rattle.readings.specs.Scan.{unsearched}
 use Rattle.reflectrix.specs.declared.Ionogram.{Ionogram}
-use Rattle.sounding.specs.Genion.{HTE, HPE, rowsOf, trueByProfile, segmentByProfile, virtualByParabola, virtualBy, made, rowsBy, fvertAt, rowsWith, genionWith}
+use Rattle.sounding_rows.specs.Rows.{HTE, HPE, rowsOf, trueByProfile, segmentByProfile, virtualByParabola, virtualBy, made, rowsBy, rowsWith}
+use Rattle.sounding.specs.Genion.{fvertAt, genionWith}
 use Rattle.sounding.proofs.Ways.{rows-agree}
 use Rattle.losses.specs.Alosfv.{eRows, lineAt, aboveBy, aboveOf, notBelowZeros, withAfac, alosfvOf}
 use Rattle.losses.specs.declared.Factors.{Factors}
 use Rattle.losses.specs.declared.Decay.{Decay}
 use Rattle.hops.specs.Geometry.{geometryOf}
 use Rattle.layer_mufs.specs.Tangents.{tangentsOf}
-use Rattle.layer_mufs.specs.Lines.{readWith, eHeightsBy, eHeightsWith, eLineBy, eLineWith, parabolicOf, f2HeightsBy, f2HeightsWith, f2LineBy, f2LineWith, f1OwnBy, f1OwnWith, f1LineBy, f1LineWith}
+use Rattle.layer_mufs.specs.Lines.{readWith, eHeightsBy, eHeightsWith, eLineBy, eLineWith, f2HeightsBy, f2HeightsWith, f2LineBy, f2LineWith, f1OwnBy, f1OwnWith, f1LineBy, f1LineWith}
 use Rattle.layer_mufs.specs.declared.PathNumbers.{PathNumbers}
 use Rattle.layer_mufs.specs.declared.Tangents.{Tangents}
 use Rattle.layer_mufs.specs.declared.HeightPair.{HeightPair}
@@ -160,10 +161,6 @@ shape-same : (u v : IonoState) (k : ℕ) → Alike u v k → profileOnly u ≡ p
 unfolding profileOnly
 shape-same u v k a = rw (a .iedp-same)
 
-parabolic-same : (u v : IonoState) (k : ℕ) → Alike u v k → (l : Slot) (x : Tangents) → parabolicOf u l k x ≡ parabolicOf v l k x
-unfolding parabolicOf
-parabolic-same u v k a l x = rw (bendy-same u v k a (x .fx2), pen-same u v k a (x .fx2))
-
 module _ (find other : Finder) (u v : IonoState) (k : ℕ) (a : Alike u v k) (found : FindAlike find u other v) where
   read-same : (f : Float) → readWith find u f ≡ readWith other v f
   read-same f = rw (found f .0, found f .1)
@@ -178,16 +175,16 @@ module _ (find other : Finder) (u v : IonoState) (k : ℕ) (a : Alike u v k) (fo
       ap (λ (h : HeightPair). eLineBy (geometryOf gcdkm amind (h .hp) (h .ht) true) h fxe)
       (e-heights-by (profileOnly u) fxe ∙ ap (λ (b : Bool). eHeightsBy b other v fxe) (shape-same u v k a))
 
-  f2-heights-by : (b f1 : Bool) (l : Slot) (x : Tangents) → f2HeightsBy b f1 find u l k x ≡ f2HeightsBy b f1 other v l k x
+  f2-heights-by : (b f1 : Bool) (l : Slot) (x : Tangents) → f2HeightsBy b f1 find u l x ≡ f2HeightsBy b f1 other v l x
   f2-heights-by true f1 l x = read-same (x .fx2)
   f2-heights-by false true l x = read-same (x .fx2)
-  f2-heights-by false false l x = parabolic-same u v k a l x
+  f2-heights-by false false l x = refl
 
-  f2-line-same : (l : Slot) (x : Tangents) (f2d : List Float) (clat clck : Float) (c : PathNumbers) → f2LineWith find u l k x f2d clat clck c ≡ f2LineWith other v l k x f2d clat clck c
+  f2-line-same : (l : Slot) (x : Tangents) (f2d : List Float) (clat clck : Float) (c : PathNumbers) → f2LineWith find u l x f2d clat clck c ≡ f2LineWith other v l x f2d clat clck c
   unfolding f2LineWith f2HeightsWith
   f2-line-same l x f2d clat clck c =
       ap (λ (h : HeightPair). f2LineBy (geometryOf (c .gcdkm) (c .amind) (h .hp) (h .ht) false) l h x f2d clat clck c)
-      (f2-heights-by (profileOnly u) (l .fi1 >f f0) l x ∙ ap (λ (b : Bool). f2HeightsBy b (l .fi1 >f f0) other v l k x) (shape-same u v k a))
+      (f2-heights-by (profileOnly u) (l .fi1 >f f0) l x ∙ ap (λ (b : Bool). f2HeightsBy b (l .fi1 >f f0) other v l x) (shape-same u v k a))
 
   f1-line-by : (b : Bool) (l : Slot) (fx1 : Float) (e : LayerMuf) (gcdkm amind : Float) → f1LineBy b find u l fx1 e gcdkm amind ≡ f1LineBy b other v l fx1 e gcdkm amind
   unfolding f1OwnWith
@@ -203,15 +200,15 @@ module _ (find other : Finder) (u v : IonoState) (k : ℕ) (a : Alike u v k) (fo
   then-same (LineAnswer.Found m) f g h = h m
   then-same (LineAnswer.Refused r) f g h = refl
 
-  pub three-same : (l : Slot) (f2d : List Float) (clat clck : Float) (c : PathNumbers) → regularWith find u l k f2d clat clck c ≡ regularWith other v l k f2d clat clck c
+  pub three-same : (l : Slot) (f2d : List Float) (clat clck : Float) (c : PathNumbers) → regularWith find u l f2d clat clck c ≡ regularWith other v l f2d clat clck c
   unfolding regularWith
   three-same l f2d clat clck c =
       let x = tangentsOf l (c .gcdkm) in
       let whole : LayerMuf → LayerMuf → LayerMuf → RegularAnswer = λ e f2 f1. RegularAnswer.Found (record { e = e; f1 = f1; f2 = f2 }) in
       let last : Finder → IonoState → LayerMuf → LayerMuf → RegularAnswer = λ w t e f2. foundThen (f1LineWith w t l (x .fx1) e (c .gcdkm) (c .amind)) (whole e f2) in
-      let next : Finder → IonoState → LayerMuf → RegularAnswer = λ w t e. foundThen (f2LineWith w t l k x f2d clat clck c) (last w t e) in
+      let next : Finder → IonoState → LayerMuf → RegularAnswer = λ w t e. foundThen (f2LineWith w t l x f2d clat clck c) (last w t e) in
       ap (λ (y : LineAnswer). foundThen y (next find u)) (e-line-same (x .fxe) (c .gcdkm) (c .amind))
       ∙ then-same (eLineWith other v (x .fxe) (c .gcdkm) (c .amind)) (next find u) (next other v)
       (λ (e : LayerMuf). ap (λ (y : LineAnswer). foundThen y (last find u e)) (f2-line-same l x f2d clat clck c)
-      ∙ then-same (f2LineWith other v l k x f2d clat clck c) (last find u e) (last other v e)
+      ∙ then-same (f2LineWith other v l x f2d clat clck c) (last find u e) (last other v e)
       (λ (f2 : LayerMuf). ap (λ (y : LineAnswer). foundThen y (whole e f2)) (f1-line-same l (x .fx1) e (c .gcdkm) (c .amind))))

@@ -19,7 +19,7 @@ use Rattle.layers.specs.declared.IonoState.{IonoState}
 use Rattle.layers.specs.declared.LayerMuf.{LayerMuf}
 use Rattle.profile.specs.Lecden.{slotAt, suppliedOf, lecdenOf}
 use Rattle.shapes.specs.Marks.{marksOf}
-use Rattle.profile.specs.declared.Slot.{Slot}
+use Rattle.slot_curves.specs.declared.Slot.{Slot}
 use Rattle.heights.specs.Gethp.{Finder, gethpOf}
 use Rattle.heights.specs.declared.Heights.{Heights}
 use Rattle.heights.proofs.Finders.{FindAlike, Agree}
@@ -107,10 +107,10 @@ slot-follows : (find : Finder) (s t : IonoState) (k : ℕ) (step : EsStep) (f2d 
 unfolding mufAtSlotWith
 slot-follows find s t k step f2d clat clck c agree a =
     let l = slotAt (lecdenOf s k) k in
-    let three = regularWith gethpOf (lecdenOf s k) l k f2d clat clck c in
+    let three = regularWith gethpOf (lecdenOf s k) l f2d clat clck c in
     let whole : RegularAnswer → Slot → AnswerAndRow = λ x m. regularBy x t (lecdenOf t k) m k step in
-    let e : whole (regularWith find (lecdenOf t k) (slotAt (lecdenOf t k) k) k f2d clat clck c) (slotAt (lecdenOf t k) k) ≡ whole three l =
-    ap (λ (m : Slot). whole (regularWith find (lecdenOf t k) m k f2d clat clck c) m) (a .slot-same)
+    let e : whole (regularWith find (lecdenOf t k) (slotAt (lecdenOf t k) k) f2d clat clck c) (slotAt (lecdenOf t k) k) ≡ whole three l =
+    ap (λ (m : Slot). whole (regularWith find (lecdenOf t k) m f2d clat clck c) m) (a .slot-same)
     ∙ ap (λ (x : RegularAnswer). whole x l) (three-same find gethpOf (lecdenOf t k) (lecdenOf s k) k a (found-alike find s t k agree a) l f2d clat clck c) in
     subst (λ (d : AnswerAndRow). Follows d (regularBy three s (lecdenOf s k) l k step) t k) (sym e) (three-follows three s t l k step)
 

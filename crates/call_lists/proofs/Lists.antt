@@ -7,7 +7,7 @@ use Prim.Native.Nat.{ℕ}
 use borrow.Author.Tests.{eqb-true, eqb-false}
 use Rattle.layers.specs.declared.IonoState.{IonoState}
 use Rattle.layers.specs.Owners.{ownerOf}
-use Rattle.layers.specs.Ionset.{ionsetOf}
+use Rattle.slots.specs.Ionset.{ionsetOf}
 use Rattle.profile.specs.Lecden.{slotAt, lecdenOf}
 use Rattle.profile.proofs.Owns.{lecden-owner}
 use Rattle.heights.specs.Gethp.{Finder, gethpOf, gethpScanOf}

@@ -13,17 +13,18 @@ use Rattle.scalar.specs.Scalar.{orSecond, minOf, maxOf}
 use Rattle.scalar.specs.Root.{sqrtOf}
 use Rattle.layers.specs.State.{withKfx}
 use Rattle.layers.specs.Owners.{disowned}
-use Rattle.layers.proofs.OwnersLeft.{disowned-only}
-use Rattle.layers.specs.FromLayers.{countTaken}
-use Rattle.layers.specs.Ionset.{layerFrom, twoSlots, threeSlots, assignedBy, assignedOf, tooClose, f1KeptBy, f1Settled, f2Settled, slotSettled, slotsSettled, ionsetBy, ionsetOf}
-use Rattle.layers.specs.Ionset as ionset
+use Rattle.slots.proofs.OwnersLeft.{disowned-only}
+use Rattle.layer_rules.specs.Rules.{countTaken, tooClose}
+use Rattle.slots.specs.Ionset.{layerFrom, twoSlots, threeSlots, assignedBy, assignedOf, f1KeptBy, f1Settled, f2Settled, slotSettled, slotsSettled, ionsetBy, ionsetOf}
+use Rattle.slots.specs.Ionset as ionset
 use Rattle.layers.specs.declared.IonoState.{IonoState}
-use Rattle.profile.specs.Lecden.{slotAt, slotWritten, tailOf, suppliedOf, lecdenBy, lecdenOf}
-use Rattle.profile.specs.F1.{valleyOf, f1Of, reshapedOf}
-use Rattle.profile.specs.Grid.{filled, lowerOf, f2OnlyOf, upperBy, upperOf, heightsOf}
-use Rattle.profile.specs.declared.Slot.{Slot}
-use Rattle.profile.specs.declared.Valley.{Valley}
-use Rattle.profile.specs.declared.F1Shape.{F1Shape}
+use Rattle.slot_curves.specs.Draw.{tailOf}
+use Rattle.profile.specs.Lecden.{slotAt, slotWritten, suppliedOf, lecdenBy, lecdenOf}
+use Rattle.slot_curves.specs.F1.{valleyOf, f1Of, reshapedOf}
+use Rattle.slot_curves.specs.Grid.{filled, lowerOf, f2OnlyOf, upperBy, upperOf, heightsOf}
+use Rattle.slot_curves.specs.declared.Slot.{Slot}
+use Rattle.slot_curves.specs.declared.Valley.{Valley}
+use Rattle.slot_curves.specs.declared.F1Shape.{F1Shape}
 use Rattle.walk.specs.Walk.{Held}
 use Rattle.call_lists.specs.Lists.{Numbers}
 

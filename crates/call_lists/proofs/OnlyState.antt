@@ -9,7 +9,7 @@ use lib.Ieee.{Float, nan}
 use Rattle.scalar.specs.F32.{at}
 use Rattle.layers.specs.declared.IonoState.{IonoState}
 use Rattle.profile.specs.Lecden.{slotAt}
-use Rattle.profile.specs.declared.Slot.{Slot}
+use Rattle.slot_curves.specs.declared.Slot.{Slot}
 use Rattle.call_lists.specs.Calls.{Call}
 use Rattle.call_lists.specs.Lists.{StateLeft, OnlyState}
 

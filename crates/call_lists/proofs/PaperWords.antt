@@ -7,7 +7,7 @@ use Prim.Native.Nat.{ℕ, _+_, _≤_}
 use native.Mathlib.Omega.{arith}
 use borrow.Author.Tests.{eq-eqb}
 use lib.Dec.{leb, eqb}
-use Rattle.layers.specs.Ionset.{ionsetOf}
+use Rattle.slots.specs.Ionset.{ionsetOf}
 use Rattle.layers.specs.declared.IonoState.{IonoState}
 use Rattle.layers.specs.declared.LayerMuf.{LayerMuf}
 use Rattle.heights.specs.Gethp.{gethpOf}

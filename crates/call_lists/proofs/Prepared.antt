@@ -11,9 +11,9 @@ use lib.Ieee.{Float}
 use Rattle.scalar.specs.F32.{at}
 use Rattle.layers.specs.declared.IonoState.{IonoState}
 use Rattle.profile.specs.Lecden.{slotAt, slotWritten, suppliedOf, profiledOf, lecdenBy, lecdenOf}
-use Rattle.profile.specs.F1.{valleyOf, f1Of, reshapedOf}
+use Rattle.slot_curves.specs.F1.{valleyOf, f1Of, reshapedOf}
 use Rattle.profile.specs.LecdenKept.{LecdenKept}
-use Rattle.profile.specs.declared.Slot.{Slot}
+use Rattle.slot_curves.specs.declared.Slot.{Slot}
 use Rattle.profile.proofs.Keeps.{lecden-keeps, lecden-supplied}
 use Rattle.call_lists.proofs.Alike.{Alike, yi0-same, yi1-same, yi2-same, hi0-same, hi1-same, hi2-same, fsec-same}
 

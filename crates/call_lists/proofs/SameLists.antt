@@ -9,7 +9,7 @@ use Rattle.layers.specs.declared.IonoState.{IonoState}
 use Rattle.layers.specs.declared.LayerMuf.{LayerMuf}
 use Rattle.layers.specs.declared.EsParams.{EsParams}
 use Rattle.profile.specs.Rising.{risesOf}
-use Rattle.profile.specs.declared.Slot.{Slot}
+use Rattle.slot_curves.specs.declared.Slot.{Slot}
 use Rattle.heights.specs.SameReads.{SameReads}
 use Rattle.heights.proofs.SameReads.{same-reads}
 use Rattle.reflectrix.specs.declared.Ionogram.{Ionogram}

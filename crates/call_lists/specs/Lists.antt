@@ -10,8 +10,8 @@ use lib.ListN.{length}
 use lib.Ieee.{Float}
 use Rattle.scalar.specs.F32.{at}
 use Rattle.layers.specs.Owners.{ownerBy, ownerOf}
-use Rattle.layers.specs.Ionset.{ionsetOf}
-use Rattle.layers.specs.FromLayers.{countTaken}
+use Rattle.slots.specs.Ionset.{ionsetOf}
+use Rattle.layer_rules.specs.Rules.{countTaken}
 use Rattle.layers.specs.declared.IonoState.{IonoState}
 use Rattle.layers.specs.declared.Owner.{Owner}
 use Rattle.profile.specs.Lecden.{slotAt, lecdenOf}

@@ -8,8 +8,8 @@ use Prim.Native.Nat.{ℕ, _+_, _≤_}
 use lib.Dec.{T, eqb}
 use lib.IntN.{ℤ}
 use lib.Ieee.{Float}
-use Rattle.layers.specs.Ionset.{ionsetOf}
-use Rattle.layers.specs.FromLayers.{countTaken}
+use Rattle.slots.specs.Ionset.{ionsetOf}
+use Rattle.layer_rules.specs.Rules.{countTaken}
 use Rattle.layers.specs.declared.IonoState.{IonoState}
 use Rattle.layers.specs.declared.LayerMuf.{LayerMuf}
 use Rattle.layers.specs.declared.LayerParams.{LayerParams}

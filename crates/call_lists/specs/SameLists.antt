@@ -7,14 +7,14 @@ use lib.Dec.{T}
 use lib.Ieee.{Float}
 use Rattle.same.specs.Same.{Same, SameAll}
 use Rattle.scalar.specs.F32.{at}
-use Rattle.layers.specs.Ionset.{ionsetOf}
-use Rattle.layers.specs.FromLayers.{countTaken}
+use Rattle.slots.specs.Ionset.{ionsetOf}
+use Rattle.layer_rules.specs.Rules.{countTaken}
 use Rattle.layers.specs.declared.IonoState.{IonoState}
 use Rattle.layers.specs.declared.LayerMuf.{LayerMuf}
 use Rattle.layers.specs.declared.EsParams.{EsParams}
 use Rattle.profile.specs.Lecden.{slotAt}
 use Rattle.profile.specs.Rising.{risesOf}
-use Rattle.profile.specs.declared.Slot.{Slot}
+use Rattle.slot_curves.specs.declared.Slot.{Slot}
 use Rattle.heights.specs.SameReads.{SameReads}
 use Rattle.reflectrix.specs.declared.Ionogram.{Ionogram}
 use Rattle.muf.specs.declared.MufHour.{MufHour}

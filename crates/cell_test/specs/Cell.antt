@@ -40,7 +40,7 @@ lowOf fvv = cond (tame fvv) (squareOf fvv *f underOne) nan
 unfoldable pub highOf : Float → Float
 highOf fvv = squareOf fvv *f overOne
 
--- What is answered for a cell: a number below 2^22, and then it is the cell, or 2^22, which says nothing.
+-- What is answered for a cell: a number below 2^31, and then it is the cell, or one from there on, which says nothing.
 pub record Told (fvv sqcos : Float) (r : ℕ) : Type 0 where
-  pub most : r ≤ 4194304
-  pub right : r < 4194304 → khzOf fvv sqcos ≡ pos r
+  pub most : r < 4294967296
+  pub right : r < 2147483648 → khzOf fvv sqcos ≡ pos r

@@ -1,8 +1,9 @@
 // A cell of the reflectrix without a root: a number is guessed, and a test of two products says
 // whether it is the cell.
 ghost use mathlib.Core.Path.{_≡_};
-ghost use Prim.Native.Nat.{_<_};
+ghost use Prim.Native.Nat.{_≤_, _<_};
 ghost use lib.Dec.{T};
+ghost use Rattle.order.specs.Units.{real};
 ghost use Rattle.scalar.specs.F32.{_≤f_};
 ghost use Rattle.scalar.specs.Literals.{f0·000001, f1};
 ghost use Rattle.cell_test.specs.Cell.{khzOf, sqcosOf, tame, lowOf, highOf, Told};
@@ -59,45 +60,58 @@ pub fn high(fvv: f32) -> f32
     khz * khz * 1.0000008
 }
 
-// The last 22 digits of a float's pattern.
+// v where it is above zero, else 0: a number in any case.
+fn from_zero(v: f32) -> f32
+    ensures { λ r. ⌜ T (real r) ⌝ }
+{
+    if v > 0.0 {
+        return v;
+    }
+    0.0
+}
+
+// The nearest whole number, as the last 22 digits of a sum's pattern.
 fn digits(v: f32) -> u32
     ensures { λ r. ⌜ r < 4194304 ⌝ }
 {
-    if v >= 0.0 {
-        return f32::to_bits(v) % 0x40_0000;
-    }
-    0
+    f32::to_bits(from_zero(v) + 12582912.0) % 0x40_0000
 }
 
-// A guess at the cell. 1 over the root is within four in a hundred by its pattern, and three steps
-// bring it to all its digits. What is added last leaves the whole part at the end of the sum's
-// pattern. No proof rests on that: the test refuses a wrong guess.
-fn guess(sqcos: f32, khz: f32) -> u32
+// A guess at the cell. A multiple of 1 over the root is within four in a hundred by its pattern; two
+// steps of Newton's rule bring it to 6 in 10^7. Their constants are those of the least error, and of
+// a thousand as the multiple at the end, so that no product is spent on a half or on kHz. No proof
+// rests on that: the test refuses a wrong guess.
+fn guess(sqcos: f32, fvv: f32) -> u32
     requires { ⌜ T (f0·000001 ≤f sqcos) ⌝ }
     ensures { λ r. ⌜ r < 4194304 ⌝ }
 {
-    let q0 = f32::from_bits(0x5f37_5a86 - f32::to_bits(sqcos) % 0x4000_0000 / 2);
-    let h = 0.5 * sqcos;
-    let q1 = q0 * (1.5 - h * q0 * q0);
-    let q2 = q1 * (1.5 - h * q1 * q1);
-    let q3 = q2 * (1.5 - h * q2 * q2);
-    digits(khz * q3 - 0.5 + 12582912.0)
+    let q0 = f32::from_bits(0x5f8a_c937 - f32::to_bits(sqcos) % 0x8000_0000 / 2);
+    let q1 = q0 * (7.5242507 - sqcos * q0 * q0);
+    let khz = fvv * q1 * (188.98823 - sqcos * q1 * q1);
+    digits(khz - 0.5)
 }
 
-// The cell of a row's frequency where a guess at it passes the test, else 2^22.
+// 0 where the test is passed, else 2^31.
+fn doubt(under: f32, low: f32, high: f32, over: f32) -> u32
+    ensures { λ r. ⌜ (r ≤ 2147483648) × (r < 2147483648 → (r ≡ 0) × T (under ≤f low) × T (high ≤f over)) ⌝ }
+{
+    if under <= low {
+        if high <= over {
+            return 0;
+        }
+    }
+    0x8000_0000
+}
+
+// The cell of a row's frequency where a guess at it passes the test, else a number from 2^31 on.
 pub fn cell(fvv: f32, sqcos: f32, low: f32, high: f32) -> u32
     requires { ⌜ T (f0·000001 ≤f sqcos) × T (sqcos ≤f f1) × (low ≡ lowOf fvv) × (high ≡ highOf fvv) ⌝ }
     ensures { λ r. ⌜ Told fvv sqcos r ⌝ }
 {
-    let n = guess(sqcos, 1000.0 * fvv);
+    let n = guess(sqcos, fvv);
     let x = n as f32;
     let m = (n + 1) as f32;
     let under = x * x * sqcos;
     let over = m * m * sqcos;
-    if under <= low {
-        if high <= over {
-            return n;
-        }
-    }
-    0x40_0000
+    n + doubt(under, low, high, over)
 }

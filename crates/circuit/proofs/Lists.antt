@@ -1,8 +1,9 @@
 -- The words read along a chain, record by record.
-use Prim.Native.Nat.{ℕ, zero, suc, _+_, _*_, _-_, _≤_}
+use Prim.Native.Nat.{ℕ, zero, suc, _+_, _*_, _-_, _≤_, _<_}
 use mathlib.Core.Path.{_≡_, refl, ap, _∙_}
 use mathlib.Core.List.{List, [], _++_}
 use native.Mathlib.Omega.{arith}
+use native.Mathlib.Nat.{le-antisymm}
 use native.Mathlib.Numerals.{add-one}
 use lib.ListN.{length, getD, take, drop, length-append}
 use Rattle.records.specs.declared.Form.{Form}
@@ -38,3 +39,23 @@ module _ (o : Form) (f order : List ℕ) (from skip words : ℕ) where
       placed N words (words * i) xs (numbersOf o f order from skip words i) ys e (length-numbers i)
       (ap length z ∙ length-after (recordAt o f n) skip words) h
       ∙ rw (add-one, z) refl
+
+  -- what a loop that reads along a chain keeps: after i turns of `most` the numbers of i records stand at the front, and zeros after them
+  abbrev pub ReadTo : (N most : ℕ) (xs : List ℕ) (i : ℕ) → Type 0
+  ReadTo N most xs i = (i ≤ most) × ((length xs ≡ N) × (xs ≡ padded N (numbersOf o f order from skip words i)))
+
+  module _ (N most i : ℕ) (xs : List ℕ) (h : ReadTo N most xs i) where
+    pub read-next : (ys : List ℕ) → i < most
+        → ys ≡ drop skip
+        (wordsOf
+        (take (o .size * getD order (from + i) 0 + o .size - o .size * getD order (from + i) 0)
+        (drop (o .size * getD order (from + i) 0) f))
+        (skip + words))
+        → words * i + words ≤ N
+        → ReadTo N most (take (words * i) xs ++ (ys ++ drop (words * i + words - words * i) (drop (words * i) xs))) (i + 1)
+    read-next ys l y k =
+        let e = read-on N i xs ys (h .1 .1) y k in
+        (omega arith, (ap length e ∙ length-read N (i + 1) (omega arith), e))
+
+    pub read-end : most ≤ i → xs ≡ padded N (numbersOf o f order from skip words most)
+    read-end l = h .1 .1 ∙ ap (λ (n : ℕ). padded N (numbersOf o f order from skip words n)) (le-antisymm (h .0) l)

@@ -21,20 +21,21 @@ use Rattle.record_chain.proofs.Followed.{Followed, followed, count-range}
 use Rattle.circuit.proofs.Answers.{read-answered, read-refused, small}
 use Rattle.circuit.proofs.Lists.{length-read}
 use Rattle.layers.specs.Owners.{disowned}
-use Rattle.layers.specs.FromLayers.{countTaken, pointSet, pointsSet, emptyOf, fromLayersBy, fromLayersOf}
-use Rattle.layers.specs.Ionset.{layerFrom, twoSlots, threeSlots, assignedBy, assignedOf, tooClose, f1KeptBy, f1By, f1Settled, f2Settled, slotSettled, slotsSettled, ionsetBy, ionsetOf}
+use Rattle.layer_rules.specs.Rules.{countTaken, tooClose}
+use Rattle.slots.specs.FromLayers.{pointSet, pointsSet, emptyOf, fromLayersBy, fromLayersOf}
+use Rattle.slots.specs.Ionset.{layerFrom, twoSlots, threeSlots, assignedBy, assignedOf, f1KeptBy, f1By, f1Settled, f2Settled, slotSettled, slotsSettled, ionsetBy, ionsetOf}
 use Rattle.layers.specs.declared.IonoState.{IonoState}
 use Rattle.layers.specs.declared.LayerParams.{LayerParams}
 use Rattle.layers.specs.declared.LayerMuf.{LayerMuf}
 use Rattle.layers.specs.declared.StateAnswer.{StateAnswer}
-use Rattle.layers.proofs.Counts.{three-at-most}
-use Rattle.layers.proofs.OwnersLeft.{disowned-only}
+use Rattle.slots.proofs.Counts.{three-at-most}
+use Rattle.slots.proofs.OwnersLeft.{disowned-only}
 use Rattle.layer_mufs.specs.Controlling.{compareE, controllingOf}
 use Rattle.layer_mufs.proofs.Small.{controlling-small}
-use Rattle.reflectrix.specs.Angles.{ANG, NANGX, stepOf, raisedBy, raisedFrom, countBy, countOf, scanBy, sangOf}
+use Rattle.scan_angles.specs.Angles.{ANG, NANGX, stepOf, raisedBy, raisedFrom, countBy, countOf, scanBy, sangOf}
 use Rattle.reflectrix.specs.Fobby.{roomFor}
-use Rattle.reflectrix.specs.declared.Scan.{Scan}
-use Rattle.reflectrix.proofs.Counts.{step-range, nangx-range}
+use Rattle.scan_angles.specs.declared.Scan.{Scan}
+use Rattle.scan_angles.proofs.Counts.{step-range, nangx-range}
 use Rattle.slot_sheet.specs.Sheet.{slotSheetWith, slotSheetOf}
 use Rattle.muf.specs.Curmuf.{listsReach}
 use Rattle.circuit_sheet.specs.CircuitSheet.{Circuit, paramsOf, columnOf, shapedOf, slotsOf}

@@ -13,8 +13,8 @@ use Rattle.circuit.specs.Read.{readOf}
 use Rattle.circuit.specs.Point.{pointNumber}
 use Rattle.circuit.specs.declared.Circuit as file
 use Rattle.layers.specs.State.{withIedp}
-use Rattle.layers.specs.FromLayers.{fromLayersOf}
-use Rattle.layers.specs.Ionset.{ionsetOf}
+use Rattle.slots.specs.FromLayers.{fromLayersOf}
+use Rattle.slots.specs.Ionset.{ionsetOf}
 use Rattle.layers.specs.declared.IonoState.{IonoState}
 use Rattle.layers.specs.declared.LayerParams.{LayerParams}
 use Rattle.layers.specs.declared.LayerMuf.{LayerMuf}
@@ -23,8 +23,8 @@ use Rattle.muf.specs.Hour.{zeroHour}
 use Rattle.muf.specs.Curmuf.{curmufOf}
 use Rattle.muf.specs.declared.MufHour.{MufHour}
 use Rattle.muf.specs.declared.MufAnswer.{MufAnswer}
-use Rattle.reflectrix.specs.Angles.{sangOf}
-use Rattle.reflectrix.specs.declared.Scan.{Scan}
+use Rattle.scan_angles.specs.Angles.{sangOf}
+use Rattle.scan_angles.specs.declared.Scan.{Scan}
 use Rattle.reflectrix.specs.Rows.{noRows}
 use Rattle.shapes.specs.Marks.{unmarked}
 use Rattle.slot_sheet.specs.Sheet.{slotSheetOf}

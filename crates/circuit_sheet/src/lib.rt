@@ -8,9 +8,9 @@ use layers::LayerParams;
 use muf::MufAnswer;
 use muf::MufHour;
 use reflectrix::Ionogram;
-use reflectrix::Scan;
 use refusal::Outcome;
 use refusal::Refusal;
+use scan_angles::Scan;
 use shapes::HeightMark;
 
 // What the sheet has of a slot: its ionogram, and the marks of its fifty heights.
@@ -102,10 +102,10 @@ pub fn slots(c: circuit::Circuit) -> IonoState
 {
     let words = c.points;
     let points = params(&words);
-    let made = layers::from_layers(points, c.km);
+    let made = slots::from_layers(points, c.km);
     let s = made.state;
     let s = shaped(s, c.shape);
-    let set = layers::ionset(s);
+    let set = slots::ionset(s);
     set.state
 }
 
@@ -210,7 +210,7 @@ fn of_circuit(c: circuit::Circuit) -> Sheet
 {
     let gcdkm = scalar::number(c.gcdkm);
     let amind = scalar::number(c.amind);
-    let scan = reflectrix::sang(gcdkm, amind);
+    let scan = scan_angles::sang(gcdkm, amind);
     match scan {
         Scan::Angles(nang) => scanned(c, nang),
         Scan::Refused(r) => refused(r),

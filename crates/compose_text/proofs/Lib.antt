@@ -1,3 +1,2 @@
--- The lines of a text by their places; a circuit's cells.
+-- The lines of a text by their places.
 mod LinePlaces
-mod Cells

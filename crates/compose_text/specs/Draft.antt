@@ -73,9 +73,9 @@ pathed c v =
       deciles = c .deciles;
     }
 
--- one point more
-unfoldable pub pointed : Circuit → List ℕ → Circuit
-pointed c v =
+-- one point more, p the words of all points
+abbrev pub pointsSet : Circuit → List ℕ → Circuit
+pointsSet c p =
     record {
       km = c .km + 1;
       shape = c .shape;
@@ -83,13 +83,13 @@ pointed c v =
       gcdkm = c .gcdkm;
       amind = c .amind;
       ssn = c .ssn;
-      points = sets (c .points) (15 * c .km) v;
+      points = p;
       deciles = c .deciles;
     }
 
--- twelve deciles more, after so many twelves
-unfoldable pub deciled : Circuit → ℕ → List ℕ → Circuit
-deciled c n v =
+-- other deciles
+abbrev pub decilesSet : Circuit → List ℕ → Circuit
+decilesSet c d =
     record {
       km = c .km;
       shape = c .shape;
@@ -98,8 +98,16 @@ deciled c n v =
       amind = c .amind;
       ssn = c .ssn;
       points = c .points;
-      deciles = sets (c .deciles) (12 * n) (take 12 v);
+      deciles = d;
     }
+
+-- one point more
+unfoldable pub pointed : Circuit → List ℕ → Circuit
+pointed c v = pointsSet c (sets (c .points) (15 * c .km) v)
+
+-- twelve deciles more, after so many twelves
+unfoldable pub deciled : Circuit → ℕ → List ℕ → Circuit
+deciled c n v = decilesSet c (sets (c .deciles) (12 * n) (take 12 v))
 
 unfoldable pub givenPath : Draft → List ℕ → Draft
 givenPath d v =

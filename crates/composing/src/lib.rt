@@ -5,7 +5,7 @@ ghost use lib.ListN.{length};
 ghost use Rattle.circuit_write.specs.Written.{lengthIn};
 ghost use Rattle.io.specs.Counts.{Counts};
 ghost use Rattle.lines.specs.Text.{Clipped};
-ghost use Rattle.composing.specs.Composing.{lineWords, orderWords, endWords, faultWords, wrongText, saidLength, saidHeld, lengthOf, heldOf};
+ghost use Rattle.composing.specs.Composing.{faultWords, wrongText, saidLength, saidHeld, lengthOf, heldOf};
 use circuit_write::WriteAnswer;
 use compose_text::Draft;
 use lines::put_byte;
@@ -17,82 +17,28 @@ pub const INPUT: usize = 32769;
 // Room for every file and every line.
 pub const ROOM: usize = 4096;
 
-fn put_line_words(out: &mut [u8], at: usize, fault: u32) -> usize
-    ensures { λ r. ⌜ Clipped (lineWords fault) (now (out .entry)) at (now (out .exit)) r ⌝ }
-{
-    if fault == 1 {
-        return put_word(out, at, b"not path, point or deciles");
-    }
-    if fault == 2 {
-        return put_word(out, at, b"unknown field");
-    }
-    if fault == 3 {
-        return put_word(out, at, b"a field twice");
-    }
-    if fault == 4 {
-        return put_word(out, at, b"not a number");
-    }
-    if fault == 5 {
-        return put_word(out, at, b"a number is missing");
-    }
-    if fault == 6 {
-        return put_word(out, at, b"a field is missing");
-    }
-    at
-}
-
-fn put_order_words(out: &mut [u8], at: usize, fault: u32) -> usize
-    ensures { λ r. ⌜ Clipped (orderWords fault) (now (out .entry)) at (now (out .exit)) r ⌝ }
-{
-    if fault == 7 {
-        return put_word(out, at, b"a second path");
-    }
-    if fault == 8 {
-        return put_word(out, at, b"shape is not 0 or 1");
-    }
-    if fault == 9 {
-        return put_word(out, at, b"no path before it");
-    }
-    if fault == 10 {
-        return put_word(out, at, b"a point after deciles");
-    }
-    if fault == 11 {
-        return put_word(out, at, b"too many points");
-    }
-    if fault == 12 {
-        return put_word(out, at, b"no point before it");
-    }
-    if fault == 13 {
-        return put_word(out, at, b"too many deciles");
-    }
-    at
-}
-
-fn put_end_words(out: &mut [u8], at: usize, fault: u32) -> usize
-    ensures { λ r. ⌜ Clipped (endWords fault) (now (out .entry)) at (now (out .exit)) r ⌝ }
-{
-    if fault == 14 {
-        return put_word(out, at, b"no path");
-    }
-    if fault == 15 {
-        return put_word(out, at, b"no point");
-    }
-    if fault == 16 {
-        return put_word(out, at, b"not 48 lines of deciles");
-    }
-    at
-}
-
 fn put_fault_words(out: &mut [u8], at: usize, fault: u32) -> usize
     ensures { λ r. ⌜ Clipped (faultWords fault) (now (out .entry)) at (now (out .exit)) r ⌝ }
 {
-    if fault < 7 {
-        return put_line_words(out, at, fault);
+    match fault {
+        1 => put_word(out, at, b"not path, point or deciles"),
+        2 => put_word(out, at, b"unknown field"),
+        3 => put_word(out, at, b"a field twice"),
+        4 => put_word(out, at, b"not a number"),
+        5 => put_word(out, at, b"a number is missing"),
+        6 => put_word(out, at, b"a field is missing"),
+        7 => put_word(out, at, b"a second path"),
+        8 => put_word(out, at, b"shape is not 0 or 1"),
+        9 => put_word(out, at, b"no path before it"),
+        10 => put_word(out, at, b"a point after deciles"),
+        11 => put_word(out, at, b"too many points"),
+        12 => put_word(out, at, b"no point before it"),
+        13 => put_word(out, at, b"too many deciles"),
+        14 => put_word(out, at, b"no path"),
+        15 => put_word(out, at, b"no point"),
+        16 => put_word(out, at, b"not 48 lines of deciles"),
+        _ => at,
     }
-    if fault < 14 {
-        return put_order_words(out, at, fault);
-    }
-    put_end_words(out, at, fault)
 }
 
 fn put_wrong(out: &mut [u8], line: usize, fault: u32) -> usize

@@ -30,13 +30,13 @@ module _ (k : ℕ) where
   fit-below x i h e = step x i h ∙ rw e
 
   pub fit-past : (x : List Float) (i n : ℕ) → i < length x → (getD x i nan <f f0) ≡ false → n ≡ timesOf k (getD x i nan)
-      → 4294967296 ≤ n → allFit k (drop i x) ≡ false
+      → 0x1_0000_0000 ≤ n → allFit k (drop i x) ≡ false
   fit-past x i n h e p q =
       let m : past ≤ timesOf k (getD x i nan) = omega arith in
       step x i h ∙ rw (e, le-ltb (timesOf k (getD x i nan)) past m)
 
   pub fit-on : (x : List Float) (i n : ℕ) → i < length x → (getD x i nan <f f0) ≡ false → n ≡ timesOf k (getD x i nan)
-      → n < 4294967296 → allFit k (drop i x) ≡ allFit k (drop (i + 1) x)
+      → n < 0x1_0000_0000 → allFit k (drop i x) ≡ allFit k (drop (i + 1) x)
   fit-on x i n h e p q =
       let m : timesOf k (getD x i nan) < past = omega arith in
       step x i h ∙ rw (e, lt-ltb (timesOf k (getD x i nan)) past m, add-one i)

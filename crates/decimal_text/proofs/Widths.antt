@@ -7,12 +7,11 @@ use native.Mathlib.Nat.{le-div-iff-mul-le}
 use native.Mathlib.Omega.{arith}
 use borrow.Author.Tests.{leb-true, leb-false, lt-leb}
 use lib.Dec.{leb}
-use lib.ListN.{length, length-append, take}
+use lib.ListN.{length, length-append}
 use lib.Ieee.{Float}
 use lib.Pow.{pow-add}
-use lib.Seq.{sets, sets-eq, length-sets, take-at}
 use Rattle.io.specs.Digits.{digits}
-use Rattle.lines.specs.Text.{decimalOf, Put}
+use Rattle.lines.specs.Text.{decimalOf}
 use Rattle.lines.proofs.Decimals.{length-digits, length-decimal}
 use Rattle.lines.proofs.Sizes.{AtMost}
 use Rattle.figures.specs.Nearest.{past}
@@ -73,10 +72,3 @@ kept s width places n w h = by (leb n past) refl
     by false e =
         let l = leb-false n past e in
         starred width _ w (signed-wide places h s (min n past) (omega arith)) ∙ sym (starred width _ w (signed-wide places h s n (omega arith)))
-
--- ---- a text that was put is read back
-
-pub put-taken : {t l l′ : List ℕ} {r : ℕ} → Put t l 0 l′ r → r ≤ length l′ → take r l′ ≡ t
-put-taken {t} {l} {l′} {r} p h =
-    let e : length l′ ≡ length l = ap length (p .cells) ∙ length-sets l 0 t in
-    rw (p .cells, sets-eq t l 0 (omega (arith, p .next))) (take-at t _ r (omega (arith, p .next)))

@@ -1,13 +1,11 @@
--- `f2dis` on words. Too few words are refused with 1, before all else; a refusal writes nothing.
+-- `f2dis` on words, the deciles as they are lent. Too few words are refused with 1, before all else; a refusal writes nothing.
 use mathlib.Core.Bool.{Bool, true, false}
 use mathlib.Core.List.{List, [], _∷_}
 use Prim.Native.Nat.{ℕ}
 use lib.Dec.{ltb, eqb}
 use lib.ListN.{length}
 use lib.Ieee.{Float}
-use Rattle.refusal.specs.Number.{numberOf}
-use Rattle.refusal.specs.declared.Refusal.{Refusal}
-use Rattle.port_state.specs.Words.{floatsOf, floatsInto}
+use Rattle.port_state.specs.Words.{floatsInto}
 use Rattle.port_state.specs.Ports.{Ported}
 use Rattle.deciles.specs.F2dis.{f2disOf, deviationNumber, deviationValue}
 use Rattle.deciles.specs.declared.Deviation.{Deviation}
@@ -21,14 +19,14 @@ deviationBy false x out = out
 abbrev pub deviationInto : Deviation → List ℕ → Ported
 deviationInto d out = record { number = deviationNumber d; words = deviationBy (eqb (deviationNumber d) 0) (deviationValue d) out }
 
--- too few numbers, no room for the answer, 576 deciles
-abbrev pub f2disBy : Bool → Bool → Bool → List ℕ → Deviation → Ported
-f2disBy true b c out d = record { number = 1; words = out }
-f2disBy false true c out d = record { number = 1; words = out }
-f2disBy false false false out d = record { number = numberOf Refusal.MufLists; words = out }
-f2disBy false false true out d = deviationInto d out
+-- too few numbers, no room for the answer
+abbrev pub f2disBy : Bool → Bool → List ℕ → Deviation → Ported
+f2disBy true b out d = record { number = 1; words = out }
+f2disBy false true out d = record { number = 1; words = out }
+f2disBy false false out d = deviationInto d out
 
-unfoldable pub f2disLeft : List ℕ → List ℕ → List ℕ → Ported
+-- not 576 deciles: 10, by `f2disOf`
+unfoldable pub f2disLeft : List Float → List ℕ → List ℕ → Ported
 f2disLeft deciles numbers out =
-    f2disBy (ltb (length numbers) 5) (ltb (length out) 1) (eqb (length deciles) 576) out
-    (f2disOf (floatsOf deciles 0 576) (number numbers 0) (number numbers 1) (number numbers 2) (number numbers 3) (number numbers 4))
+    f2disBy (ltb (length numbers) 5) (ltb (length out) 1) out
+    (f2disOf deciles (number numbers 0) (number numbers 1) (number numbers 2) (number numbers 3) (number numbers 4))

@@ -1,20 +1,11 @@
-// `f2dis` on words: 0, or the number of its refusal, which leaves every lent word as it was.
+// `f2dis` on words, the deciles as they are lent: 0, or the number of its refusal, which leaves
+// every lent word as it was.
 ghost use mathlib.Core.Path.{_≡_};
 ghost use Prim.Native.Nat.{_≤_};
 ghost use lib.ListN.{length};
 ghost use denote.Ref.{now};
-ghost use Rattle.port_state.specs.Words.{floatsOf};
 ghost use Rattle.deviation_words.specs.F2disWords.{deviationInto, f2disLeft};
 use deciles::Deviation;
-
-pub fn floats_576(w: &[u32]) -> [f32; 576]
-    requires { ⌜ 576 ≤ length (now w) ⌝ }
-    ensures { λ r. ⌜ r ≡ floatsOf (now (w .entry)) 0 576 ⌝ }
-{
-    let mut x = [0.0; 576];
-    port_state::floats_of(w, 0, &mut x);
-    x
-}
 
 fn deviation_into(d: Deviation, out: &mut [u32]) -> u32
     requires { ⌜ 1 ≤ length (now out) ⌝ }
@@ -30,8 +21,8 @@ fn deviation_into(d: Deviation, out: &mut [u32]) -> u32
     }
 }
 
-// deciles 576 words; numbers: fmuf, ssn, clat, freq, abb; out: the deviation
-pub fn f2dis(deciles: &[u32], numbers: &[u32], out: &mut [u32]) -> u32
+// deciles 576; numbers: fmuf, ssn, clat, freq, abb; out: the deviation
+pub fn f2dis(deciles: &[f32], numbers: &[u32], out: &mut [u32]) -> u32
     ensures { λ r. ⌜ (r ≡ f2disLeft (now (deciles .entry)) (now (numbers .entry)) (now (out .entry)) .number) × (now (out .exit) ≡ f2disLeft (now (deciles .entry)) (now (numbers .entry)) (now (out .entry)) .words) ⌝ }
 {
     if numbers.len() < 5 {
@@ -40,15 +31,11 @@ pub fn f2dis(deciles: &[u32], numbers: &[u32], out: &mut [u32]) -> u32
     if out.len() < 1 {
         return 1;
     }
-    if deciles.len() != 576 {
-        return 10;
-    }
-    let f2d = floats_576(deciles);
     let fmuf = scalar::number(numbers[0]);
     let ssn = scalar::number(numbers[1]);
     let clat = scalar::number(numbers[2]);
     let freq = scalar::number(numbers[3]);
     let abb = scalar::number(numbers[4]);
-    let d = deciles::f2dis(&f2d, fmuf, ssn, clat, freq, abb);
+    let d = deciles::f2dis(deciles, fmuf, ssn, clat, freq, abb);
     deviation_into(d, out)
 }

@@ -20,8 +20,8 @@ use Rattle.fixed.specs.Fixed.{mant, pattern}
 use Rattle.fixed.proofs.Round.{rounded, place, pattern-lt}
 use Rattle.fixed.proofs.Values.{value-normal, subnormal, packed-value, ulp-ge}
 use Rattle.exponential.specs.Tables.{ln2}
-use Rattle.exponential.specs.Ln.{restOf, above, below, lnBits, lnOf}
-use Rattle.exponential.proofs.LnCases.{ln-zero, ln-none, ln-inf, ln-1, ln-up, ln-down, ln-deep, shifted}
+use Rattle.logarithm.specs.Ln.{restOf, above, below, lnBits, lnOf}
+use Rattle.logarithm.proofs.LnCases.{ln-zero, ln-none, ln-inf, ln-1, ln-up, ln-down, ln-deep, shifted}
 use Rattle.series.specs.Series.{ExpLe, ExpGe}
 use Rattle.exact_exponential.specs.Ln.{PowLe, PowGe, lower, upper, NearLn, LnNear}
 use Rattle.exact.proofs.Unit.{steps-is}

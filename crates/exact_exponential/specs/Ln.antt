@@ -7,7 +7,7 @@ use lib.IntN.{ℤ, pos, negsuc}
 use lib.Ieee.{Float, nan, inf, fin, binary32, up, down, fits}
 use Rattle.series.specs.Series.{ExpLe, ExpGe}
 use Rattle.exact.specs.Unit.{steps, ulp, unity}
-use Rattle.exponential.specs.Ln.{lnOf}
+use Rattle.logarithm.specs.Ln.{lnOf}
 
 -- ---- ln: e ^ (r - u) ≤ x ≤ e ^ (r + u), u = 15/16 ulp
 -- the same of e ^ (y / d) for a whole y of either sign

@@ -1,6 +1,3 @@
--- Ranges and cases of exp and ln, and their special values.
+-- Ranges and cases of exp.
 pub mod ExpRange
 pub mod ExpCases
-pub mod LnRange
-pub mod LnCases
-pub mod Special

@@ -1,5 +1,3 @@
--- exp and ln in whole numbers: their tables, then each, and their special values.
+-- exp in whole numbers: its table, then the function.
 pub mod Tables
 pub mod Exp
-pub mod Ln
-pub mod Special

@@ -10,9 +10,10 @@ use lib.ListN.{getD}
 use Rattle.series.specs.Series.{full, num}
 use Rattle.cases.proofs.Entries.{entry}
 use Rattle.series.proofs.Exponential.{ok, tested}
-use Rattle.exponential.specs.Tables.{ln2, eighths}
-use Rattle.exponential.specs.Ln.{twiceOf, index, centre, restOf}
-use Rattle.exponential.proofs.LnRange as range
+use Rattle.exponential.specs.Tables.{ln2}
+use Rattle.logarithm.specs.Tables.{eighths}
+use Rattle.logarithm.specs.Ln.{twiceOf, index, centre, restOf}
+use Rattle.logarithm.proofs.LnRange as range
 use Rattle.series.specs.Series.{ExpLe, ExpGe}
 use Rattle.exponential_bounds.proofs.Exponents.{enc-le, enc-ge, zero-le, le-times, ge-times, le-over, ge-over, same-le, same-ge}
 use Rattle.exponential_bounds.proofs.Twice.{give, twice-le, twice-ge}

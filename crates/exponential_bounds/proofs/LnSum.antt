@@ -10,9 +10,10 @@ use lib.ListN.{getD}
 use Rattle.cases.proofs.Cases.{split}
 use Rattle.fixed.specs.Fixed.{mant}
 use Rattle.fixed.proofs.Round.{rounded, place, place-is}
-use Rattle.exponential.specs.Tables.{ln2, eighths}
-use Rattle.exponential.specs.Ln.{twiceOf, index, centre, restOf}
-use Rattle.exponential.proofs.LnRange as range
+use Rattle.exponential.specs.Tables.{ln2}
+use Rattle.logarithm.specs.Tables.{eighths}
+use Rattle.logarithm.specs.Ln.{twiceOf, index, centre, restOf}
+use Rattle.logarithm.proofs.LnRange as range
 use Rattle.series.specs.Series.{ExpLe, ExpGe}
 use Rattle.exponential_bounds.proofs.Exponents.{le-times, ge-times, le-over, ge-over, lower-le, upper-ge}
 use Rattle.exponential_bounds.proofs.Twice.{give}

@@ -7,8 +7,8 @@ use lib.Dec.{lit≤, lit<}
 use lib.Pow.{pow-pos}
 use lib.Count.{leadingZeros}
 use Rattle.cases.proofs.Cases.{split}
-use Rattle.exponential.specs.Ln.{quotient, lengthened, twiceOf}
-use Rattle.exponential.proofs.LnRange as range
+use Rattle.logarithm.specs.Ln.{quotient, lengthened, twiceOf}
+use Rattle.logarithm.proofs.LnRange as range
 use Rattle.series.specs.Series.{ExpLe, ExpGe}
 use Rattle.exponential_bounds.proofs.Exponents.{lower-le, upper-ge, same-le, same-ge}
 use Rattle.exponential_bounds.specs.OwnSeries.{threeTerms}

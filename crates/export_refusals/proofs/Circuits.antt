@@ -59,9 +59,9 @@ read128-numbers file out =
     (by-outcome read128Numbers (λ o. wide.answerBy o a out .number) refl (λ r. refl) (a .outcome) (read-in form128 file))
     refl (leb 662 (length out))
 
-pub write128-numbers : (words file : List ℕ) → OneOf write128Numbers (wide.portWrite128 words file .number)
+pub write128-numbers : (words file out : List ℕ) → OneOf write128Numbers (wide.portWrite128 words file out .number)
 unfolding wide.portWrite128 member
-write128-numbers words file =
-    both (λ b. OneOf write128Numbers (wide.writeBy b (circuitOf words) (wordsOf words 657 5) file .number))
+write128-numbers words file out =
+    both (λ b. OneOf write128Numbers (wide.writeBy b (circuitOf words) (wordsOf words 657 5) file out .number))
     (written-in form128 (circuitOf words) file)
-    refl (leb 662 (length words))
+    refl (leb 662 (length words) && leb 1 (length out))

@@ -12,7 +12,7 @@ use Rattle.layers.specs.Owners.{ownedBy}
 use Rattle.layers.specs.declared.IonoState.{IonoState}
 use Rattle.layers.specs.declared.LayerMuf.{LayerMuf}
 use Rattle.heights.specs.Gethp.{gethpOf}
-use Rattle.reflectrix.specs.Angles.{stepOf, scanBy, sangOf, scanNumber}
+use Rattle.scan_angles.specs.Angles.{stepOf, scanBy, sangOf, scanNumber}
 use Rattle.reflectrix.specs.Fobby.{roomFor, outcomeBy, fobbyOutcome}
 use Rattle.reflectrix.specs.declared.Ionogram.{Ionogram}
 use Rattle.reflectrix.specs.declared.IonogramAnswer.{IonogramAnswer}

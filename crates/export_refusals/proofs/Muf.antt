@@ -25,7 +25,6 @@ use Rattle.nominal.specs.Nommuf.{pathTaken, refusedNominal, nommufOf}
 use Rattle.nominal.specs.declared.NominalAnswer.{NominalAnswer}
 use Rattle.nominal_factors.specs.Factors.{countsAgree}
 use Rattle.port_state.specs.State.{stateWords, stateOf}
-use Rattle.port_state.specs.Words.{floatsOf}
 use Rattle.port_state.specs.Ports.{Ported, pointsOf}
 use Rattle.deviation_words.specs.Floats.{number, floats}
 use Rattle.deviation_words.specs.F2disWords.{f2disBy, f2disLeft}
@@ -46,18 +45,17 @@ deviation-in f2d fmuf ssn clat freq abb =
     let P : Deviation → Type 0 = λ d. OneOf f2disNumbers (deviationNumber d) in
     either P (eqb (length f2d) 576) _ _ (either P (getD f2d 0 nan ≤f f0) _ _ refl (either P (eqb (iccOf abb) 0) _ _ refl refl)) refl
 
-f2dis-by : (a b c : Bool) (out : List ℕ) (d : Deviation) → OneOf f2disNumbers (deviationNumber d) → OneOf f2disNumbers (f2disBy a b c out d .number)
+f2dis-by : (a b : Bool) (out : List ℕ) (d : Deviation) → OneOf f2disNumbers (deviationNumber d) → OneOf f2disNumbers (f2disBy a b out d .number)
 unfolding member
-f2dis-by true b c out d p = refl
-f2dis-by false true c out d p = refl
-f2dis-by false false false out d p = refl
-f2dis-by false false true out d p = p
+f2dis-by true b out d p = refl
+f2dis-by false true out d p = refl
+f2dis-by false false out d p = p
 
-pub f2dis-numbers : (deciles numbers out : List ℕ) → OneOf f2disNumbers (f2disLeft deciles numbers out .number)
+pub f2dis-numbers : (deciles : List Float) (numbers out : List ℕ) → OneOf f2disNumbers (f2disLeft deciles numbers out .number)
 unfolding f2disLeft
 f2dis-numbers deciles numbers out =
-    f2dis-by (ltb (length numbers) 5) (ltb (length out) 1) (eqb (length deciles) 576) out _
-    (deviation-in (floatsOf deciles 0 576) (number numbers 0) (number numbers 1) (number numbers 2) (number numbers 3) (number numbers 4))
+    f2dis-by (ltb (length numbers) 5) (ltb (length out) 1) out _
+    (deviation-in deciles (number numbers 0) (number numbers 1) (number numbers 2) (number numbers 3) (number numbers 4))
 
 -- ---- `curmuf`: where its lists reach, the input, the hops and the time block; else the input, then the lists
 
@@ -81,14 +79,14 @@ curmuf-by false true c state es out h p = refl
 curmuf-by false false true state es out h p = refl
 curmuf-by false false false state es out h p = p
 
-pub curmuf-numbers : (state es deciles clat clck numbers out : List ℕ) → OneOf curmufNumbers (curmufLeft state es deciles clat clck numbers out .number)
+pub curmuf-numbers : (state es : List ℕ) (deciles : List Float) (clat clck numbers out : List ℕ) → OneOf curmufNumbers (curmufLeft state es deciles clat clck numbers out .number)
 unfolding curmufLeft doneLeft member
 curmuf-numbers state es deciles clat clck numbers out =
     let s = stateOf state in
-    let d = flatOf s (floats es) (floats deciles) (floats clat) (floats clck) (pathNumbersOf numbers) in
+    let d = flatOf s (floats es) deciles (floats clat) (floats clck) (pathNumbersOf numbers) in
     curmuf-by (ltb (length state) stateWords) (ltb (length numbers) 4) (ltb (length out) 54) state es out _
     (by-outcome curmufNumbers (λ o. outcomeBy o d state es out .number) refl (λ r. refl) (d .answer .outcome)
-    (reached-or-not (listsReach (controllingOf s) (length (floats deciles)) (length (floats clat)) (length (floats clck))) s (floats es) (floats deciles) (floats clat) (floats clck) (pathNumbersOf numbers) refl))
+    (reached-or-not (listsReach (controllingOf s) (length deciles) (length (floats clat)) (length (floats clck))) s (floats es) deciles (floats clat) (floats clck) (pathNumbersOf numbers) refl))
 
 -- ---- the nominal MUF
 

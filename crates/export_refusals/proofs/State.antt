@@ -6,14 +6,15 @@ use Prim.Native.Nat.{ℕ, _/_, _%_}
 use lib.Dec.{leb, ltb, eqb}
 use lib.ListN.{length}
 use Rattle.record_chain.specs.Chain.{member}
-use Rattle.layers.specs.FromLayers as layers
-use Rattle.layers.specs.Ionset as ionset
+use Rattle.slots.specs.FromLayers as layers
+use Rattle.slots.specs.Ionset as ionset
 use Rattle.layers.specs.declared.IonoState.{IonoState}
 use Rattle.layers.specs.declared.LayerParams.{LayerParams}
 use Rattle.layers.specs.declared.StateAnswer.{StateAnswer}
 use Rattle.profile.specs.Lecden.{lecdenAnswerBy, lecdenAnswer}
 use Rattle.port_state.specs.State.{stateWords, stateOf}
-use Rattle.port_state.specs.Ports.{answerBy, answerOf, ionsetBy, portIonset, lecdenBy, portLecden, pointsOf, fromPointsBy, fromLayersBy, portFromLayers, ownerAnswerBy, portOwner}
+use Rattle.port_state.specs.Ports.{pointsOf}
+use Rattle.port_layers.specs.Exports.{answerBy, answerOf, ionsetBy, portIonset, lecdenBy, portLecden, fromPointsBy, fromLayersBy, portFromLayers, ownerAnswerBy, portOwner}
 use Rattle.sheet_refusals.specs.Refusals.{Among}
 use Rattle.sheet_refusals.proofs.Chain.{OutcomeIn}
 use Rattle.export_refusals.specs.Exports.{OneOf, fromLayersNumbers, ionsetNumbers, lecdenNumbers, ownerNumbers}

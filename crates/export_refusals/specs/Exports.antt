@@ -4,10 +4,11 @@ use mathlib.Core.List.{List, [], _∷_}
 use mathlib.Core.Path.{_≡_}
 use Prim.Native.Nat.{ℕ}
 use lib.IntN.{ℤ}
+use lib.Ieee.{Float}
 use Rattle.record_chain.specs.Chain.{member}
 use Rattle.port_circuit.specs.Exports.{portRead, portWrite}
 use Rattle.port_wide.specs.Exports.{portRead128, portWrite128}
-use Rattle.port_state.specs.Ports.{portFromLayers, portIonset, portLecden, portOwner}
+use Rattle.port_layers.specs.Exports.{portFromLayers, portIonset, portLecden, portOwner}
 use Rattle.port_heights.specs.Exports.{gethpLeft, gethpScanLeft, readingLeft, bendyLeft, penLeft, xlinLeft}
 use Rattle.deviation_words.specs.F2disWords.{f2disLeft}
 use Rattle.port_muf.specs.Exports.{curmufLeft}
@@ -140,7 +141,7 @@ pub record ExportRefusals : Type 0 where
   pub read : (file out : List ℕ) → OneOf readNumbers (portRead file out .number)
   pub write : (words file out : List ℕ) → OneOf writeNumbers (portWrite words file out .number)
   pub read128 : (file out : List ℕ) → OneOf read128Numbers (portRead128 file out .number)
-  pub write128 : (words file : List ℕ) → OneOf write128Numbers (portWrite128 words file .number)
+  pub write128 : (words file out : List ℕ) → OneOf write128Numbers (portWrite128 words file out .number)
   -- ---- The state of an hour
   pub from-layers : (points state : List ℕ) → OneOf fromLayersNumbers (portFromLayers points state .number)
   pub ionset : (state : List ℕ) → OneOf ionsetNumbers (portIonset state .number)
@@ -154,8 +155,8 @@ pub record ExportRefusals : Type 0 where
   pub pen : (state : List ℕ) (i k f : ℕ) (out : List ℕ) → OneOf penNumbers (penLeft state i k f out .number)
   pub xlin : (x : ℕ) (xn yn out : List ℕ) → OneOf xlinNumbers (xlinLeft x xn yn out .number)
   -- ---- MUF
-  pub f2dis : (deciles numbers out : List ℕ) → OneOf f2disNumbers (f2disLeft deciles numbers out .number)
-  pub curmuf : (state es deciles clat clck numbers out : List ℕ) → OneOf curmufNumbers (curmufLeft state es deciles clat clck numbers out .number)
+  pub f2dis : (deciles : List Float) (numbers out : List ℕ) → OneOf f2disNumbers (f2disLeft deciles numbers out .number)
+  pub curmuf : (state es : List ℕ) (deciles : List Float) (clat clck numbers out : List ℕ) → OneOf curmufNumbers (curmufLeft state es deciles clat clck numbers out .number)
   pub nommuf : (points f2m3 es numbers out : List ℕ) → OneOf nommufNumbers (nominalLeft points f2m3 es numbers out .number)
   -- ---- Ionogram and sheet
   pub sang : (gcdkm amind : ℕ) (out : List ℕ) → OneOf sangNumbers (sangWords gcdkm amind out .number)

@@ -1,2 +1,3 @@
--- A hop count is a whole number within its bounds.
+-- A hop count is a whole number within its bounds; what the answers say by number and value.
 mod Counted
+mod Says

@@ -1,6 +1,8 @@
 -- `hop_geometry` of the Rust, with the paper's refusal of a hop count outside 0 to 999.
-use mathlib.Core.Bool.{Bool, true, false}
+use mathlib.Core.Bool.{Bool, true, false, not, cond, _&&_}
+use mathlib.Core.Path.{_≡_}
 use Prim.Native.Nat.{ℕ}
+use lib.Dec.{eqb}
 use lib.IntN.{ℤ, pos, _+ℤ_}
 use lib.Signed.{ltZ}
 use lib.Ieee.{Float, binary32, ofInt}
@@ -43,6 +45,15 @@ hopsNumber (Hops.Refused r) = numberOf r
 abbrev pub hopsValue : Hops → Float
 hopsValue (Hops.Count xhops) = xhops
 hopsValue (Hops.Refused r) = f0
+
+-- by these an answer says: 0, and one hop more than the truncated ratio, where that is neither below 0 nor above 999; else 11, and +0
+abbrev pub few : ℤ → Bool
+few nhops = not (ltZ nhops (pos 0)) && not (ltZ (pos 999) nhops)
+
+unfoldable pub HopsSay : Hops → Float → Float → Float → Type 0
+HopsSay r gcdkm amind h =
+    let nhops = truncOf (hopRatioOf gcdkm amind h) in
+    (hopsNumber r ≡ cond (few nhops) 0 11) × (hopsValue r ≡ cond (few nhops) (ofInt binary32 (nhops +ℤ pos 1)) f0)
 
 -- split_first: E and F1, where two divisions are rounded
 abbrev pub psiOf : Float → Float → Bool → Float
@@ -89,3 +100,10 @@ noGeometry = record { secp = f0; sphe = f0; del = f0; xhops = f0; psi = f0; cpsi
 abbrev pub geometryValue : Geometry → HopGeometry
 geometryValue (Geometry.Found g) = g
 geometryValue (Geometry.Refused r) = noGeometry
+
+-- by these an answer says: the number of its hop count, and the geometry of that count where it is 0
+unfoldable pub GeometrySays : Geometry → Float → Float → Float → Float → Bool → Type 0
+GeometrySays r gcdkm amind hp ht split_first =
+    let count = hopsOf gcdkm amind hp in
+    let number = hopsNumber count in
+    (geometryNumber r ≡ number) × (geometryValue r ≡ cond (eqb number 0) (hopGeometryOf gcdkm (hopsValue count) hp ht split_first) noGeometry)

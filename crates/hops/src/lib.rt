@@ -1,6 +1,6 @@
 // The hops of a path by one layer, their angles, and the rounds that correct the MUF for bending.
 ghost use mathlib.Core.Path.{_≡_};
-ghost use Rattle.hops.specs.Geometry.{hopRatioOf, hopsOf, hopsNumber, hopsValue, psiOf, delOf, spheOf, secpOf, hopGeometryOf, geometryOf, geometryNumber, geometryValue};
+ghost use Rattle.hops.specs.Geometry.{hopRatioOf, hopsOf, hopsNumber, hopsValue, HopsSay, psiOf, delOf, spheOf, secpOf, hopGeometryOf, geometryOf, GeometrySays};
 ghost use Rattle.hops.specs.Rounds.{sphOf, roundOf, settledOf, roundsOf};
 use constants::D2R;
 use constants::PIO2;
@@ -63,6 +63,7 @@ fn hop_ratio(gcdkm: f32, amind: f32, h: f32) -> f32
 // The hops that reach `gcdkm` at the least takeoff angle by a layer at height `h`.
 pub fn hop_count(gcdkm: f32, amind: f32, h: f32) -> Hops
     ensures { λ r. ⌜ r ≡ hopsOf gcdkm amind h ⌝ }
+    ensures { λ r. ⌜ HopsSay r gcdkm amind h ⌝ }
 {
     let nhops = scalar::trunc(hop_ratio(gcdkm, amind, h));
     if nhops < 0 {
@@ -152,6 +153,7 @@ fn hop_angles(gcdkm: f32, xhops: f32, hp: f32, ht: f32, split_first: bool) -> Ho
 
 pub fn hop_geometry(gcdkm: f32, amind: f32, hp: f32, ht: f32, split_first: bool) -> Geometry
     ensures { λ r. ⌜ r ≡ geometryOf gcdkm amind hp ht «split_first» ⌝ }
+    ensures { λ r. ⌜ GeometrySays r gcdkm amind hp ht «split_first» ⌝ }
 {
     let count = hop_count(gcdkm, amind, hp);
     match count {
@@ -160,34 +162,6 @@ pub fn hop_geometry(gcdkm: f32, amind: f32, hp: f32, ht: f32, split_first: bool)
             let g = hop_angles(gcdkm, xhops, hp, ht, split_first);
             Geometry::Found(g)
         }
-    }
-}
-
-// 0 for a geometry, else the refusal's number.
-pub fn geometry_number(a: Geometry) -> u32
-    ensures { λ n. ⌜ n ≡ geometryNumber a ⌝ }
-{
-    match a {
-        Geometry::Found(_) => 0,
-        Geometry::Refused(r) => refusal::number(r),
-    }
-}
-
-// The geometry, of +0 beside a refusal.
-pub fn geometry_value(a: Geometry) -> HopGeometry
-    ensures { λ g. ⌜ g ≡ geometryValue a ⌝ }
-{
-    match a {
-        Geometry::Found(g) => g,
-        Geometry::Refused(_) => HopGeometry {
-            secp: 0.0,
-            sphe: 0.0,
-            del: 0.0,
-            xhops: 0.0,
-            psi: 0.0,
-            cpsi: 0.0,
-            spsi: 0.0,
-        },
     }
 }
 

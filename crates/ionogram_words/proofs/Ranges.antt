@@ -9,9 +9,9 @@ use Rattle.scalar.specs.F32.{_-f_, _<f_, _>f_, _≥f_, at}
 use Rattle.scalar.specs.Literals.{f0, f0·01, f8·5, f10}
 use Rattle.scalar.specs.Scalar.{absOf}
 use Rattle.layers.specs.declared.IonoState.{IonoState}
-use Rattle.reflectrix.specs.Angles.{ANG, NANGX, stepOf, raisedBy, raisedFrom, countBy, countOf, scanBy, sangOf, scanValue}
-use Rattle.reflectrix.specs.Selmod.{slotIf, selmodOf}
-use Rattle.reflectrix.proofs.Counts.{step-range, nangx-range}
+use Rattle.scan_angles.specs.Angles.{ANG, NANGX, stepOf, raisedBy, raisedFrom, countBy, countOf, scanBy, sangOf, scanValue}
+use Rattle.selmod.specs.Selmod.{slotIf, selmodOf}
+use Rattle.scan_angles.proofs.Counts.{step-range, nangx-range}
 
 raised-by : (b : Bool) (n m : ℕ) → n ≤ 40 → m ≤ 40 → raisedBy b n m ≤ 40
 raised-by true n m p q = p

@@ -7,8 +7,8 @@ use lib.ListN.{length, set}
 use lib.Ieee.{binary32, ofBits}
 use Rattle.refusal.specs.declared.Refusal.{Refusal}
 use Rattle.port_state.specs.Ports.{Ported, refusedWith}
-use Rattle.reflectrix.specs.Angles.{sangOf, scanNumber, scanValue}
-use Rattle.reflectrix.specs.declared.Scan.{Scan}
+use Rattle.scan_angles.specs.Angles.{sangOf, scanNumber, scanValue}
+use Rattle.scan_angles.specs.declared.Scan.{Scan}
 
 -- has the slice fewer words than its layout
 abbrev pub short : List ℕ → ℕ → Bool

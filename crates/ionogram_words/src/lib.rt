@@ -3,20 +3,20 @@ ghost use mathlib.Core.Path.{_≡_};
 ghost use Prim.Native.Nat.{_≤_};
 ghost use lib.ListN.{length};
 ghost use denote.Ref.{now};
-ghost use Rattle.reflectrix.specs.Angles.{scanValue};
+ghost use Rattle.scan_angles.specs.Angles.{scanValue};
 ghost use Rattle.port_layouts.specs.Layouts.{ionogramInto, marksInto};
 ghost use Rattle.ionogram_words.specs.Sang.{scanInto, sangWords};
 use reflectrix::Ionogram;
-use reflectrix::Scan;
+use scan_angles::Scan;
 use shapes::HeightMark;
 
 fn scan_into(a: Scan, out: &mut [u32]) -> u32
     requires { ⌜ (1 ≤ length (now out)) × (scanValue a ≤ 40) ⌝ }
     ensures { λ r. ⌜ (r ≡ scanInto a (now (out .entry)) .number) × (now (out .exit) ≡ scanInto a (now (out .entry)) .words) ⌝ }
 {
-    let number = reflectrix::scan_number(a);
+    let number = scan_angles::scan_number(a);
     if number == 0 {
-        let n = reflectrix::scan_value(a);
+        let n = scan_angles::scan_value(a);
         out[0] = n as u32;
         return number;
     }
@@ -32,7 +32,7 @@ pub fn sang(gcdkm: u32, amind: u32, out: &mut [u32]) -> u32
     }
     let km = scalar::number(gcdkm);
     let least = scalar::number(amind);
-    let a = reflectrix::sang(km, least);
+    let a = scan_angles::sang(km, least);
     scan_into(a, out)
 }
 

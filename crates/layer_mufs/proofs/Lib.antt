@@ -1,2 +1,3 @@
--- The controlling slot is below 3.
+-- The controlling slot is below 3; what the answers say by number and value.
 pub mod Small
+mod Says

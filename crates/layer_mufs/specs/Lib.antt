@@ -1,4 +1,5 @@
--- The controlling slot, the tangent frequencies, and the layer lines.
+-- The controlling slot, the tangent frequencies, the layer lines, and what they say by number and value.
 pub mod Controlling
 pub mod Tangents
 pub mod Lines
+pub mod Says

@@ -17,12 +17,12 @@ use Rattle.hops.specs.Rounds.{roundsOf}
 use Rattle.hops.specs.declared.Geometry.{Geometry}
 use Rattle.hops.specs.declared.HopGeometry.{HopGeometry}
 use Rattle.hops.specs.declared.Round.{Round}
-use Rattle.parabolas.specs.Bendy.{bendyOf, penOf}
+use Rattle.parabolas.specs.Bendy.{bendyAt, penAt}
 use Rattle.heights.specs.Gethp.{Finder, gethpOf}
 use Rattle.layers.specs.State.{profileOnly}
 use Rattle.layers.specs.declared.IonoState.{IonoState}
 use Rattle.layers.specs.declared.LayerMuf.{LayerMuf}
-use Rattle.profile.specs.declared.Slot.{Slot}
+use Rattle.slot_curves.specs.declared.Slot.{Slot}
 use Rattle.layer_mufs.specs.declared.PathNumbers.{PathNumbers}
 use Rattle.layer_mufs.specs.declared.Tangents.{Tangents}
 use Rattle.layer_mufs.specs.declared.HeightPair.{HeightPair}
@@ -80,21 +80,21 @@ eLineOf = eLineWith gethpOf
 
 -- the F2 layer
 
-unfoldable pub parabolicOf : IonoState → Slot → ℕ → Tangents → HeightPair
-parabolicOf t l ks x =
+unfoldable pub parabolicOf : Slot → Tangents → HeightPair
+parabolicOf l x =
     record {
-      hp = l .hi2 -f l .yi2 +f bendyOf t 2 ks (x .fx2) +f (penOf t 0 ks (x .fx2) -f f2 *f l .yi0);
+      hp = l .hi2 -f l .yi2 +f bendyAt (l .fi2) (l .yi2) (x .fx2) +f (penAt (l .fi0) (l .yi0) (x .fx2) -f f2 *f l .yi0);
       ht = l .hi2 -f l .yi2 +f l .yi2 *f (f1 -f sqrtOf (f1 -f x .xt2 *f x .xt2));
     }
 
 -- iedp < 0, fi1 > 0: a NaN counts as no F1 here
-abbrev pub f2HeightsBy : Bool → Bool → Finder → IonoState → Slot → ℕ → Tangents → HeightPair
-f2HeightsBy true f1 find t l ks x = readWith find t (x .fx2)
-f2HeightsBy false true find t l ks x = readWith find t (x .fx2)
-f2HeightsBy false false find t l ks x = parabolicOf t l ks x
+abbrev pub f2HeightsBy : Bool → Bool → Finder → IonoState → Slot → Tangents → HeightPair
+f2HeightsBy true f1 find t l x = readWith find t (x .fx2)
+f2HeightsBy false true find t l x = readWith find t (x .fx2)
+f2HeightsBy false false find t l x = parabolicOf l x
 
-unfoldable pub f2HeightsWith : Finder → IonoState → Slot → ℕ → Tangents → HeightPair
-f2HeightsWith find t l ks x = f2HeightsBy (profileOnly t) (l .fi1 >f f0) find t l ks x
+unfoldable pub f2HeightsWith : Finder → IonoState → Slot → Tangents → HeightPair
+f2HeightsWith find t l x = f2HeightsBy (profileOnly t) (l .fi1 >f f0) find t l x
 
 -- the rounds from the first pass on; they read neither angle nor height of their start
 unfoldable pub bentOf : Float → Float → HeightPair → HopGeometry → Round
@@ -138,12 +138,12 @@ abbrev pub f2LineBy : Geometry → Slot → HeightPair → Tangents → List Flo
 f2LineBy (Geometry.Found g) l h x f2d clat clck c = f2BentOf f2d (bentOf (l .fi2) (x .fx2) h g) (h .ht) (x .fx2) (g .xhops) (c .ssn) clat clck
 f2LineBy (Geometry.Refused r) l h x f2d clat clck c = LineAnswer.Refused r
 
-unfoldable pub f2LineWith : Finder → IonoState → Slot → ℕ → Tangents → List Float → Float → Float → PathNumbers → LineAnswer
-f2LineWith find t l ks x f2d clat clck c =
-    let h = f2HeightsWith find t l ks x in
+unfoldable pub f2LineWith : Finder → IonoState → Slot → Tangents → List Float → Float → Float → PathNumbers → LineAnswer
+f2LineWith find t l x f2d clat clck c =
+    let h = f2HeightsWith find t l x in
     f2LineBy (geometryOf (c .gcdkm) (c .amind) (h .hp) (h .ht) false) l h x f2d clat clck c
 
-abbrev pub f2LineOf : IonoState → Slot → ℕ → Tangents → List Float → Float → Float → PathNumbers → LineAnswer
+abbrev pub f2LineOf : IonoState → Slot → Tangents → List Float → Float → Float → PathNumbers → LineAnswer
 f2LineOf = f2LineWith gethpOf
 
 -- the F1 layer

@@ -5,7 +5,7 @@ use Rattle.scalar.specs.F32.{_+f_, _-f_, _*f_, _/f_, _<f_, _>f_, negf}
 use Rattle.scalar.specs.Literals.{f0, f0·5, f1, f9·5, f2000}
 use Rattle.scalar.specs.Root.{sqrtOf}
 use Rattle.exponential.specs.Exp.{expOf}
-use Rattle.profile.specs.declared.Slot.{Slot}
+use Rattle.slot_curves.specs.declared.Slot.{Slot}
 use Rattle.layer_mufs.specs.declared.F2Tangent.{F2Tangent}
 use Rattle.layer_mufs.specs.declared.Tangents.{Tangents}
 

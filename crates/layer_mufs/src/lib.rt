@@ -4,7 +4,8 @@ ghost use Prim.Native.Nat.{_<_};
 ghost use Rattle.heights.specs.Gethp.{gethpOf};
 ghost use Rattle.layer_mufs.specs.Controlling.{compareE, controllingOf};
 ghost use Rattle.layer_mufs.specs.Tangents.{xtOf, fx1Of, betaOf, f2TangentOf, tangentsOf};
-ghost use Rattle.layer_mufs.specs.Lines.{tenthOf, layerLineOf, zeroLine, lineNumber, lineValue, eHeightsWith, eFoundOf, eLineOf, parabolicOf, f2HeightsWith, bentOf, deviationsNumber, lowerValue, upperValue, deviationsOf, f2BentOf, f2LineOf, f1FoundOf, f1OwnWith, f1LineOf};
+ghost use Rattle.layer_mufs.specs.Lines.{tenthOf, layerLineOf, zeroLine, eHeightsWith, eFoundOf, eLineOf, parabolicOf, f2HeightsWith, bentOf, deviationsOf, f2BentOf, f2LineOf, f1FoundOf, f1OwnWith, f1LineOf};
+ghost use Rattle.layer_mufs.specs.Says.{DeviationsSay, ESays, F2Says, F1Says};
 use constants::R2D;
 use deciles::Deviation;
 use hops::Geometry;
@@ -13,8 +14,8 @@ use hops::Ray;
 use hops::Round;
 use layers::IonoState;
 use layers::LayerMuf;
-use profile::Slot;
 use refusal::Refusal;
+use slot_curves::Slot;
 
 // The numbers of a circuit: path length in radians and in kilometres, least takeoff angle in
 // degrees, sunspot number.
@@ -197,26 +198,6 @@ pub fn zero_line() -> LayerMuf
     }
 }
 
-// 0 for a line, else the refusal's number.
-pub fn line_number(a: LineAnswer) -> u32
-    ensures { λ n. ⌜ n ≡ lineNumber a ⌝ }
-{
-    match a {
-        LineAnswer::Found(_) => 0,
-        LineAnswer::Refused(r) => refusal::number(r),
-    }
-}
-
-// The line, of +0 beside a refusal.
-pub fn line_value(a: LineAnswer) -> LayerMuf
-    ensures { λ m. ⌜ m ≡ lineValue a ⌝ }
-{
-    match a {
-        LineAnswer::Found(m) => m,
-        LineAnswer::Refused(_) => zero_line(),
-    }
-}
-
 // Off the profile, or fixed: those of a parabola that peaks at 110 km and is 20 km in
 // semi-thickness.
 fn e_heights(t: IonoState, fxe: f32) -> HeightPair
@@ -242,6 +223,7 @@ fn e_found(g: HopGeometry, h: HeightPair, fxe: f32) -> LayerMuf
 
 pub fn e_line(t: IonoState, fxe: f32, gcdkm: f32, amind: f32) -> LineAnswer
     ensures { λ r. ⌜ r ≡ eLineOf t fxe gcdkm amind ⌝ }
+    ensures { λ r. ⌜ ESays r t fxe gcdkm amind ⌝ }
 {
     let h = e_heights(t, fxe);
     let found = hops::hop_geometry(gcdkm, amind, h.hp, h.ht, true);
@@ -255,12 +237,11 @@ pub fn e_line(t: IonoState, fxe: f32, gcdkm: f32, amind: f32) -> LineAnswer
 }
 
 // Parabolic F2 over a parabolic E layer.
-fn parabolic(t: IonoState, l: Slot, ks: usize, x: Tangents) -> HeightPair
-    requires { ⌜ ks < 3 ⌝ }
-    ensures { λ r. ⌜ r ≡ parabolicOf t l ks x ⌝ }
+fn parabolic(l: Slot, x: Tangents) -> HeightPair
+    ensures { λ r. ⌜ r ≡ parabolicOf l x ⌝ }
 {
-    let bend = parabolas::bendy_at(t, 2, ks, x.fx2);
-    let pass = parabolas::pen_at(t, 0, ks, x.fx2);
+    let bend = parabolas::bendy_at(l.fi2, l.yi2, x.fx2);
+    let pass = parabolas::pen_at(l.fi0, l.yi0, x.fx2);
     let root = scalar::sqrt(1.0 - x.xt2 * x.xt2);
     HeightPair {
         hp: l.hi2 - l.yi2 + bend + (pass - 2.0 * l.yi0),
@@ -269,9 +250,8 @@ fn parabolic(t: IonoState, l: Slot, ks: usize, x: Tangents) -> HeightPair
 }
 
 // By parabolas only if F1 is missing: the closed form is of E and F2 alone.
-fn f2_heights(t: IonoState, l: Slot, ks: usize, x: Tangents) -> HeightPair
-    requires { ⌜ ks < 3 ⌝ }
-    ensures { λ r. ⌜ r ≡ f2HeightsWith gethpOf t l ks x ⌝ }
+fn f2_heights(t: IonoState, l: Slot, x: Tangents) -> HeightPair
+    ensures { λ r. ⌜ r ≡ f2HeightsWith gethpOf t l x ⌝ }
 {
     if layers::profile_only(t) {
         let h = heights::gethp(t, x.fx2);
@@ -281,7 +261,7 @@ fn f2_heights(t: IonoState, l: Slot, ks: usize, x: Tangents) -> HeightPair
         let h = heights::gethp(t, x.fx2);
         return HeightPair { hp: h.hp, ht: h.ht };
     }
-    parabolic(t, l, ks, x)
+    parabolic(l, x)
 }
 
 // The rounds of a layer with critical frequency `fc`.
@@ -306,38 +286,9 @@ fn bent(fc: f32, fx: f32, h: HeightPair, g: HopGeometry) -> Round
     hops::rounds(p, start)
 }
 
-// 0 for two deviations, else the refusal's number.
-pub fn deviations_number(a: Deviations) -> u32
-    ensures { λ n. ⌜ n ≡ deviationsNumber a ⌝ }
-{
-    match a {
-        Deviations::Both(_, _) => 0,
-        Deviations::Refused(r) => refusal::number(r),
-    }
-}
-
-// The lower one, +0 beside a refusal.
-pub fn lower_value(a: Deviations) -> f32
-    ensures { λ r. ⌜ r ≡ lowerValue a ⌝ }
-{
-    match a {
-        Deviations::Both(sigl, _) => sigl,
-        Deviations::Refused(_) => 0.0,
-    }
-}
-
-// The upper one, +0 beside a refusal.
-pub fn upper_value(a: Deviations) -> f32
-    ensures { λ r. ⌜ r ≡ upperValue a ⌝ }
-{
-    match a {
-        Deviations::Both(_, sigu) => sigu,
-        Deviations::Refused(_) => 0.0,
-    }
-}
-
 fn both_deviations(f2d: &[f32], f2muf: f32, ssn: f32, clat: f32, clck: f32) -> Deviations
     ensures { λ r. ⌜ r ≡ deviationsOf (now (f2d .entry)) f2muf ssn clat clck ⌝ }
+    ensures { λ r. ⌜ DeviationsSay r (now (f2d .entry)) f2muf ssn clat clck ⌝ }
 {
     let low = deciles::f2dis(f2d, f2muf, ssn, clat, 0.9 * f2muf, clck);
     match low {
@@ -383,17 +334,16 @@ fn f2_bent(
 pub fn f2_line(
     t: IonoState,
     l: Slot,
-    ks: usize,
     x: Tangents,
     f2d: &[f32],
     clat: f32,
     clck: f32,
     c: PathNumbers,
 ) -> LineAnswer
-    requires { ⌜ ks < 3 ⌝ }
-    ensures { λ r. ⌜ r ≡ f2LineOf t l ks x (now (f2d .entry)) clat clck c ⌝ }
+    ensures { λ r. ⌜ r ≡ f2LineOf t l x (now (f2d .entry)) clat clck c ⌝ }
+    ensures { λ r. ⌜ F2Says r t l x (now (f2d .entry)) clat clck c ⌝ }
 {
-    let h = f2_heights(t, l, ks, x);
+    let h = f2_heights(t, l, x);
     let found = hops::hop_geometry(c.gcdkm, c.amind, h.hp, h.ht, false);
     match found {
         Geometry::Refused(r) => LineAnswer::Refused(r),
@@ -434,6 +384,7 @@ fn f1_own(t: IonoState, fc: f32, fx1: f32, gcdkm: f32, amind: f32) -> LineAnswer
 // Without an F1 the E line again; a NaN counts as an F1 here.
 pub fn f1_line(t: IonoState, l: Slot, fx1: f32, e: LayerMuf, gcdkm: f32, amind: f32) -> LineAnswer
     ensures { λ r. ⌜ r ≡ f1LineOf t l fx1 e gcdkm amind ⌝ }
+    ensures { λ r. ⌜ F1Says r t l fx1 e gcdkm amind ⌝ }
 {
     if l.fi1 <= 0.0 {
         return LineAnswer::Found(e);

@@ -1,8 +1,3 @@
--- The state of a path: its numbers, whose profile it has, `from_layers`, `ionset`, what `ionset` keeps, the owner that both leave, and the switch that both leave off.
+-- The state of a path: its numbers, and whose profile it has.
 pub mod State
 pub mod Owners
-pub mod FromLayers
-pub mod Ionset
-pub mod IonsetKept
-pub mod OwnersLeft
-pub mod ExactOff

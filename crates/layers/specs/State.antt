@@ -1,6 +1,6 @@
 -- Reading and changing an `IonoState`. States are built here alone, as whole records, so that of all definitions a further field changes only these and the layout of a state as words.
 use mathlib.Core.Bool.{Bool, false}
-use mathlib.Core.List.{List}
+use mathlib.Core.List.{List, []}
 use Prim.Native.Nat.{ℕ}
 use lib.IntN.{ℤ, pos}
 use lib.Signed.{ltZ}
@@ -8,7 +8,12 @@ use lib.ListN.{replicate}
 use lib.Ieee.{Float}
 use Rattle.scalar.specs.Literals.{f0}
 use Rattle.layers.specs.declared.IonoState.{IonoState}
+use Rattle.layers.specs.declared.LayerParams.{LayerParams}
 use Rattle.layers.specs.declared.Owner.{Owner}
+
+-- a point past the end of a list, where no code reads
+abbrev pub noLayers : LayerParams
+noLayers = record { fi = []; yi = []; hi = [] }
 
 -- `iedp < 0`: the profile alone gives heights
 unfoldable pub profileOnly : IonoState → Bool

@@ -8,7 +8,7 @@ use native.Mathlib.Omega.{arith}
 use borrow.Author.Tests.{ltb-true, ltb-false}
 use lib.Dec.{ltb}
 use lib.ListN.{length, take, getD, set, length-append}
-use lib.Seq.{sets, set-out, take-suc, length-take-le, length-sets}
+use lib.Seq.{sets, sets-eq, set-out, take-suc, take-at, length-take-le, length-sets}
 use Rattle.io.specs.Counts.{Counts}
 use Rattle.lines.specs.Text.{joined, Clipped, Put}
 
@@ -73,3 +73,9 @@ fits {t} {l} {l′} {r} p h =
     let w = whole p (omega arith) in
     let n : r ≤ length l′ = omega (arith, w .next, clip-length p) in
     (w, (n, sym (length-take-le _ _ n)))
+
+-- a text that was put is read back
+pub put-taken : {t l l′ : List ℕ} {r : ℕ} → Put t l 0 l′ r → r ≤ length l′ → take r l′ ≡ t
+put-taken {t} {l} {l′} {r} p h =
+    let e : length l′ ≡ length l = ap length (p .cells) ∙ length-sets l 0 t in
+    rw (p .cells, sets-eq t l 0 (omega (arith, p .next))) (take-at t _ r (omega (arith, p .next)))

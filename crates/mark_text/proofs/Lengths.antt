@@ -10,7 +10,7 @@ use Rattle.shapes.specs.declared.Mark.{Mark}
 use Rattle.shapes.specs.declared.HeightMark.{HeightMark}
 use Rattle.mark_text.specs.MarkText.{markLine, noMark, lineAt, marksText}
 
-name : (m : Mark) → AtMost (nameOf m) 11
+pub name : (m : Mark) → AtMost (nameOf m) 11
 unfolding nameOf
 name Mark.None = record { most = omega arith }
 name Mark.Tail = record { most = omega arith }

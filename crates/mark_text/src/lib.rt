@@ -6,7 +6,8 @@ ghost use Rattle.mark_text.specs.MarkText.{markLine, marksText};
 use shapes::HeightMark;
 use shapes::Mark;
 
-fn put_name(out: &mut [u8], at: usize, m: Mark) -> usize
+// The name of the shape that made a density.
+pub fn put_name(out: &mut [u8], at: usize, m: Mark) -> usize
     ensures { λ e. ⌜ Clipped (nameOf m) (now (out .entry)) at (now (out .exit)) e ⌝ }
 {
     match m {

@@ -1,18 +1,12 @@
--- Parts of lists: a text that was put is read back; the parts of an input, whole or cut.
+-- The parts of an input, whole or cut.
 use Prim.Native.Nat.{ℕ, zero, suc, _+_, _-_, _≤_}
 use mathlib.Core.Path.{_≡_, refl, ap, _∙_}
 use mathlib.Core.List.{List, [], _∷_, _++_}
 use native.Mathlib.Omega.{arith}
 use lib.ListN.{length, take, drop}
-use lib.Seq.{sets, sets-eq, length-sets, take-at, take-take, take-nil}
-use Rattle.lines.specs.Text.{Put}
+use lib.Seq.{take-take, take-nil}
 use Rattle.records.proofs.Lists.{rest}
 use Rattle.marking.specs.Marked.{sheetMarked}
-
-pub put-taken : {t l l′ : List ℕ} {r : ℕ} → Put t l 0 l′ r → r ≤ length l′ → take r l′ ≡ t
-put-taken {t} {l} {l′} {r} p h =
-    let e : length l′ ≡ length l = ap length (p .cells) ∙ length-sets l 0 t in
-    rw (p .cells, sets-eq t l 0 (omega (arith, p .next))) (take-at t _ r (omega (arith, p .next)))
 
 -- the file and the rest of an input
 pub parts : (n : ℕ) (input : List ℕ)

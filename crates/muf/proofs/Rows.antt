@@ -17,7 +17,7 @@ use Rattle.hops.specs.declared.Hops.{Hops}
 use Rattle.layers.specs.declared.IonoState.{IonoState}
 use Rattle.layer_mufs.specs.Controlling.{controllingOf}
 use Rattle.profile.specs.Lecden.{slotAt, lecdenOf}
-use Rattle.profile.specs.declared.Slot.{Slot}
+use Rattle.slot_curves.specs.declared.Slot.{Slot}
 use Rattle.heights.specs.Gethp.{gethpOf}
 use Rattle.layer_mufs.specs.declared.PathNumbers.{PathNumbers}
 use Rattle.sporadic.specs.Sporadic.{rayOf, takenBy, takenOf, hopBy, rowBy, esRowOf, startOf, nextBy, esFrom, esLineBy, esLineOf, rowAt}
@@ -105,7 +105,7 @@ unfolding mufAtSlotWith refusedRowsKept
 done-by-below true true m s step f2d clat clck c w =
     let ks = controllingOf s in
     let t = lecdenOf s ks in
-    three-below (regularWith gethpOf t (slotAt t ks) ks f2d (at clat ks) (at clck ks) c) m s t (slotAt t ks) ks step w
+    three-below (regularWith gethpOf t (slotAt t ks) f2d (at clat ks) (at clck ks) c) m s t (slotAt t ks) ks step w
 done-by-below true false m s step f2d clat clck c w = never
 done-by-below false b m s step f2d clat clck c w = never
 

@@ -13,7 +13,7 @@ use Rattle.refusal.specs.declared.Outcome.{Outcome}
 use Rattle.layers.specs.declared.IonoState.{IonoState}
 use Rattle.layers.specs.declared.LayerMuf.{LayerMuf}
 use Rattle.profile.specs.Lecden.{slotAt, lecdenOf}
-use Rattle.profile.specs.declared.Slot.{Slot}
+use Rattle.slot_curves.specs.declared.Slot.{Slot}
 use Rattle.heights.specs.Gethp.{Finder, gethpOf}
 use Rattle.layer_mufs.specs.Controlling.{controllingOf}
 use Rattle.layer_mufs.specs.Tangents.{tangentsOf}
@@ -39,11 +39,11 @@ abbrev pub foundThen : LineAnswer → (LayerMuf → RegularAnswer) → RegularAn
 foundThen (LineAnswer.Found m) next = next m
 foundThen (LineAnswer.Refused r) next = RegularAnswer.Refused r
 
-unfoldable pub regularWith : Finder → IonoState → Slot → ℕ → List Float → Float → Float → PathNumbers → RegularAnswer
-regularWith find t l ks f2d clat clck c =
+unfoldable pub regularWith : Finder → IonoState → Slot → List Float → Float → Float → PathNumbers → RegularAnswer
+regularWith find t l f2d clat clck c =
     let x = tangentsOf l (c .gcdkm) in
     foundThen (eLineWith find t (x .fxe) (c .gcdkm) (c .amind))
-    (λ e. foundThen (f2LineWith find t l ks x f2d clat clck c)
+    (λ e. foundThen (f2LineWith find t l x f2d clat clck c)
     (λ f2. foundThen (f1LineWith find t l (x .fx1) e (c .gcdkm) (c .amind))
     (λ f1. RegularAnswer.Found (record { e = e; f1 = f1; f2 = f2 }))))
 
@@ -52,9 +52,12 @@ abbrev pub regularNumber : RegularAnswer → ℕ
 regularNumber (RegularAnswer.Found m) = 0
 regularNumber (RegularAnswer.Refused r) = numberOf r
 
+abbrev pub noLines : RegularLines
+noLines = record { e = zeroLine; f1 = zeroLine; f2 = zeroLine }
+
 abbrev pub regularValue : RegularAnswer → RegularLines
 regularValue (RegularAnswer.Found m) = m
-regularValue (RegularAnswer.Refused r) = record { e = zeroLine; f1 = zeroLine; f2 = zeroLine }
+regularValue (RegularAnswer.Refused r) = noLines
 
 -- then Es
 
@@ -80,7 +83,7 @@ unfoldable pub mufAtSlotWith : Finder → IonoState → ℕ → EsStep → List 
 mufAtSlotWith find s ks step f2d clat clck c =
     let t = lecdenOf s ks in
     let l = slotAt t ks in
-    regularBy (regularWith find t l ks f2d clat clck c) s t l ks step
+    regularBy (regularWith find t l f2d clat clck c) s t l ks step
 
 abbrev pub mufAtSlotOf : IonoState → ℕ → EsStep → List Float → Float → Float → PathNumbers → AnswerAndRow
 mufAtSlotOf = mufAtSlotWith gethpOf

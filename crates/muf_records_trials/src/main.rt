@@ -64,8 +64,8 @@ fn slots(km: usize) -> IonoState {
         yi: [30.0, 39.0, 96.0],
         hi: [107.0, 185.0, 205.0],
     };
-    let made = layers::from_layers([point, point, point, point, point], km);
-    let set = layers::ionset(made.state);
+    let made = slots::from_layers([point, point, point, point, point], km);
+    let set = slots::ionset(made.state);
     set.state
 }
 

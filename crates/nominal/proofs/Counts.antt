@@ -5,8 +5,8 @@ use Prim.Native.Nat.{ℕ, _≤_}
 use native.Mathlib.Omega.{arith}
 use lib.Dec.{eqb}
 use borrow.Author.Tests.{eqb-true}
-use Rattle.layers.specs.FromLayers.{countTaken}
-use Rattle.layers.proofs.Counts.{taken-five}
+use Rattle.layer_rules.specs.Rules.{countTaken}
+use Rattle.layer_rules.proofs.Counts.{taken-five}
 use Rattle.angles.proofs.Angles.{and-both}
 use Rattle.nominal_factors.specs.Factors.{countsAgree}
 

@@ -7,8 +7,8 @@ use lib.Ieee.{Float, binary32, fits}
 use Rattle.scalar.specs.F32.{_*f_, _/f_}
 use Rattle.scalar.specs.Literals.{f0·5}
 use Rattle.waves.specs.SinCos.{sinOf, cosOf}
-use Rattle.waves.specs.Answers.{sinAnswer, cosAnswer}
-use Rattle.waves.specs.declared.Answer.{Answer}
+use Rattle.wave_answers.specs.Answers.{sinAnswer, cosAnswer}
+use Rattle.wave_answers.specs.declared.Answer.{Answer}
 use Rattle.nominal.specs.Nommuf.{hopOf, pathTaken}
 
 abbrev pub nominalPsi : Float → Float → Float → Float

@@ -13,7 +13,7 @@ use Rattle.scalar.specs.Scalar.{maxOf}
 use Rattle.scalar.specs.Root.{sqrtOf}
 use Rattle.refusal.specs.declared.Refusal.{Refusal}
 use Rattle.refusal.specs.declared.Outcome.{Outcome}
-use Rattle.layers.specs.FromLayers.{noLayers}
+use Rattle.layers.specs.State.{noLayers}
 use Rattle.layers.specs.declared.LayerParams.{LayerParams}
 use Rattle.layers.specs.declared.EsParams.{EsParams}
 use Rattle.layer_mufs.specs.Lines.{zeroLine}

@@ -6,7 +6,7 @@ use lib.Dec.{eqb}
 use lib.Ieee.{Float}
 use Rattle.scalar.specs.F32.{_+f_, _-f_, _*f_, _<f_, _≤f_, _>f_, _≥f_, at}
 use Rattle.scalar.specs.Literals.{f1, f1·1, f16, f24}
-use Rattle.layers.specs.FromLayers.{countTaken}
+use Rattle.layer_rules.specs.Rules.{countTaken}
 use Rattle.nominal_factors.specs.Coefficients.{AE, AF, f0·2085, f1·02}
 
 -- v = v * arc + c for each c of a[..n], the last first

@@ -1,16 +1,16 @@
 -- A difference against zero is a comparison of its operands, for every two values that the format holds, infinities and NaN included where the statement does not except them. `add` keeps the order.
 use mathlib.Core.Path.{_≡_, refl, sym, _∙_, subst}
 use Prim.Native.Nat.{ℕ, _+_, _-_, _^_, _≤_, _<_}
-use native.Mathlib.Nat.{le-of-eq, lt-of-not-le, not-le-of-lt, zero-mul}
+use native.Mathlib.Nat.{lt-of-not-le, not-le-of-lt, zero-mul}
 use native.Mathlib.Omega.{arith}
 use mathlib.Core.Bool.{Bool, true, false, not, _&&_, Bool·beq}
 use lib.IntN.{pos}
-use lib.Dec.{T, leb, ltb, eqb, leb→le, le→leb, nleb→lt, ltb→lt, lt→ltb, eqb→eq}
-use lib.Ieee.{Float, nan, inf, fin, Format, binary32, low, lt, eq, le, fits, sub, ofBits}
-use lib.Ieee.Fits.{eq→eqb, sub-fits}
+use lib.Dec.{T, leb, ltb, leb→le, le→leb, nleb→lt, ltb→lt, lt→ltb}
+use lib.Ieee.{Float, nan, inf, fin, Format, binary32, low, lt, le, fits, sub, ofBits}
+use lib.Ieee.Fits.{sub-fits}
 use lib.Ieee.Scale.{overflow, finite}
 use Rattle.order.specs.Units.{real, keyOf, sgn, mag, key, nought}
-use Rattle.order.proofs.Keys.{same-test, lt-key, eq-key, le-key, mag-of, mag-le}
+use Rattle.order.proofs.Keys.{same-test, lt-key, le-key, mag-of, mag-le}
 use Rattle.order.proofs.Sums.{total-below, total-above, total-from, total-upto, sub-key, sub-real, finite-real}
 
 -- ---- zero
@@ -116,9 +116,6 @@ le-of-nlt x y h = go (leb x y) (leb→le x y) (nleb→lt x y)
 by-le : (C d x y : ℕ) → Versus C d x y → leb d C ≡ leb x y
 by-le C d x y w = same-test (leb d C) (leb x y) (λ h. le→leb x y (le-of-nlt x y (λ (g : y < x). not-le-of-lt (w .more g) (leb→le d C h)))) (λ h. le→leb d C (w .upto (leb→le x y h)))
 
-by-ge : (C d x y : ℕ) → Versus C d x y → leb C d ≡ leb y x
-by-ge C d x y w = same-test (leb C d) (leb y x) (λ h. le→leb y x (le-of-nlt y x (λ (g : x < y). not-le-of-lt (w .less g) (leb→le C d h)))) (λ h. le→leb C d (w .from (leb→le y x h)))
-
 -- ---- the tests on a difference of finite values
 fin-lt : (f : Format) (x y : Float) → T (fits f x) → T (fits f y) → T (finite x) → T (finite y) → lt (sub f x y) nought ≡ lt x y
 fin-lt f x y p q a b = lt-key f (sub f x y) nought (sub-fits f x y) (nought-fits f) (sub-real f x y a b) tt ∙ by-lt (key f nought) (key f (sub f x y)) (key f x) (key f y) (versus f x y p q a b) ∙ sym (lt-key f x y p q (finite-real x a) (finite-real y b))
@@ -128,9 +125,6 @@ fin-gt f x y p q a b = lt-key f nought (sub f x y) (nought-fits f) (sub-fits f x
 
 fin-le : (f : Format) (x y : Float) → T (fits f x) → T (fits f y) → T (finite x) → T (finite y) → le (sub f x y) nought ≡ le x y
 fin-le f x y p q a b = le-key f (sub f x y) nought (sub-fits f x y) (nought-fits f) (sub-real f x y a b) tt ∙ by-le (key f nought) (key f (sub f x y)) (key f x) (key f y) (versus f x y p q a b) ∙ sym (le-key f x y p q (finite-real x a) (finite-real y b))
-
-fin-ge : (f : Format) (x y : Float) → T (fits f x) → T (fits f y) → T (finite x) → T (finite y) → le nought (sub f x y) ≡ le y x
-fin-ge f x y p q a b = le-key f nought (sub f x y) (nought-fits f) (sub-fits f x y) tt (sub-real f x y a b) ∙ by-ge (key f nought) (key f (sub f x y)) (key f x) (key f y) (versus f x y p q a b) ∙ sym (le-key f y x q p (finite-real y b) (finite-real x a))
 
 -- ---- the strict tests, for every two values
 pub sub-lt : (f : Format) (x y : Float) → T (fits f x) → T (fits f y) → lt (sub f x y) nought ≡ lt x y
@@ -162,7 +156,7 @@ sub-gt f (fin s m e) (inf true) p q = unfold sub lt in refl
 sub-gt f (fin s m e) (inf false) p q = unfold sub lt in refl
 sub-gt f (fin s m e) (fin t n d) p q = fin-gt f (fin s m e) (fin t n d) p q tt tt
 
--- ---- the others fail too where the same infinity stands on both sides
+-- ---- at most fails too where the same infinity stands on both sides
 abbrev pub sameInf : Float → Float → Bool
 sameInf nan y = false
 sameInf (inf s) nan = false
@@ -184,56 +178,6 @@ sub-le f (fin s m e) nan p q = unfold sub le in refl
 sub-le f (fin s m e) (inf true) p q = unfold sub le in refl
 sub-le f (fin s m e) (inf false) p q = unfold sub le in refl
 sub-le f (fin s m e) (fin t n d) p q = fin-le f (fin s m e) (fin t n d) p q tt tt ∙ sym (and-yes (le (fin s m e) (fin t n d)))
-  where
-    and-yes : (b : Bool) → (b && true) ≡ b
-    and-yes true = refl
-    and-yes false = refl
-
-pub sub-ge : (f : Format) (x y : Float) → T (fits f x) → T (fits f y) → le nought (sub f x y) ≡ (le y x && not (sameInf x y))
-sub-ge f nan nan p q = unfold sub le in refl
-sub-ge f nan (inf t) p q = unfold sub le in refl
-sub-ge f nan (fin t n d) p q = unfold sub le in refl
-sub-ge f (inf true) nan p q = unfold sub le in refl
-sub-ge f (inf false) nan p q = unfold sub le in refl
-sub-ge f (inf true) (inf true) p q = unfold sub le in refl
-sub-ge f (inf true) (inf false) p q = unfold sub le in refl
-sub-ge f (inf false) (inf true) p q = unfold sub le in refl
-sub-ge f (inf false) (inf false) p q = unfold sub le in refl
-sub-ge f (inf true) (fin t n d) p q = unfold sub le in refl
-sub-ge f (inf false) (fin t n d) p q = unfold sub le in refl
-sub-ge f (fin s m e) nan p q = unfold sub le in refl
-sub-ge f (fin s m e) (inf true) p q = unfold sub le in refl
-sub-ge f (fin s m e) (inf false) p q = unfold sub le in refl
-sub-ge f (fin s m e) (fin t n d) p q = fin-ge f (fin s m e) (fin t n d) p q tt tt ∙ sym (and-yes (le (fin t n d) (fin s m e)))
-  where
-    and-yes : (b : Bool) → (b && true) ≡ b
-    and-yes true = refl
-    and-yes false = refl
-
-by-eq : (C d x y : ℕ) → Versus C d x y → eqb d C ≡ eqb x y
-by-eq C d x y w =
-    same-test (eqb d C) (eqb x y)
-    (λ h. eq→eqb (both (le-of-nlt x y (λ (g : y < x). not-le-of-lt (w .more g) (le-of-eq (eqb→eq d C h)))) (le-of-nlt y x (λ (g : x < y). not-le-of-lt (w .less g) (le-of-eq (sym (eqb→eq d C h)))))))
-    (λ h. eq→eqb (both (w .upto (le-of-eq (eqb→eq x y h))) (w .from (le-of-eq (sym (eqb→eq x y h))))))
-  where
-    both : {a b : ℕ} → a ≤ b → b ≤ a → a ≡ b
-    both {a} {b} p q = omega arith
-
-fin-eq : (f : Format) (x y : Float) → T (fits f x) → T (fits f y) → T (finite x) → T (finite y) → eq (sub f x y) nought ≡ eq x y
-fin-eq f x y p q a b = eq-key f (sub f x y) nought (sub-fits f x y) (nought-fits f) (sub-real f x y a b) tt ∙ by-eq (key f nought) (key f (sub f x y)) (key f x) (key f y) (versus f x y p q a b) ∙ sym (eq-key f x y p q (finite-real x a) (finite-real y b))
-
-pub sub-eq : (f : Format) (x y : Float) → T (fits f x) → T (fits f y) → eq (sub f x y) nought ≡ (eq x y && not (sameInf x y))
-sub-eq f nan y p q = unfold sub eq in refl
-sub-eq f (inf true) nan p q = unfold sub eq in refl
-sub-eq f (inf false) nan p q = unfold sub eq in refl
-sub-eq f (inf true) (inf true) p q = unfold sub eq in refl
-sub-eq f (inf true) (inf false) p q = unfold sub eq in refl
-sub-eq f (inf false) (inf true) p q = unfold sub eq in refl
-sub-eq f (inf false) (inf false) p q = unfold sub eq in refl
-sub-eq f (inf s) (fin t n d) p q = unfold sub eq in refl
-sub-eq f (fin s m e) nan p q = unfold sub eq in refl
-sub-eq f (fin s m e) (inf t) p q = unfold sub eq in refl
-sub-eq f (fin s m e) (fin t n d) p q = fin-eq f (fin s m e) (fin t n d) p q tt tt ∙ sym (and-yes (eq (fin s m e) (fin t n d)))
   where
     and-yes : (b : Bool) → (b && true) ≡ b
     and-yes true = refl

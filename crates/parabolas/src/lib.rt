@@ -1,7 +1,6 @@
 // What bending and delay in a parabolic layer come to.
 ghost use mathlib.Core.Path.{_≡_};
-ghost use Prim.Native.Nat.{_<_};
-ghost use Rattle.parabolas.specs.Bendy.{bendyOf, penOf, bendyAnswer, penAnswer};
+ghost use Rattle.parabolas.specs.Bendy.{bendyAt, penAt, bendyAnswer, penAnswer};
 use layers::IonoState;
 use refusal::Refusal;
 
@@ -11,24 +10,21 @@ pub enum LayerNumber {
     Refused(Refusal),
 }
 
-pub fn bendy_at(s: IonoState, i: usize, k: usize, f: f32) -> f32
-    requires { ⌜ (i < 3) × (k < 3) ⌝ }
-    ensures { λ r. ⌜ r ≡ bendyOf s i k f ⌝ }
+// Of a layer with critical frequency `fi` and semi-thickness `yi`.
+pub fn bendy_at(fi: f32, yi: f32, f: f32) -> f32
+    ensures { λ r. ⌜ r ≡ bendyAt fi yi f ⌝ }
 {
-    let n = 3 * k + i;
-    let x = scalar::min(f / s.fi[n], 0.999);
-    let l = exponential::ln((1.0 + x) / (1.0 - x));
-    0.5 * x * s.yi[n] * l
+    let x = scalar::min(f / fi, 0.999);
+    let l = logarithm::ln((1.0 + x) / (1.0 - x));
+    0.5 * x * yi * l
 }
 
-pub fn pen_at(s: IonoState, i: usize, k: usize, f: f32) -> f32
-    requires { ⌜ (i < 3) × (k < 3) ⌝ }
-    ensures { λ r. ⌜ r ≡ penOf s i k f ⌝ }
+pub fn pen_at(fi: f32, yi: f32, f: f32) -> f32
+    ensures { λ r. ⌜ r ≡ penAt fi yi f ⌝ }
 {
-    let n = 3 * k + i;
-    let x = scalar::max(f / s.fi[n], 1.001);
-    let l = exponential::ln((1.0 + x) / (x - 1.0));
-    s.yi[n] * l * x
+    let x = scalar::max(f / fi, 1.001);
+    let l = logarithm::ln((1.0 + x) / (x - 1.0));
+    yi * l * x
 }
 
 // How much the virtual height of a frequency is raised by the parabolic layer `i` of slot `k` that
@@ -42,7 +38,8 @@ pub fn bendy(s: IonoState, i: usize, k: usize, f: f32) -> LayerNumber
     if k > 2 {
         return LayerNumber::Refused(Refusal::SlotNumber);
     }
-    LayerNumber::Value(bendy_at(s, i, k, f))
+    let n = 3 * k + i;
+    LayerNumber::Value(bendy_at(s.fi[n], s.yi[n], f))
 }
 
 // The same for a frequency that the layer lets through, delayed, to a higher one.
@@ -55,5 +52,6 @@ pub fn pen(s: IonoState, i: usize, k: usize, f: f32) -> LayerNumber
     if k > 2 {
         return LayerNumber::Refused(Refusal::SlotNumber);
     }
-    LayerNumber::Value(pen_at(s, i, k, f))
+    let n = 3 * k + i;
+    LayerNumber::Value(pen_at(s.fi[n], s.yi[n], f))
 }

@@ -1,4 +1,4 @@
 -- Words copied, a circuit laid out in words, and how long a file is.
 mod Copies
 mod Laid
-mod Short
+pub mod Short

@@ -142,8 +142,8 @@ pub extern "C" fn port_read(file: &[u8], out: &mut [u32]) -> u32
 }
 
 // What the writer answered, as its number; how many bytes it wrote, into the word lent, which stays at a refusal.
-fn length_into(a: WriteAnswer, out: &mut [u32]) -> u32
-    requires { ⌜ (1 ≤ length (now out)) × (lengthIn a ≤ 4096) ⌝ }
+pub fn length_into(a: WriteAnswer, out: &mut [u32]) -> u32
+    requires { ⌜ (1 ≤ length (now out)) × (lengthIn a ≤ 6912) ⌝ }
     ensures { λ r. ⌜ (r ≡ numberIn a) × (now (out .exit) ≡ lengthInto a (now (out .entry))) ⌝ }
 {
     match a {

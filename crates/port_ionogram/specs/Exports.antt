@@ -9,7 +9,7 @@ use Rattle.refusal.specs.declared.Refusal.{Refusal}
 use Rattle.refusal.specs.declared.Outcome.{Outcome}
 use Rattle.port_state.specs.Ports.{Ported, refusedWith}
 use Rattle.port_state.specs.State.{stateWords, stateOf, stateInto}
-use Rattle.reflectrix.specs.Selmod.{selmodOf}
+use Rattle.selmod.specs.Selmod.{selmodOf}
 use Rattle.reflectrix.specs.Fobby.{fobbyOutcome, cellsAfter}
 use Rattle.reflectrix.specs.declared.Ionogram.{Ionogram}
 use Rattle.reflectrix.specs.declared.IonogramAnswer.{IonogramAnswer}

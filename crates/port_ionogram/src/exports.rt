@@ -29,7 +29,7 @@ pub extern "C" fn port_selmod(state: &[u32], out: &mut [u32]) -> u32
         return 1;
     }
     let s = port_state::state_of(state);
-    let k = reflectrix::selmod(s);
+    let k = selmod::selmod(s);
     out[0] = k as u32;
     0
 }

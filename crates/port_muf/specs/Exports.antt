@@ -4,6 +4,7 @@ use mathlib.Core.List.{List}
 use Prim.Native.Nat.{ℕ}
 use lib.Dec.{ltb}
 use lib.ListN.{length}
+use lib.Ieee.{Float}
 use Rattle.refusal.specs.Number.{numberOf}
 use Rattle.refusal.specs.declared.Refusal.{Refusal}
 use Rattle.refusal.specs.declared.Outcome.{Outcome}
@@ -43,9 +44,9 @@ curmufBy false true c short a = short
 curmufBy false false true short a = short
 curmufBy false false false short a = a
 
--- `flatOf` is all of `curmuf`: its hour and state, and the row that it rewrites; here on what the words stand for, lists of any length
-unfoldable pub curmufLeft : List ℕ → List ℕ → List ℕ → List ℕ → List ℕ → List ℕ → List ℕ → HourLeft
+-- `flatOf` is all of `curmuf`: its hour and state, and the row that it rewrites; here on what the words stand for and on the deciles, lists of any length
+unfoldable pub curmufLeft : List ℕ → List ℕ → List Float → List ℕ → List ℕ → List ℕ → List ℕ → HourLeft
 curmufLeft state es deciles clat clck numbers out =
     curmufBy (ltb (length state) stateWords) (ltb (length numbers) 4) (ltb (length out) 54)
     (leaves (numberOf Refusal.Length) state es out)
-    (doneLeft (flatOf (stateOf state) (floats es) (floats deciles) (floats clat) (floats clck) (pathNumbersOf numbers)) state es out)
+    (doneLeft (flatOf (stateOf state) (floats es) deciles (floats clat) (floats clck) (pathNumbersOf numbers)) state es out)

@@ -58,22 +58,21 @@ fn word_rows(es: &[u32], n: usize, c: PathNumbers) -> EsStep
 fn called(
     s: IonoState,
     es: &[u32],
-    deciles: &[u32],
+    deciles: &[f32],
     clat: &[u32],
     clck: &[u32],
     c: PathNumbers,
 ) -> AnswerAndRow
-    ensures { λ r. ⌜ r ≡ flatOf s (floats (now (es .entry))) (floats (now (deciles .entry))) (floats (now (clat .entry))) (floats (now (clck .entry))) c ⌝ }
+    ensures { λ r. ⌜ r ≡ flatOf s (floats (now (es .entry))) (now (deciles .entry)) (floats (now (clat .entry))) (floats (now (clck .entry))) c ⌝ }
 {
     if muf_domain::in_domain(c) {
         let ks = layer_mufs::controlling(s);
         if muf_domain::lists_reach(ks, deciles.len(), clat.len(), clck.len()) {
-            let f2d = deviation_words::floats_576(deciles);
             let lat = scalar::number(clat[ks]);
             let clock = scalar::number(clck[ks]);
             let n = muf_domain::row_count(es.len(), s.km);
             let step = word_rows(es, n, c);
-            return muf::muf_at_slot(s, ks, step, &f2d, lat, clock, c);
+            return muf::muf_at_slot(s, ks, step, deciles, lat, clock, c);
         }
         return muf::refused_rows_kept(s, Refusal::MufLists);
     }
@@ -121,7 +120,7 @@ fn done_into(d: AnswerAndRow, state: &mut [u32], es: &mut [u32], out: &mut [u32]
 pub extern "C" fn port_curmuf(
     state: &mut [u32],
     es: &mut [u32],
-    deciles: &[u32],
+    deciles: &[f32],
     clat: &[u32],
     clck: &[u32],
     numbers: &[u32],

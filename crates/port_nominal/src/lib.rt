@@ -85,7 +85,7 @@ fn called(points: &[u32], f2m3: &[u32], es: &[u32], numbers: &[u32]) -> NominalA
     let m = f2m3.len();
     let gcd = scalar::number(numbers[0]);
     let gcdkm = scalar::number(numbers[1]);
-    let p = port_state::ports::points_of(points, n);
+    let p = port_state::points_of(points, n);
     let rows = word_rows(es, n);
     let x = five_of(f2m3, m);
     asked(p, &x, m, rows, n, gcd, gcdkm)

@@ -1,5 +1,3 @@
--- Signs as words, words copied, owners read back, and whole states.
+-- Signs as words, and words copied.
 pub mod Signs
 mod Copies
-mod Owners
-pub mod ReadBack

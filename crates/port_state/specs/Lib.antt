@@ -1,6 +1,5 @@
--- The exports of the state: floats as words, an owner as a word, a state as words, what each call answers and leaves, and that a state is read back.
+-- A state as words: floats, an owner, the state itself, points, and what a call on words answers and leaves.
 pub mod Words
 pub mod Owners
 pub mod State
 pub mod Ports
-pub mod ReadBack

@@ -1,15 +1,15 @@
 // States as words, so that any language can call the port: a float is its bits, an i32 its two's complement.
 ghost use mathlib.Core.Path.{_≡_};
-ghost use Prim.Native.Nat.{_+_, _≤_};
+ghost use Prim.Native.Nat.{_+_, _*_, _≤_};
 ghost use lib.ListN.{length};
 ghost use Rattle.port_state.specs.Words.{floatsOf, floatsInto, signedOf, wordOf, yesOf, flagOf, countOf};
 ghost use Rattle.port_state.specs.State.{stateWords, stateOf, tablesInto, profileInto, countsInto, marksInto, ownerInto, exactInto, stateInto};
 ghost use Rattle.port_state.specs.Owners.{ownerOfWord, slotWord, wordOfOwner};
+ghost use Rattle.port_state.specs.Ports.{pointOf, pointsOf, zeroPoint};
 use layers::IonoState;
+use layers::LayerParams;
 use layers::Owner;
 use layers::owners;
-
-pub mod ports;
 
 // How many words a state takes: specs/State.antt says which.
 pub const STATE_WORDS: usize = 155;
@@ -186,7 +186,7 @@ pub fn state_of(w: &[u32]) -> IonoState
     owners::with_owner(s, owner_of_word(w[153]))
 }
 
-fn count(n: usize) -> u32
+pub fn count(n: usize) -> u32
     ensures { λ r. ⌜ r ≡ countOf n ⌝ }
 {
     (n % 0x1_0000_0000) as u32
@@ -259,4 +259,37 @@ pub fn state_into(s: IonoState, w: &mut [u32])
     marks_into(s, w);
     owner_into(s, w);
     exact_into(s, w);
+}
+
+fn point_of(points: &[u32], k: usize) -> LayerParams
+    requires { ⌜ 9 * k + 9 ≤ length (now points) ⌝ }
+    ensures { λ r. ⌜ r ≡ pointOf (now (points .entry)) k ⌝ }
+{
+    let at = 9 * k;
+    let fi = floats_3(points, at);
+    let yi = floats_3(points, at + 3);
+    let hi = floats_3(points, at + 6);
+    LayerParams { fi, yi, hi }
+}
+
+fn zero_point() -> LayerParams
+    ensures { λ r. ⌜ r ≡ zeroPoint ⌝ }
+{
+    LayerParams {
+        fi: [0.0; 3],
+        yi: [0.0; 3],
+        hi: [0.0; 3],
+    }
+}
+
+pub fn points_of(points: &[u32], n: usize) -> [LayerParams; 5]
+    requires { ⌜ (n ≤ 5) × (9 * n ≤ length (now points)) ⌝ }
+    ensures { λ r. ⌜ r ≡ pointsOf (now (points .entry)) n ⌝ }
+{
+    let mut l = [zero_point(); 5];
+    for k in 0..n {
+        let p = point_of(points, k);
+        l[k] = p;
+    }
+    l
 }

@@ -61,16 +61,21 @@ pub extern "C" fn port_read128(file: &[u8], out: &mut [u32]) -> u32
     1
 }
 
-// The file of the circuit and the F2M3 that 662 words hold.
+// The file of the circuit and the F2M3 that 662 words hold, and into `out` how many bytes it has.
 #[no_mangle]
-pub extern "C" fn port_write128(words: &[u32], file: &mut [u8]) -> u32
-    ensures { λ r. ⌜ r ≡ portWrite128 (now (words .entry)) (now (file .entry)) .number ⌝ ∗ ⌜ now (file .exit) ≡ portWrite128 (now (words .entry)) (now (file .entry)) .cells ⌝ }
+pub extern "C" fn port_write128(words: &[u32], file: &mut [u8], out: &mut [u32]) -> u32
+    ensures { λ r. ⌜ r ≡ portWrite128 (now (words .entry)) (now (file .entry)) (now (out .entry)) .number ⌝ }
+    ensures { λ _. ⌜ now (file .exit) ≡ portWrite128 (now (words .entry)) (now (file .entry)) (now (out .entry)) .cells ⌝ }
+    ensures { λ _. ⌜ now (out .exit) ≡ portWrite128 (now (words .entry)) (now (file .entry)) (now (out .entry)) .words ⌝ }
 {
-    if 662 <= words.len() {
-        let c = port_circuit::circuit_of(words);
-        let f2m3 = words_5(words, 657);
-        let a = wide_circuit::write(c, f2m3, file);
-        return circuit_write::number(a);
+    if words.len() < 662 {
+        return 1;
     }
-    1
+    if out.len() < 1 {
+        return 1;
+    }
+    let c = port_circuit::circuit_of(words);
+    let f2m3 = words_5(words, 657);
+    let a = wide_circuit::write(c, f2m3, file);
+    port_circuit::length_into(a, out)
 }

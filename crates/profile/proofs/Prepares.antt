@@ -7,12 +7,12 @@ use native.Mathlib.Omega.{arith}
 use lib.Seq.{getD-set-same, getD-set-other}
 use lib.Ieee.{nan}
 use Rattle.layers.specs.declared.IonoState.{IonoState}
-use Rattle.profile.specs.F1.{reshapedOf}
+use Rattle.slot_curves.specs.F1.{reshapedOf}
 use Rattle.profile.specs.Lecden.{slotAt, slotWritten, suppliedOf, lecdenBy, lecdenOf}
 use Rattle.profile.specs.Prepared.{Shaped, Prepared}
 use Rattle.profile.proofs.Keeps.{lecden-keeps}
-use Rattle.profile.specs.declared.Slot.{Slot}
-use Rattle.profile.specs.declared.F1Shape.{F1Shape}
+use Rattle.slot_curves.specs.declared.Slot.{Slot}
+use Rattle.slot_curves.specs.declared.F1Shape.{F1Shape}
 
 module _ (k j : ℕ) (h : j ≢ k) where
   e-other : 3 * j ≢ 3 * k + 1

@@ -4,10 +4,7 @@ use mathlib.Core.List.{map}
 use Prim.Native.Nat.{ℕ, _+_, _*_}
 use lib.Dec.{ltb}
 use lib.ListN.{set}
-use Rattle.scalar.specs.F32.{_-f_, _*f_, _/f_, negf, at}
-use Rattle.scalar.specs.Literals.{f0·85, f1, f2, f70}
-use Rattle.scalar.specs.Scalar.{maxOf}
-use Rattle.exponential.specs.Exp.{expOf}
+use Rattle.scalar.specs.F32.{at}
 use Rattle.refusal.specs.declared.Refusal.{Refusal}
 use Rattle.refusal.specs.declared.Outcome.{Outcome}
 use Rattle.layers.specs.State.{withTables, withFsecv, withProfile, withOwner}
@@ -15,14 +12,11 @@ use Rattle.layers.specs.declared.IonoState.{IonoState}
 use Rattle.layers.specs.declared.Owner.{Owner}
 use Rattle.layers.specs.declared.StateAnswer.{StateAnswer}
 use Rattle.profile.specs.Rising.{risesOf}
-use Rattle.profile.specs.F1.{valleyOf, f1Of, reshapedOf}
-use Rattle.profile.specs.Grid.{heightsOf}
-use Rattle.profile.specs.Density.{densityOf}
-use Rattle.profile.specs.declared.Slot.{Slot}
-use Rattle.profile.specs.declared.Valley.{Valley}
-use Rattle.profile.specs.declared.F1Shape.{F1Shape}
-use Rattle.profile.specs.declared.Tail.{Tail}
-use Rattle.profile.specs.declared.Curves.{Curves}
+use Rattle.slot_curves.specs.F1.{valleyOf, f1Of, reshapedOf}
+use Rattle.slot_curves.specs.Grid.{heightsOf}
+use Rattle.shape_densities.specs.Density.{densityOf}
+use Rattle.slot_curves.specs.Draw.{tailOf, curvesOf}
+use Rattle.slot_curves.specs.declared.Slot.{Slot}
 
 unfoldable pub slotAt : IonoState → ℕ → Slot
 slotAt s k =
@@ -31,24 +25,6 @@ slotAt s k =
 -- what the reshaping writes: the F1 height and semi-thickness of slot k, and `fsecv[k]`
 unfoldable pub slotWritten : IonoState → ℕ → Slot → IonoState
 slotWritten s k p = withFsecv (withTables s (s .fi) (set (s .yi) (3 * k + 1) (p .yi1)) (set (s .hi) (3 * k + 1) (p .hi1))) (set (s .fsecv) k (p .fsec))
-
--- the tail under E, down into the D region
-unfoldable pub tailOf : Slot → Tail
-tailOf s =
-    let hd = f70 in
-    let xtail = f0·85 in
-    let hex = s .hi0 -f xtail *f s .yi0 in
-    let fnx = f1 -f xtail *f xtail in
-    let alp = f2 *f (s .hi0 -f hex) /f (fnx *f s .yi0 *f s .yi0) in
-    let fsq = fnx *f expOf (negf alp *f (hex -f hd)) in
-    record { hex = hex; alp = alp; fsq = fsq }
-
--- all that the five shapes use; s is the reshaped slot
-unfoldable pub curvesOf : Slot → Valley → F1Shape → Tail → Curves
-curvesOf s v f t =
-    let hb1 = maxOf (s .hi0) (s .hi1 -f s .yi1) in
-    let hb2v = s .hi2 -f s .yi2 in
-    record { hlow = v .hlow; hup = v .hup; fup = v .fup; asp = v .asp; hex = t .hex; hte = v .hte; fce = v .fce; hi0 = s .hi0; yi0 = s .yi0; fsq = t .fsq; alp = t .alp; fi1 = s .fi1; hb1 = hb1; ht1 = f .ht1; lin = f .lin; s1 = f .s1; hi1 = s .hi1; yi1 = s .yi1; fc1 = f .fc1; hb2v = hb2v; fc2 = v .fc2; hi2 = s .hi2; yi2 = s .yi2 }
 
 -- whether the profile came from outside
 unfoldable pub suppliedOf : IonoState → Bool

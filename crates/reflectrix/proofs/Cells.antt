@@ -13,7 +13,7 @@ use Rattle.constants.specs.Constants.{D2R, RZ}
 use Rattle.waves.specs.SinCos.{cosOf, waveBits}
 use Rattle.cell_test.specs.Cell.{khzOf, sqcosOf}
 use Rattle.cell_rows.specs.Row.{rowOf, scanOf}
-use Rattle.reflectrix.specs.Angles.{ANG}
+use Rattle.scan_angles.specs.Angles.{ANG}
 use Rattle.reflectrix.specs.Fobby.{rcosdOf, obliqueOf, cellOf, rowInto, anglesInto}
 use Rattle.reflectrix.specs.declared.Ionogram.{Ionogram}
 

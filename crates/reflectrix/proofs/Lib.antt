@@ -1,4 +1,3 @@
--- Cells of the reflectrix, and counts of angles.
+-- Cells of the reflectrix, and its forty constants.
 mod Cells
 mod Rcosd
-pub mod Counts

@@ -7,7 +7,7 @@ use lib.Ieee.{Float, binary32, ofBits, ofFields, toBits, mul, round, size, odd, 
 use Rattle.scalar.specs.F32.{_*f_, at}
 use Rattle.constants.specs.Constants.{D2R, RZ}
 use Rattle.waves.specs.SinCos.{cosOf, waveBits, sineAt, ratioOf}
-use Rattle.reflectrix.specs.Angles.{ANG}
+use Rattle.scan_angles.specs.Angles.{ANG}
 use Rattle.reflectrix.specs.Fobby.{rcosdOf}
 
 unfoldable pub rcosds : List Float

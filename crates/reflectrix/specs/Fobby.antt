@@ -14,7 +14,7 @@ use Rattle.constants.specs.Constants.{D2R, RZ}
 use Rattle.waves.specs.SinCos.{cosOf}
 use Rattle.refusal.specs.declared.Refusal.{Refusal}
 use Rattle.refusal.specs.declared.Outcome.{Outcome}
-use Rattle.reflectrix.specs.Angles.{ANG}
+use Rattle.scan_angles.specs.Angles.{ANG}
 use Rattle.reflectrix.specs.declared.Ionogram.{Ionogram}
 
 unfoldable pub rcosdOf : ℕ → Float

@@ -1,5 +1,3 @@
--- The ionogram of zeros, the scan of angles, `selmod`, and `fobby`.
+-- The ionogram of zeros, and `fobby`.
 pub mod Rows
-pub mod Angles
-pub mod Selmod
 pub mod Fobby

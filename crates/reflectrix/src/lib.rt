@@ -1,18 +1,10 @@
-// The ionogram of a slot: its thirty rows, the scan of elevation angles, the slot that ray
-// paths go by, and the reflectrix.
-mod angles;
-mod control;
+// The ionogram of a slot: its thirty rows, and the reflectrix.
 mod reflectrix;
 
 ghost use mathlib.Core.Path.{_≡_};
 ghost use Rattle.reflectrix.specs.Rows.{noRows};
-pub use angles::sang;
-pub use angles::scan_number;
-pub use angles::scan_value;
-pub use control::selmod;
 pub use reflectrix::fobby;
 use refusal::Outcome;
-use refusal::Refusal;
 
 // The thirty rows, by columns.
 pub struct Ionogram {
@@ -44,10 +36,4 @@ pub fn no_rows() -> Ionogram
 pub struct IonogramAnswer {
     pub outcome: Outcome,
     pub ion: Ionogram,
-}
-
-// How many of the scan's angles apply to a path.
-pub enum Scan {
-    Angles(usize),
-    Refused(Refusal),
 }

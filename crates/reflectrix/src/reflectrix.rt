@@ -8,7 +8,7 @@ ghost use lib.ListN.{length};
 ghost use Rattle.scalar.specs.F32.{_+f_, _*f_};
 ghost use Rattle.constants.specs.Constants.{D2R as Constants·D2R, RZ as Constants·RZ};
 ghost use Rattle.waves.specs.SinCos.{cosOf};
-ghost use Rattle.reflectrix.specs.Angles.{ANG as Angles·ANG};
+ghost use Rattle.scan_angles.specs.Angles.{ANG as Angles·ANG};
 ghost use Rattle.reflectrix.specs.Fobby.{anglesInto, cellsAfter, fobbyOutcome};
 use crate::Ionogram;
 use constants::RZ;

@@ -7,20 +7,10 @@ use Rattle.lines.specs.Text.{decimalOf}
 use Rattle.lines.proofs.Sizes.{AtMost, _then_, word, line-feed, times}
 use Rattle.aligned.specs.Ascii.{ascii}
 use Rattle.aligned.proofs.Widths.{right-most}
-use Rattle.shapes.specs.Mark.{nameOf}
 use Rattle.shapes.specs.declared.Mark.{Mark}
 use Rattle.shapes.specs.declared.HeightMark.{HeightMark}
+use Rattle.mark_text.proofs.Lengths.{name}
 use Rattle.run_text.specs.RunText.{markAt, beginsAt, endsAt, startText, endText, runText, runsText}
-
-name : (m : Mark) → AtMost (nameOf m) 11
-unfolding nameOf
-name Mark.None = record { most = omega arith }
-name Mark.Tail = record { most = omega arith }
-name Mark.E = record { most = omega arith }
-name Mark.Valley = record { most = omega arith }
-name Mark.F1 = record { most = omega arith }
-name Mark.F2 = record { most = omega arith }
-name Mark.Gap = record { most = omega arith }
 
 start : (b : Bool) (i : ℕ) → AtMost (startText b i) 6
 unfolding startText

@@ -10,10 +10,7 @@ use Rattle.aligned.specs.Aligned.{right}
 use Rattle.shapes.specs.Mark.{numberOf, nameOf}
 use Rattle.shapes.specs.declared.Mark.{Mark}
 use Rattle.shapes.specs.declared.HeightMark.{HeightMark}
-
--- past the end, where no code reads
-abbrev pub noMark : HeightMark
-noMark = record { mark = Mark.None }
+use Rattle.mark_text.specs.MarkText.{noMark}
 
 unfoldable pub markAt : List HeightMark → ℕ → Mark
 markAt marks i = getD marks i noMark .mark

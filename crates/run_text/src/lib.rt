@@ -1,25 +1,11 @@
 // A slot's marks for the eye: heights that follow one another with one mark are a run, and a run is a line.
 ghost use mathlib.Core.Path.{_≡_};
+ghost use mathlib.Core.Bool.{not};
 ghost use Prim.Native.Nat.{_<_};
 ghost use Rattle.lines.specs.Text.{Clipped};
-ghost use Rattle.shapes.specs.Mark.{nameOf};
-ghost use Rattle.run_text.specs.RunText.{markAt, beginsAt, endsAt, startText, endText, runText, runsText};
+ghost use Rattle.run_text.specs.RunText.{markAt, sameMark, beginsAt, endsAt, startText, endText, runText, runsText};
 use shapes::HeightMark;
 use shapes::Mark;
-
-fn put_name(out: &mut [u8], at: usize, m: Mark) -> usize
-    ensures { λ e. ⌜ Clipped (nameOf m) (now (out .entry)) at (now (out .exit)) e ⌝ }
-{
-    match m {
-        Mark::None => lines::put_word(out, at, b"none"),
-        Mark::Tail => lines::put_word(out, at, b"D-E tail"),
-        Mark::E => lines::put_word(out, at, b"E parabola"),
-        Mark::Valley => lines::put_word(out, at, b"valley line"),
-        Mark::F1 => lines::put_word(out, at, b"F1"),
-        Mark::F2 => lines::put_word(out, at, b"F2"),
-        Mark::Gap => lines::put_word(out, at, b"gap"),
-    }
-}
 
 fn mark_at(marks: [HeightMark; 50], i: usize) -> Mark
     requires { ⌜ i < 50 ⌝ }
@@ -27,6 +13,19 @@ fn mark_at(marks: [HeightMark; 50], i: usize) -> Mark
 {
     let h = marks[i];
     h.mark
+}
+
+// Whether two heights have different marks.
+fn differ(marks: [HeightMark; 50], i: usize, j: usize) -> bool
+    requires { ⌜ (i < 50) × (j < 50) ⌝ }
+    ensures { λ r. ⌜ r ≡ not (sameMark (markAt marks i) (markAt marks j)) ⌝ }
+{
+    let one = shapes::number(mark_at(marks, i));
+    let other = shapes::number(mark_at(marks, j));
+    if one == other {
+        return false;
+    }
+    true
 }
 
 // Whether the height below has another mark, or none is below.
@@ -37,12 +36,7 @@ fn begins_at(marks: [HeightMark; 50], i: usize) -> bool
     if i == 0 {
         return true;
     }
-    let below = shapes::number(mark_at(marks, i - 1));
-    let here = shapes::number(mark_at(marks, i));
-    if below == here {
-        return false;
-    }
-    true
+    differ(marks, i - 1, i)
 }
 
 // Whether the height above has another mark, or none is above.
@@ -53,12 +47,7 @@ fn ends_at(marks: [HeightMark; 50], i: usize) -> bool
     if i == 49 {
         return true;
     }
-    let here = shapes::number(mark_at(marks, i));
-    let above = shapes::number(mark_at(marks, i + 1));
-    if here == above {
-        return false;
-    }
-    true
+    differ(marks, i, i + 1)
 }
 
 fn put_start(out: &mut [u8], at: usize, begins: bool, i: usize) -> usize
@@ -81,7 +70,7 @@ fn put_end(out: &mut [u8], at: usize, ends: bool, i: usize, m: Mark) -> usize
         let n = i + 1;
         let a = decimal_text::put_whole(out, at, 2, n as u64);
         let b = lines::put_word(out, a, b"  ");
-        let c = put_name(out, b, m);
+        let c = mark_text::put_name(out, b, m);
         return lines::put_byte(out, c, b'\n');
     }
     at

@@ -4,7 +4,7 @@ ghost use mathlib.Core.Path.{_≡_};
 ghost use Rattle.scalar.specs.Scalar.{minOf, maxOf, truncOf};
 ghost use Rattle.scalar.specs.Root.{sqrtOf};
 ghost use Rattle.exponential.specs.Exp.{expOf};
-ghost use Rattle.exponential.specs.Ln.{lnOf};
+ghost use Rattle.logarithm.specs.Ln.{lnOf};
 ghost use Rattle.waves.specs.SinCos.{sinOf, cosOf};
 ghost use Rattle.arcs.specs.Asin.{asinOf};
 ghost use Rattle.arcs.specs.Atan.{atanOf};
@@ -48,7 +48,7 @@ pub extern "C" fn scalar_exp(x: f32) -> f32
 pub extern "C" fn scalar_ln(x: f32) -> f32
     ensures { λ r. ⌜ r ≡ lnOf x ⌝ }
 {
-    exponential::ln(x)
+    logarithm::ln(x)
 }
 
 // NaN outside -4 to 4, and so for the cosine.

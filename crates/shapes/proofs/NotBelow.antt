@@ -10,8 +10,8 @@ use Rattle.scalar.specs.F32.{_-f_, _≤f_, _≥f_}
 use Rattle.scalar.specs.Literals.{f0}
 use Rattle.scalar.specs.Scalar.{orSecond, maxOf}
 use Rattle.scalar.proofs.Order.{not-less-than-nan}
-use Rattle.profile.specs.Density.{fneOf, fndOf, candidatesOf, largestOf, densityOf}
-use Rattle.profile.specs.declared.Curves.{Curves}
+use Rattle.shape_densities.specs.Density.{fneOf, fndOf, candidatesOf, largestOf, densityOf}
+use Rattle.shape_densities.specs.declared.Curves.{Curves}
 
 -- a number, and not below zero
 abbrev pub Least : Float → Type 0

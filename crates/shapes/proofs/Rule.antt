@@ -16,10 +16,10 @@ use Rattle.scalar.proofs.Nan.{differs-is-nan}
 use Rattle.scalar.proofs.Order.{in-order, equal-not-less}
 use Rattle.scalar.proofs.MinMax.{min-max}
 use Rattle.layers.specs.declared.IonoState.{IonoState}
-use Rattle.profile.specs.Density.{fnvalOf, fneOf, fndOf, fn1Of, fn2Of, candidatesOf, largestOf, densityOf}
+use Rattle.shape_densities.specs.Density.{fnvalOf, fneOf, fndOf, fn1Of, fn2Of, candidatesOf, largestOf, densityOf}
 use Rattle.profile.specs.Lecden.{suppliedOf, lecdenOf}
-use Rattle.profile.specs.declared.Curves.{Curves}
-use Rattle.profile.specs.declared.Candidates.{Candidates}
+use Rattle.shape_densities.specs.declared.Curves.{Curves}
+use Rattle.shape_densities.specs.declared.Candidates.{Candidates}
 use Rattle.shapes.specs.Mark.{numberOf}
 use Rattle.shapes.specs.Marks.{firstOf, markOf, marksOf}
 use Rattle.shapes.specs.Meaning.{workedOut, valueOf, makes, First, Marked, MarkRule, SlotMarks}

@@ -7,12 +7,12 @@ use lib.Ieee.{Float}
 use Rattle.scalar.specs.F32.{_==f_}
 use Rattle.scalar.specs.Literals.{f0}
 use Rattle.layers.specs.declared.IonoState.{IonoState}
-use Rattle.profile.specs.Density.{candidatesOf, largestOf}
+use Rattle.shape_densities.specs.Density.{candidatesOf, largestOf}
 use Rattle.profile.specs.Lecden.{slotAt, suppliedOf}
-use Rattle.profile.specs.Prepared.{curvesFor, htrOf}
-use Rattle.profile.specs.declared.Slot.{Slot}
-use Rattle.profile.specs.declared.Curves.{Curves}
-use Rattle.profile.specs.declared.Candidates.{Candidates}
+use Rattle.slot_curves.specs.Draw.{curvesFor, htrOf}
+use Rattle.slot_curves.specs.declared.Slot.{Slot}
+use Rattle.shape_densities.specs.declared.Curves.{Curves}
+use Rattle.shape_densities.specs.declared.Candidates.{Candidates}
 use Rattle.shapes.specs.declared.Mark.{Mark}
 use Rattle.shapes.specs.declared.HeightMark.{HeightMark}
 

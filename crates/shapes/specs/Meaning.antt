@@ -8,10 +8,10 @@ use lib.Ieee.{Float, isNan}
 use Rattle.scalar.specs.F32.{_-f_, _<f_, _≤f_, _>f_, _≥f_, _==f_}
 use Rattle.scalar.specs.Literals.{f0}
 use Rattle.layers.specs.declared.IonoState.{IonoState}
-use Rattle.profile.specs.Density.{fnvalOf, fneOf, fndOf, fn1Of, fn2Of, densityOf}
+use Rattle.shape_densities.specs.Density.{fnvalOf, fneOf, fndOf, fn1Of, fn2Of, densityOf}
 use Rattle.profile.specs.Lecden.{slotAt, lecdenOf}
-use Rattle.profile.specs.Prepared.{curvesFor}
-use Rattle.profile.specs.declared.Curves.{Curves}
+use Rattle.slot_curves.specs.Draw.{curvesFor}
+use Rattle.shape_densities.specs.declared.Curves.{Curves}
 use Rattle.shapes.specs.Mark.{numberOf}
 use Rattle.shapes.specs.Marks.{markOf, heightMark, unmarked, marksOf}
 use Rattle.shapes.specs.declared.Mark.{Mark}

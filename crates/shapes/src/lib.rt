@@ -3,11 +3,12 @@
 ghost use mathlib.Core.Path.{_≡_};
 ghost use mathlib.Core.List.{map};
 ghost use Prim.Native.Nat.{_<_};
+ghost use Rattle.shape_densities.specs.Density.{fndOf};
 ghost use Rattle.shapes.specs.Mark.{numberOf};
 ghost use Rattle.shapes.specs.Marks.{firstOf, markOf, heightMark, unmarked, marksOf};
 use layers::IonoState;
-use profile::Candidates;
-use profile::Curves;
+use shape_densities::Candidates;
+use shape_densities::Curves;
 
 pub enum Mark {
     // of a supplied profile, and beside a refusal
@@ -63,11 +64,12 @@ fn first(c: Candidates, density: f32) -> Mark
     Mark::F2
 }
 
-fn mark_at(c: Curves, h: f32) -> Mark
+fn mark_at(c: Curves, fnd: f32, h: f32) -> Mark
+    requires { ⌜ fnd ≡ fndOf c h ⌝ }
     ensures { λ r. ⌜ r ≡ markOf c h ⌝ }
 {
-    let shapes = profile::density::candidates(c, h);
-    let density = profile::density::largest(shapes);
+    let shapes = shape_densities::density::candidates(c, fnd, h);
+    let density = shape_densities::density::largest(shapes);
     if density == 0.0 {
         return Mark::Gap;
     }
@@ -85,9 +87,10 @@ pub fn no_marks() -> [HeightMark; 50]
 fn marks_on(c: Curves, htr: [f32; 50]) -> [HeightMark; 50]
     ensures { λ r. ⌜ r ≡ map (heightMark c) htr ⌝ }
 {
+    let fnd = shape_densities::tails(c, htr);
     let mut marks = no_marks();
     for ih in 0..50 {
-        let mark = mark_at(c, htr[ih]);
+        let mark = mark_at(c, fnd[ih], htr[ih]);
         marks[ih] = HeightMark { mark };
     }
     marks
@@ -102,7 +105,7 @@ pub fn marks_slot(s: IonoState, k: usize) -> [HeightMark; 50]
         return no_marks();
     }
     let p = profile::slot_at(s, k);
-    let d = profile::draw(p);
+    let d = slot_curves::draw(p);
     let curves = d.curves;
     let htr = d.htr;
     marks_on(curves, htr)

@@ -17,7 +17,7 @@ use Rattle.refusal.specs.declared.Outcome.{Outcome}
 use Rattle.layers.specs.declared.IonoState.{IonoState}
 use Rattle.layers.specs.declared.LayerMuf.{LayerMuf}
 use Rattle.profile.specs.Lecden.{slotAt, lecdenOf}
-use Rattle.profile.specs.declared.Slot.{Slot}
+use Rattle.slot_curves.specs.declared.Slot.{Slot}
 use Rattle.heights.specs.Gethp.{Finder, gethpOf}
 use Rattle.deciles.specs.F2dis.{iccOf, f2disOf}
 use Rattle.deciles.specs.declared.Deviation.{Deviation}
@@ -142,10 +142,10 @@ module _ (P : Refusal → Type 0) (input : P Refusal.MufInput) (hops : P Refusal
       bent-by (deviationsOf f2d (b .fob) (c .ssn) clat clck) b (h .ht) (x .fx2) (g .xhops) (deviations-in f2d (b .fob) (c .ssn) clat clck e)
   f2-by (Geometry.Refused r) l h x f2d clat clck c e p = p
 
-  f2-in : (find : Finder) (t : IonoState) (l : Slot) (ks : ℕ) (x : Tangents) (f2d : List Float) (clat clck : Float) (c : PathNumbers) → eqb (length f2d) 576 ≡ true → LineIn (f2LineWith find t l ks x f2d clat clck c)
+  f2-in : (find : Finder) (t : IonoState) (l : Slot) (x : Tangents) (f2d : List Float) (clat clck : Float) (c : PathNumbers) → eqb (length f2d) 576 ≡ true → LineIn (f2LineWith find t l x f2d clat clck c)
   unfolding f2LineWith
-  f2-in find t l ks x f2d clat clck c e =
-      let h = f2HeightsWith find t l ks x in
+  f2-in find t l x f2d clat clck c e =
+      let h = f2HeightsWith find t l x in
       f2-by (geometryOf (c .gcdkm) (c .amind) (h .hp) (h .ht) false) l h x f2d clat clck c e (geometry-in (c .gcdkm) (c .amind) (h .hp) (h .ht) false)
 
   own-by : (g : Geometry) (h : HeightPair) (fc fx1 : Float) → GeometryIn g → LineIn (f1OwnBy g h fc fx1)
@@ -165,12 +165,12 @@ module _ (P : Refusal → Type 0) (input : P Refusal.MufInput) (hops : P Refusal
   unfolding f1LineWith
   f1-in find t l fx1 e gcdkm amind = f1-by (l .fi1 ≤f f0) find t l fx1 e gcdkm amind
 
-  regular-in : (find : Finder) (t : IonoState) (l : Slot) (ks : ℕ) (f2d : List Float) (clat clck : Float) (c : PathNumbers) → eqb (length f2d) 576 ≡ true → RegularIn (regularWith find t l ks f2d clat clck c)
+  regular-in : (find : Finder) (t : IonoState) (l : Slot) (f2d : List Float) (clat clck : Float) (c : PathNumbers) → eqb (length f2d) 576 ≡ true → RegularIn (regularWith find t l f2d clat clck c)
   unfolding regularWith
-  regular-in find t l ks f2d clat clck c h =
+  regular-in find t l f2d clat clck c h =
       let x = tangentsOf l (c .gcdkm) in
       then-in (eLineWith find t (x .fxe) (c .gcdkm) (c .amind)) _ (e-in find t (x .fxe) (c .gcdkm) (c .amind))
-      (λ (e : LayerMuf). then-in (f2LineWith find t l ks x f2d clat clck c) _ (f2-in find t l ks x f2d clat clck c h)
+      (λ (e : LayerMuf). then-in (f2LineWith find t l x f2d clat clck c) _ (f2-in find t l x f2d clat clck c h)
       (λ (f2 : LayerMuf). then-in (f1LineWith find t l (x .fx1) e (c .gcdkm) (c .amind)) _ (f1-in find t l (x .fx1) e (c .gcdkm) (c .amind)) (λ (f1 : LayerMuf). tt)))
 
   -- ---- Es
@@ -217,7 +217,7 @@ module _ (P : Refusal → Type 0) (input : P Refusal.MufInput) (hops : P Refusal
   search-by true s step f2d clat clck c e q =
       let ks = controllingOf s in
       let t = lecdenOf s ks in
-      regular-by (regularWith gethpOf t (slotAt t ks) ks f2d (at clat ks) (at clck ks) c) s t (slotAt t ks) ks step (controlling-small s) (regular-in gethpOf t (slotAt t ks) ks f2d (at clat ks) (at clck ks) c e) q
+      regular-by (regularWith gethpOf t (slotAt t ks) f2d (at clat ks) (at clck ks) c) s t (slotAt t ks) ks step (controlling-small s) (regular-in gethpOf t (slotAt t ks) f2d (at clat ks) (at clck ks) c e) q
   search-by false s step f2d clat clck c e q = refused-in s Refusal.MufInput input
 
   pub muf-in : (s : IonoState) (es f2d clat clck : List Float) (c : PathNumbers) → eqb (length f2d) 576 ≡ true → listsReach (controllingOf s) (length f2d) (length clat) (length clck) ≡ true → Good (curmufOf s es f2d clat clck c)

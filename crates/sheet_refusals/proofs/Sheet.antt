@@ -15,7 +15,7 @@ use Rattle.layers.specs.declared.IonoState.{IonoState}
 use Rattle.layer_mufs.specs.Controlling.{controllingOf}
 use Rattle.muf.specs.declared.MufAnswer.{MufAnswer}
 use Rattle.muf.specs.Curmuf.{listsReach}
-use Rattle.reflectrix.specs.Angles.{NANGX, stepOf, countOf, scanBy, sangOf}
+use Rattle.scan_angles.specs.Angles.{NANGX, stepOf, countOf, scanBy, sangOf}
 use Rattle.circuit_sheet.specs.declared.Sheet.{Sheet}
 use Rattle.circuit_sheet.specs.CircuitSheet.{Circuit, esOf, columnOf, slotsOf, pathOf, mufOf, refusedOf, answeredOf, mufThen, scannedOf, scanThen, circuitSheetOf, readThen, sheetOf}
 use Rattle.circuit_sheet.proofs.Ranges.{slots-most, lists-reach}

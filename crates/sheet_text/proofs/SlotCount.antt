@@ -8,8 +8,8 @@ use Rattle.records.specs.Record.{form64}
 use Rattle.circuit.specs.Read.{readOf}
 use Rattle.layers.specs.declared.IonoState.{IonoState}
 use Rattle.muf.specs.declared.MufHour.{MufHour}
-use Rattle.reflectrix.specs.Angles.{sangOf}
-use Rattle.reflectrix.specs.declared.Scan.{Scan}
+use Rattle.scan_angles.specs.Angles.{sangOf}
+use Rattle.scan_angles.specs.declared.Scan.{Scan}
 use Rattle.circuit_sheet.specs.CircuitSheet.{Circuit, slotsOf, mufOf, refusedOf, answeredOf, mufThen, scannedOf, scanThen, circuitSheetOf, readThen, sheetOf}
 use Rattle.circuit_sheet.proofs.Ranges.{slots-most}
 

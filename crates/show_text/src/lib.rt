@@ -1,66 +1,8 @@
 // What `show` prints of a circuit file: the sheet for the eye, in decimals and words.
-ghost use Prim.Native.Nat.{_≤_};
 ghost use Rattle.io.specs.Counts.{Counts};
-ghost use Rattle.lines.specs.Text.{joined, Clipped, Put};
-ghost use Rattle.show_text.specs.ShowText.{slotText, slotAt, pageText, refusalText, showText};
-use circuit_sheet::Sheet;
-use circuit_sheet::SlotRows;
+ghost use Rattle.lines.specs.Text.{Put};
+ghost use Rattle.show_text.specs.ShowText.{showText};
 use refusal::Outcome;
-use refusal::Refusal;
-
-// A slot's number, its rows, then the runs of its marks.
-fn put_slot(out: &mut [u8], at: usize, rows: SlotRows, k: usize) -> usize
-    ensures { λ e. ⌜ Clipped (slotText rows k) (now (out .entry)) at (now (out .exit)) e ⌝ }
-{
-    let ion = rows.ion;
-    let marks = rows.marks;
-    let a = lines::put_word(out, at, b"\nSlot ");
-    let b = lines::put_decimal(out, a, k as u64);
-    let c = lines::put_word(
-        out,
-        b,
-        b"\nrow      MHz   true km  virtual km       loss  segment\n",
-    );
-    let d = row_table::put_rows(out, c, ion);
-    let e = lines::put_word(out, d, b"\nheights   shape\n");
-    run_text::put_runs(out, e, marks)
-}
-
-fn put_slots(out: &mut [u8], at: usize, rows: [SlotRows; 3], slots: usize) -> usize
-    requires { ⌜ slots ≤ 3 ⌝ }
-    ensures { λ e. ⌜ Clipped (joined (slotAt rows) slots) (now (out .entry)) at (now (out .exit)) e ⌝ }
-{
-    let mut e = at;
-    for k in 0..slots {
-        let slot = rows[k];
-        e = put_slot(out, e, slot, k);
-    }
-    e
-}
-
-fn put_page(out: &mut [u8], s: Sheet) -> usize
-    requires { ⌜ s .slots ≤ 3 ⌝ }
-    ensures { λ e. ⌜ Clipped (pageText s) (now (out .entry)) 0 (now (out .exit)) e ⌝ }
-{
-    let h = s.hour;
-    let rows = s.rows;
-    let slots = s.slots;
-    let a = muf_table::put_mufs(out, 0, h);
-    let b = put_slots(out, a, rows, slots);
-    lines::put_word(
-        out,
-        b,
-        b"\nSegment n lies between heights n + 1 and n + 2 of the slot's profile;\ntop: no segment holds the true height; -: none was looked for.\n",
-    )
-}
-
-fn put_refusal(out: &mut [u8], r: Refusal) -> usize
-    ensures { λ e. ⌜ Clipped (refusalText r) (now (out .entry)) 0 (now (out .exit)) e ⌝ }
-{
-    let a = lines::put_refused(out, 0, r);
-    let b = reason_text::put_reason(out, a, r);
-    lines::put_byte(out, b, b'\n')
-}
 
 // The bytes that a page is put into: one of three slots has room.
 pub const ROOM: usize = 9216;
@@ -73,7 +15,7 @@ pub fn show_text(file: &[u8], out: &mut [u8; ROOM]) -> usize
     let s = circuit_sheet::of_file(file);
     let outcome = s.outcome;
     match outcome {
-        Outcome::Answered => put_page(out, s),
-        Outcome::Refused(r) => put_refusal(out, r),
+        Outcome::Answered => show_page::put_page(out, s),
+        Outcome::Refused(r) => show_page::put_refusal(out, r),
     }
 }

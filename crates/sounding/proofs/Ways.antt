@@ -10,7 +10,8 @@ use Rattle.layers.specs.State.{profileOnly}
 use Rattle.layers.specs.declared.IonoState.{IonoState}
 use Rattle.heights.specs.Gethp.{Finder, gethpOf, gethpScanOf}
 use Rattle.heights.proofs.Finders.{Agree, scans-agree}
-use Rattle.sounding.specs.Genion.{rowsOf, virtualBy, rowsBy, rowsWith, fvertAt, genionWith, genionOf}
+use Rattle.sounding_rows.specs.Rows.{rowsOf, virtualBy, rowsBy, rowsWith}
+use Rattle.sounding.specs.Genion.{fvertAt, genionWith, genionOf}
 
 -- rows by two functions that agree at every frequency
 pub rows-agree : {A : Type 0} (row other : Float → A) → ((f : Float) → row f ≡ other f) → (fv : List Float) (first : ℕ) (out : List A) (n : ℕ) → rowsOf row fv first out n ≡ rowsOf other fv first out n

@@ -1,4 +1,3 @@
--- `genion`: the thirty sounding frequencies, and their heights; that it answers of a slot just prepared.
-pub mod Grid
+-- `genion`, and that it answers of a slot just prepared.
 pub mod Genion
 pub mod Prepared

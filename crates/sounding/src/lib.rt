@@ -1,7 +1,4 @@
 // `genion`: a slot's thirty sounding frequencies, and the virtual and the true height of each.
-mod grid;
-mod rows;
-
 ghost use mathlib.Core.Path.{_≡_};
 ghost use Prim.Native.Nat.{_<_};
 ghost use Rattle.sounding.specs.Genion.{fvertAt, genionOf, refusedRows, genionAnswer};
@@ -19,7 +16,7 @@ fn fvert_at(s: IonoState, k: usize) -> [f32; 30]
     let e = 3 * k;
     let f1 = 3 * k + 1;
     let f2 = 3 * k + 2;
-    grid::fvert(s.fi[e], s.fi[f1], s.fi[f2])
+    sounding_grid::fvert(s.fi[e], s.fi[f1], s.fi[f2])
 }
 
 // The ionogram of slot k, whose number is at most 2.
@@ -28,7 +25,7 @@ pub fn genion_slot(s: IonoState, k: usize) -> Ionogram
     ensures { λ r. ⌜ r ≡ genionOf s k ⌝ }
 {
     let fv = fvert_at(s, k);
-    rows::rows(s, k, fv)
+    sounding_rows::rows(s, k, fv)
 }
 
 fn refused(r: Refusal) -> IonogramAnswer

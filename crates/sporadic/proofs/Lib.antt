@@ -1,2 +1,3 @@
--- Searches over rows, one row at a time.
+-- The turns of a search through Es rows, and what they say by number and value.
 pub mod Searches
+mod Says

@@ -1,2 +1,3 @@
--- Sporadic E: a row's ray, the row that controls, and its line.
+-- Sporadic E: a row's ray, the row that controls, its line; and what a step of the search says by number and value.
 pub mod Sporadic
+pub mod Says

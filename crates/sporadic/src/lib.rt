@@ -2,7 +2,8 @@
 ghost use mathlib.Core.Path.{_≡_};
 ghost use Prim.Native.Nat.{_+_, _*_, _<_, _≤_};
 ghost use lib.ListN.{length};
-ghost use Rattle.sporadic.specs.Sporadic.{rayOf, takenOf, esRowOf, startOf, stepNumber, stepValue, rowAt, esFrom, sigl4Of, esFoundOf, esLineOf};
+ghost use Rattle.sporadic.specs.Sporadic.{rayOf, takenOf, esRowOf, startOf, rowAt, esFrom, sigl4Of, esFoundOf, esLineOf};
+ghost use Rattle.sporadic.specs.Says.{RowSays, RowsSay};
 use constants::RZ;
 use hops::Hops;
 use layer_mufs::PathNumbers;
@@ -94,6 +95,7 @@ fn es_taken(a: EsSearch, k: usize, row: EsRow, ray: EsRay, hop: f32) -> EsSearch
 // One row's turn: passed over where its median is at most 0.
 pub fn es_row(a: EsSearch, k: usize, row: EsRow, c: PathNumbers) -> EsStep
     ensures { λ r. ⌜ r ≡ esRowOf a k row c ⌝ }
+    ensures { λ r. ⌜ RowSays r a k row c ⌝ }
 {
     if row.fs1 <= 0.0 {
         return EsStep::Next(a);
@@ -126,36 +128,6 @@ pub fn es_start() -> EsSearch
     }
 }
 
-// 0 for a search, else the refusal's number.
-pub fn step_number(a: EsStep) -> u32
-    ensures { λ n. ⌜ n ≡ stepNumber a ⌝ }
-{
-    match a {
-        EsStep::Next(_) => 0,
-        EsStep::Refused(r) => refusal::number(r),
-    }
-}
-
-// The search, of +0 beside a refusal.
-pub fn step_value(a: EsStep) -> EsSearch
-    ensures { λ r. ⌜ r ≡ stepValue a ⌝ }
-{
-    match a {
-        EsStep::Next(b) => b,
-        EsStep::Refused(_) => EsSearch {
-            esmuf: 0.0,
-            ksx: 0,
-            tdelx: 0.0,
-            secpx: 0.0,
-            hop: 0.0,
-            fs0: 0.0,
-            fs1: 0.0,
-            fs2: 0.0,
-            hs: 0.0,
-        },
-    }
-}
-
 fn flat_row(es: &[f32], k: usize) -> EsRow
     requires { ⌜ 4 * k + 3 < length (now es) ⌝ }
     ensures { λ r. ⌜ r ≡ rowAt (now (es .entry)) k ⌝ }
@@ -176,6 +148,7 @@ fn flat_row(es: &[f32], k: usize) -> EsRow
 pub fn es_rows(es: &[f32], n: usize, c: PathNumbers) -> EsStep
     requires { ⌜ 4 * n ≤ length (now es) ⌝ }
     ensures { λ r. ⌜ r ≡ esFrom (rowAt (now (es .entry))) c n 0 startOf ⌝ }
+    ensures { λ r. ⌜ RowsSay r (rowAt (now (es .entry))) c n 0 startOf ⌝ }
 {
     let mut a = es_start();
     for k in 0..n {

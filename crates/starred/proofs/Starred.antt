@@ -5,10 +5,11 @@ use Rattle.scalar.specs.Literals.{decimal}
 use Rattle.scalar.specs.Scalar.{truncOf, minOf}
 use Rattle.scalar.specs.Root.{sqrtOf}
 use Rattle.layers.specs.Owners.{disowned}
-use Rattle.layers.specs.FromLayers.{fromLayersOf, countTaken, emptyOf, pointsSet, pointSet, rowSet}
-use Rattle.layers.specs.Ionset.{ionsetOf, assignedOf, slotsSettled, slotSettled, f1Settled, f2Settled, tooClose}
+use Rattle.layer_rules.specs.Rules.{countTaken, rowSet, tooClose}
+use Rattle.slots.specs.FromLayers.{fromLayersOf, emptyOf, pointsSet, pointSet}
+use Rattle.slots.specs.Ionset.{ionsetOf, assignedOf, slotsSettled, slotSettled, f1Settled, f2Settled}
 use Rattle.deciles.specs.F2dis.{f2disOf, iccOf, timeBlockOf}
-use Rattle.reflectrix.specs.Angles.{sangOf, stepOf, countOf, raisedFrom, ANG, NANGX}
+use Rattle.scan_angles.specs.Angles.{sangOf, stepOf, countOf, raisedFrom, ANG, NANGX}
 use Rattle.starred.specs.Starred.{Holds, starred, resultOf}
 
 pub starred-trials : Holds starred

@@ -10,10 +10,10 @@ use Rattle.scalar.specs.Literals.{f0, f1, f10, f50, decimal}
 use Rattle.scalar.specs.Scalar.{truncOf}
 use Rattle.scalar.specs.Root.{sqrtOf}
 use Rattle.layers.specs.declared.LayerParams.{LayerParams}
-use Rattle.layers.specs.FromLayers.{fromLayersOf}
-use Rattle.layers.specs.Ionset.{ionsetOf}
+use Rattle.slots.specs.FromLayers.{fromLayersOf}
+use Rattle.slots.specs.Ionset.{ionsetOf}
 use Rattle.deciles.specs.F2dis.{iccOf, f2disOf, deviationNumber}
-use Rattle.reflectrix.specs.Angles.{sangOf, scanNumber, scanValue}
+use Rattle.scan_angles.specs.Angles.{sangOf, scanNumber, scanValue}
 
 pub data Trial : Type 0 where
   -- `sang` at gcdkm and amind

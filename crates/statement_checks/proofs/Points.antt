@@ -7,7 +7,7 @@ use Rattle.scalar.specs.F32.{at}
 use Rattle.layers.specs.declared.LayerParams.{LayerParams}
 use Rattle.layers.specs.declared.EsParams.{EsParams}
 use Rattle.muf_records.specs.Records.{noEs}
-use Rattle.layers.specs.FromLayers.{noLayers}
+use Rattle.layers.specs.State.{noLayers}
 use Rattle.statement_checks.specs.Points.{CountIsAll}
 
 below : {A : Type 0} (l more rest : List A) (d : A) (k : ℕ) → k < length l → getD (l ++ more) k d ≡ getD (l ++ rest) k d

@@ -5,7 +5,8 @@ use Prim.Native.Nat.{ℕ, _+_, _-_, _*_}
 use lib.Ieee.{Float}
 use Rattle.lines.proofs.Sizes.{AtMost, _then_, word, decimal, times}
 use Rattle.aligned.specs.Ascii.{ascii}
-use Rattle.svg_text.proofs.Lengths.{counted, figure}
+use Rattle.svg_trace.proofs.Lengths.{counted}
+use Rattle.svg_text.proofs.Lengths.{figure}
 use Rattle.svg_frame.specs.Frame.{sizeText, styleText, dotsText, formsText, acrossText, upText, acrossAt, upAt, axesText, callText, shapesText, linesText, definedText, headText}
 
 size : (slots : ℕ) → AtMost (sizeText slots) 124

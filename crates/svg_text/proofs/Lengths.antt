@@ -1,51 +1,22 @@
 -- How long the pieces of a panel are at most; a number is given twenty digits, whatever it is.
-use mathlib.Core.Bool.{true}
-use mathlib.Core.List.{List, []}
-use mathlib.Core.Path.{_≡_, refl}
-use Prim.Native.Nat.{ℕ, _+_, _<_}
+use mathlib.Core.Path.{refl}
+use Prim.Native.Nat.{ℕ}
 use native.Mathlib.Omega.{arith}
-use borrow.Author.Tests.{leb-true}
-use lib.Dec.{leb}
 use lib.Ieee.{Float}
-use lib.ListN.{length}
 use Rattle.scalar.specs.Literals.{f0}
-use Rattle.lines.proofs.Sizes.{AtMost, _then_, word, decimal, field, times}
+use Rattle.lines.proofs.Sizes.{AtMost, _then_, word, decimal}
 use Rattle.figures.specs.Figure.{figureOf}
 use Rattle.figure_text.specs.FigureText.{figureText}
 use Rattle.figure_text.proofs.Widths.{figure-five}
 use Rattle.shapes.specs.declared.Mark.{Mark}
-use Rattle.svg_text.specs.declared.Drawn.{Drawn}
+use Rattle.svg_points.specs.declared.Drawn.{Drawn}
 use Rattle.aligned.specs.Ascii.{ascii}
-use Rattle.svg_text.specs.Points.{drawnOf}
-use Rattle.svg_text.specs.Pieces.{penText, pairText, stepText, rowPoint, beforeOf, stepAt, traceText, idOf, useText, markBy, markText, lineText, mufBy, mufText}
-
--- a text whose bytes are counted by computing
-pub counted : (t : List ℕ) (n : ℕ) → leb (length t) n ≡ true → AtMost t n
-counted t n e = record { most = leb-true _ _ e }
-
-none : (n : ℕ) → AtMost [] n
-none n = record { most = omega arith }
+use Rattle.svg_points.specs.Points.{drawnOf}
+use Rattle.svg_text.specs.Pieces.{idOf, useText, markBy, markText, lineText, mufBy, mufText}
+use Rattle.svg_trace.proofs.Lengths.{counted, none}
 
 pub figure : (x : Float) → AtMost (figureText (figureOf x)) 5
 figure x = record { most = omega (arith, figure-five x) }
-
-pen : (d : Drawn) → AtMost (penText d) 1
-unfolding penText
-pen (Drawn.At x y) = counted _ 1 refl
-pen Drawn.Nowhere = counted _ 1 refl
-
-pair : (x y : ℕ) → AtMost (pairText x y) 41
-unfolding pairText
-pair x y = decimal x then field y
-
-step : (b d : Drawn) → AtMost (stepText b d) 42
-unfolding stepText
-step b (Drawn.At x y) = pen b then pair x y
-step b Drawn.Nowhere = none 42
-
-pub trace : (f h : List Float) → AtMost (traceText f h) 1260
-unfolding traceText
-trace f h = times (stepAt f h) 42 30 (λ i l. step (beforeOf f h i) (rowPoint f h i))
 
 id : (m : Mark) → AtMost (idOf m) 6
 unfolding idOf

@@ -1,3 +1,2 @@
--- Where points are, and how long the pieces are.
-pub mod Frame
+-- How long the pieces are.
 pub mod Lengths

@@ -1,3 +1,2 @@
--- The pieces of a panel of the picture: words, points, texts.
-pub mod Points
+-- Marks and the MUF's line.
 pub mod Pieces

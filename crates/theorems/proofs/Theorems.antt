@@ -16,7 +16,7 @@ use Rattle.series.proofs.Pins.{sine-pins, tangent-pins}
 use Rattle.exact_exponential.proofs.ExpTheorem.{exp-near}
 use Rattle.exact_exponential.proofs.LnTheorem.{ln-near}
 use Rattle.exponential_bounds.proofs.Atanh.{ln-own-series}
-use Rattle.exponential.proofs.Special.{exponential-values}
+use Rattle.logarithm.proofs.Special.{exponential-values}
 use Rattle.exact_waves.proofs.Waves.{sin-near, cos-near}
 use Rattle.exact_waves.proofs.Literal.{sin-literal, cos-literal}
 use Rattle.waves.proofs.Special.{wave-values}
@@ -39,10 +39,11 @@ use Rattle.export_refusals.proofs.Exports.{export-refusals}
 use Rattle.wide_circuit.proofs.Laws.{wide-laws}
 use Rattle.circuit_turn.proofs.Laws.{turn-laws}
 use Rattle.profile.proofs.Keeps.{lecden-keeps, lecden-supplied}
-use Rattle.profile.proofs.NeverBoth.{never-both}
+use Rattle.shape_densities.proofs.NeverBoth.{never-both}
 use Rattle.walk.proofs.Walks.{distance-rule}
 use Rattle.heights.proofs.Whole.{forty-reads, mark-unread, exact-rule}
 use Rattle.heights.proofs.SameReads.{walk-same-as-scan}
+use Rattle.walk_apart.proofs.Apart.{walk-apart}
 use Rattle.angles.proofs.Angles.{sin-answers, cos-answers, never-refused-13}
 use Rattle.angles.proofs.Reflectrix.{fobby-small, fobby-answers}
 use Rattle.any_waves.proofs.AnyWaves.{any-waves, mark-unmet}
@@ -64,12 +65,12 @@ use Rattle.marking.proofs.Laws.{marking-laws, marking-cases}
 use Rattle.starred.proofs.Starred.{starred-trials}
 use Rattle.call_lists.proofs.Lists.{lists-of-calls, any-list, read-all}
 use Rattle.call_lists.proofs.OnlyState.{only-state}
-use Rattle.port_state.proofs.ReadBack.{state-read-back, words-suffice}
+use Rattle.state_laws.proofs.ReadBack.{state-read-back, words-suffice}
 use Rattle.call_lists.proofs.PaperWords.{paper-words, refusal-by-arguments, with-contracts}
 use Rattle.call_lists.proofs.SameLists.{lists-of-calls-same}
 use Rattle.call_lists.proofs.Nominal.{nominal-anywhere}
 use Rattle.theorems.specs.Theorems.{Theorems}
-use Rattle.layers.proofs.OwnersLeft.{layers-unowned, ionset-disowns}
+use Rattle.slots.proofs.OwnersLeft.{layers-unowned, ionset-disowns}
 use Rattle.profile.proofs.Owns.{lecden-owner, lecden-owned}
 use Rattle.height_integral.proofs.Above.{above-lowest}
 use Rattle.height_integral.proofs.First.{last-from-one}
@@ -81,7 +82,7 @@ use Rattle.deciles.proofs.NanRow.{nan-middle}
 use Rattle.cell_test.proofs.Test.{test-suffices}
 use Rattle.aligned.proofs.Widths.{right-width}
 use Rattle.decimal_text.proofs.Widths.{number-width}
-use Rattle.svg_text.proofs.Frame.{in-frame}
+use Rattle.svg_points.proofs.Frame.{in-frame}
 use Rattle.compose_laws.proofs.Written.{text-written}
 use Rattle.compose_laws.proofs.ReadBack.{text-read-back}
 use Rattle.statement_checks.proofs.Checks.{statement-checks}
@@ -150,6 +151,7 @@ theorems =
       never-both = never-both;
       forty-reads = forty-reads;
       walk-same-as-scan = walk-same-as-scan;
+      walk-apart = walk-apart;
       distance-rule = distance-rule;
       mark-unread = mark-unread;
       sin-answers = sin-answers;

@@ -5,7 +5,7 @@ use Rattle.scalar.specs.Laws.{LiteralsNearest, TruncIsCast, MinMax, SqrtCorrect
 use Rattle.same.specs.Same.{SameIsEqual}
 use Rattle.series.specs.Rises.{CosineFalls, SineRises, SinePins, TangentPins}
 use Rattle.exact.specs.Enclosure.{OneWave}
-use Rattle.exponential.specs.Special.{ExponentialValues}
+use Rattle.logarithm.specs.Special.{ExponentialValues}
 use Rattle.exponential_bounds.specs.OwnSeries.{LnOwnSeries}
 use Rattle.exact_exponential.specs.Exp.{ExpNear}
 use Rattle.exact_exponential.specs.Enclosure.{ExpEnclosed, ExpOneNumber, ExpRises, ExpPins}
@@ -42,14 +42,15 @@ use Rattle.nominal.specs.Inputs.{ReadsOnly, EsRewritten}
 use Rattle.starred.specs.Starred.{Holds, starred}
 use Rattle.walk.specs.Walk.{DistanceRule}
 use Rattle.heights.specs.SameReads.{WalkSameAsScan}
-use Rattle.port_state.specs.ReadBack.{StateReadBack, WordsSufficeRead}
+use Rattle.walk_apart.specs.Apart.{WalkApart}
+use Rattle.state_laws.specs.ReadBack.{StateReadBack, WordsSufficeRead}
 use Rattle.call_lists.specs.Lists.{ListsOfCalls, OnlyState, ReadAll}
 use Rattle.call_lists.specs.PaperWords.{PaperWords, RefusalByArguments, WithContracts}
 use Rattle.call_lists.specs.SameLists.{SameListsOfCalls}
 use Rattle.call_lists.specs.Nominal.{NominalAnywhere}
 use Rattle.arc_series.specs.OwnSeries.{AtanOwnSeries}
 use Rattle.theorems.specs.Unnamed.{LecdenKeeps, LecdenSupplied, NeverBoth, ReadsOfWalk, MarkUnread, AnyList, MarkRules, SlotsMarked, ExactRules}
-use Rattle.layers.specs.OwnersLeft.{LayersUnowned, IonsetDisowns}
+use Rattle.slots.specs.OwnersLeft.{LayersUnowned, IonsetDisowns}
 use Rattle.profile.specs.LecdenOwns.{LecdenOwner, LecdenOwned}
 use Rattle.height_integral.specs.Lowest.{AboveLowest, LastFromOne}
 use Rattle.heights.specs.Segments.{SegmentsFound}
@@ -59,7 +60,7 @@ use Rattle.deciles.specs.NanRow.{NanMiddle}
 use Rattle.cell_test.specs.Laws.{TestSuffices}
 use Rattle.aligned.specs.Aligned.{RightWidth}
 use Rattle.decimal_text.specs.Number.{NumberWidth}
-use Rattle.svg_text.specs.Points.{InFrame}
+use Rattle.svg_points.specs.Points.{InFrame}
 use Rattle.compose_laws.specs.Laws.{TextWritten}
 use Rattle.compose_laws.specs.Laws.{TextReadBack}
 use Rattle.statement_checks.specs.Checks.{StatementChecks}
@@ -173,6 +174,8 @@ pub record Theorems : Type 0 where
   pub forty-reads : ReadsOfWalk
   -- by bits, each reading of the walk is the scan's, and the heights found by walks and by scans are the contract's
   pub walk-same-as-scan : WalkSameAsScan
+  -- told to walk, `gethp_read` promises on profiles that do not rise what neither scans find nor the cursor's rule counts
+  pub walk-apart : WalkApart
   -- the distance that the cursor's moves sum: the lesser and the distance are the greater, both ways
   pub distance-rule : DistanceRule
   -- the stored rising mark does not matter

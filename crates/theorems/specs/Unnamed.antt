@@ -15,7 +15,7 @@ use Rattle.profile.specs.Rising.{risesOf}
 use Rattle.walk.specs.Walk.{Held}
 use Rattle.heights.specs.Gethp.{gethpOf}
 use Rattle.heights.specs.Reads.{FortyReads, ExactRule}
-use Rattle.profile.specs.declared.Curves.{Curves}
+use Rattle.shape_densities.specs.declared.Curves.{Curves}
 use Rattle.shapes.specs.Meaning.{MarkRule, SlotMarks}
 use Rattle.call_lists.specs.Calls.{Call}
 use Rattle.call_lists.specs.Lists.{Allowed, ListOfCalls}

@@ -8,7 +8,7 @@ use layers::LayerMuf;
 use layers::LayerParams;
 use reflectrix::Ionogram;
 use slot_sheet::SlotSheet;
-use waves::Answer;
+use wave_answers::Answer;
 
 fn say(what: &[u8], n: u64) {
     io::write_all(1, what);
@@ -40,8 +40,8 @@ fn points() -> [LayerParams; 5] {
 
 // One such point, as `ionset` leaves it.
 fn slots() -> IonoState {
-    let made = layers::from_layers(points(), 1);
-    let set = layers::ionset(made.state);
+    let made = slots::from_layers(points(), 1);
+    let set = slots::ionset(made.state);
     set.state
 }
 
@@ -73,7 +73,7 @@ fn rooms() {
 }
 
 fn number_of(a: Answer) -> u64 {
-    waves::answer_number(a) as u64
+    wave_answers::answer_number(a) as u64
 }
 
 // 4 itself answers, the next f32 is refused; a NaN is no refusal.
@@ -81,20 +81,29 @@ fn angles() {
     let four = scalar::number(0x4080_0000);
     let next = scalar::number(0x4080_0001);
     let nan = scalar::number(0x7fc0_0000);
-    say(b"sin 4: ", number_of(waves::sin_or_refuse(four)));
-    say(b"sin above 4: ", number_of(waves::sin_or_refuse(next)));
-    say(b"sin -4: ", number_of(waves::sin_or_refuse(-four)));
-    say(b"sin below -4: ", number_of(waves::sin_or_refuse(-next)));
-    say(b"sin NaN: ", number_of(waves::sin_or_refuse(nan)));
-    say(b"cos 4: ", number_of(waves::cos_or_refuse(four)));
-    say(b"cos above 4: ", number_of(waves::cos_or_refuse(next)));
+    say(b"sin 4: ", number_of(wave_answers::sin_or_refuse(four)));
+    say(
+        b"sin above 4: ",
+        number_of(wave_answers::sin_or_refuse(next)),
+    );
+    say(b"sin -4: ", number_of(wave_answers::sin_or_refuse(-four)));
+    say(
+        b"sin below -4: ",
+        number_of(wave_answers::sin_or_refuse(-next)),
+    );
+    say(b"sin NaN: ", number_of(wave_answers::sin_or_refuse(nan)));
+    say(b"cos 4: ", number_of(wave_answers::cos_or_refuse(four)));
+    say(
+        b"cos above 4: ",
+        number_of(wave_answers::cos_or_refuse(next)),
+    );
     say_bits(
         b"sine of 4: ",
-        waves::answer_value(waves::sin_or_refuse(four)),
+        wave_answers::answer_value(wave_answers::sin_or_refuse(four)),
     );
     say_bits(
         b"beside its refusal: ",
-        waves::answer_value(waves::sin_or_refuse(next)),
+        wave_answers::answer_value(wave_answers::sin_or_refuse(next)),
     );
 }
 
@@ -184,13 +193,13 @@ fn prepared_twice() {
 
 // One to five points.
 fn counts() {
-    let made = layers::from_layers(points(), 0);
+    let made = slots::from_layers(points(), 0);
     let none = made.outcome;
     say(b"no point: ", refusal::outcome_number(none) as u64);
-    let made = layers::from_layers(points(), 6);
+    let made = slots::from_layers(points(), 6);
     let many = made.outcome;
     say(b"six points: ", refusal::outcome_number(many) as u64);
-    let set = layers::ionset(layers::zero_state());
+    let set = slots::ionset(layers::zero_state());
     let unset = set.outcome;
     say(
         b"slots of no point: ",

@@ -2,7 +2,7 @@
 -- All angles are y / 2 ^ 61 up to 5. part r y over `whole` is the class r at y, short by at most `rest` over `whole`, which is less than 2 ^ -100.
 use mathlib.Core.Path.{_≡_, refl, sym, ap, ap₂, _∙_, subst, subst₂}
 use Prim.Native.Nat.{ℕ, zero, suc, _+_, _*_, _/_, _^_, _≤_, _<_}
-use native.Mathlib.Nat.{le-trans, le-of-eq, le-refl, add-le-add, mul-pos, mul-comm, mul-le-mul-left, mul-le-mul-right, le-of-mul-le-mul-right, pow-le-pow-left, div-mul-le-self}
+use native.Mathlib.Nat.{le-trans, le-of-eq, le-refl, add-comm, add-le-add, mul-pos, mul-comm, mul-le-mul-left, mul-le-mul-right, le-of-mul-le-mul-right, pow-le-pow-left, div-mul-le-self}
 use native.Mathlib.Omega.{arith}
 use lib.Dec.{lit<, lit≤}
 use lib.Pow.{pow-pos}
@@ -224,7 +224,7 @@ circle-low xa xb s g m w h k N = omega (arith, mul-le-mul-left xa k, mul-le-mul-
 -- all that is off, over F²
 module _ (F W δ ρ xa xb r₁ r₃ : ℕ) (P : 0 < F) (R : ρ ≤ 32 * F) (A : xa ≤ 256 * F) (B : xb ≤ 256 * F) where
   abbrev off : ℕ
-  off = 4194304 * W + 32 * δ
+  off = 0x40_0000 * W + 32 * δ
 
   -- the angle is a turn less the small one: M and M' are products of the sums, Q and Q' of the turn
   less : (M M' Q Q' : ℕ) → xa * (F * F) + M' ≤ xb * (F * F) + M + (xa + xb) * (4096 * (W * F)) → F * Q' ≤ M' + 4096 * (W * F) * ρ → M ≤ F * Q + 4096 * (W * F) * ρ → Q + F * r₃ ≤ Q' + F * r₁ + δ * ρ
@@ -260,42 +260,6 @@ collect x₀ x₁ x₂ x₃ a₀ b₀ c₀ e₀ a₁ b₁ c₁ e₁ a₂ b₂ c�
     rows p₀ q₀ r₀ s₀ p₁ q₁ r₁ s₁ p₂ q₂ r₂ s₂ p₃ q₃ r₃ s₃ = ap (λ (u : ℕ). u + (x₀ * p₂ + x₁ * q₂ + x₂ * r₂ + x₃ * s₂) + (x₀ * p₃ + x₁ * q₃ + x₂ * r₃ + x₃ * s₃)) (two p₀ q₀ r₀ s₀ p₁ q₁ r₁ s₁) ∙ ap (λ (u : ℕ). u + (x₀ * p₃ + x₁ * q₃ + x₂ * r₃ + x₃ * s₃)) (two (p₀ + p₁) (q₀ + q₁) (r₀ + r₁) (s₀ + s₁) p₂ q₂ r₂ s₂) ∙ two (p₀ + p₁ + p₂) (q₀ + q₁ + q₂) (r₀ + r₁ + r₂) (s₀ + s₁ + s₂) p₃ q₃ r₃ s₃
 
 module _ (x₀ x₁ x₂ x₃ r₀ r₁ r₂ r₃ : ℕ) where
-  at-1 : (x₀ * r₀ + x₁ * r₃ + x₂ * r₂ + x₃ * r₁) * r₃ + (x₀ * r₁ + x₁ * r₀ + x₂ * r₃ + x₃ * r₂) * r₀ + (x₀ * r₂ + x₁ * r₁ + x₂ * r₀ + x₃ * r₃) * r₁ + (x₀ * r₃ + x₁ * r₂ + x₂ * r₁ + x₃ * r₀) * r₂ ≡ (x₀ + x₂) * (r₀ * r₃ + r₁ * r₀ + r₂ * r₁ + r₃ * r₂) + x₁ * (r₀ * r₀ + r₁ * r₁ + r₂ * r₂ + r₃ * r₃) + x₃ * (r₀ * r₂ + r₁ * r₃ + r₂ * r₀ + r₃ * r₁)
-  at-1 = collect x₀ x₁ x₂ x₃ r₀ r₃ r₂ r₁ r₁ r₀ r₃ r₂ r₂ r₁ r₀ r₃ r₃ r₂ r₁ r₀ r₃ r₀ r₁ r₂ ∙ ap₂ (λ (u v : ℕ). x₀ * u + x₁ * v + x₂ * (r₂ * r₃ + r₃ * r₀ + r₀ * r₁ + r₁ * r₂) + x₃ * (r₁ * r₃ + r₂ * r₀ + r₃ * r₁ + r₀ * r₂)) i₀ i₁ ∙ ap₂ (λ (u v : ℕ). x₀ * (r₀ * r₃ + r₁ * r₀ + r₂ * r₁ + r₃ * r₂) + x₁ * (r₀ * r₀ + r₁ * r₁ + r₂ * r₂ + r₃ * r₃) + x₂ * u + x₃ * v) i₂ i₃ ∙ turn (r₀ * r₃ + r₁ * r₀ + r₂ * r₁ + r₃ * r₂) (r₀ * r₀ + r₁ * r₁ + r₂ * r₂ + r₃ * r₃) (r₀ * r₂ + r₁ * r₃ + r₂ * r₀ + r₃ * r₁)
-    where
-      i₀ : r₀ * r₃ + r₁ * r₀ + r₂ * r₁ + r₃ * r₂ ≡ r₀ * r₃ + r₁ * r₀ + r₂ * r₁ + r₃ * r₂
-      i₀ = omega arith
-
-      i₁ : r₃ * r₃ + r₀ * r₀ + r₁ * r₁ + r₂ * r₂ ≡ r₀ * r₀ + r₁ * r₁ + r₂ * r₂ + r₃ * r₃
-      i₁ = omega arith
-
-      i₂ : r₂ * r₃ + r₃ * r₀ + r₀ * r₁ + r₁ * r₂ ≡ r₀ * r₃ + r₁ * r₀ + r₂ * r₁ + r₃ * r₂
-      i₂ = omega arith
-
-      i₃ : r₁ * r₃ + r₂ * r₀ + r₃ * r₁ + r₀ * r₂ ≡ r₀ * r₂ + r₁ * r₃ + r₂ * r₀ + r₃ * r₁
-      i₃ = omega arith
-
-      turn : (o s g : ℕ) → x₀ * o + x₁ * s + x₂ * o + x₃ * g ≡ (x₀ + x₂) * o + x₁ * s + x₃ * g
-      turn o s g = omega arith
-
-  at-3 : (x₀ * r₀ + x₁ * r₃ + x₂ * r₂ + x₃ * r₁) * r₁ + (x₀ * r₁ + x₁ * r₀ + x₂ * r₃ + x₃ * r₂) * r₂ + (x₀ * r₂ + x₁ * r₁ + x₂ * r₀ + x₃ * r₃) * r₃ + (x₀ * r₃ + x₁ * r₂ + x₂ * r₁ + x₃ * r₀) * r₀ ≡ (x₀ + x₂) * (r₀ * r₃ + r₁ * r₀ + r₂ * r₁ + r₃ * r₂) + x₁ * (r₀ * r₂ + r₁ * r₃ + r₂ * r₀ + r₃ * r₁) + x₃ * (r₀ * r₀ + r₁ * r₁ + r₂ * r₂ + r₃ * r₃)
-  at-3 = collect x₀ x₁ x₂ x₃ r₀ r₃ r₂ r₁ r₁ r₀ r₃ r₂ r₂ r₁ r₀ r₃ r₃ r₂ r₁ r₀ r₁ r₂ r₃ r₀ ∙ ap₂ (λ (u v : ℕ). x₀ * u + x₁ * v + x₂ * (r₂ * r₁ + r₃ * r₂ + r₀ * r₃ + r₁ * r₀) + x₃ * (r₁ * r₁ + r₂ * r₂ + r₃ * r₃ + r₀ * r₀)) i₀ i₁ ∙ ap₂ (λ (u v : ℕ). x₀ * (r₀ * r₃ + r₁ * r₀ + r₂ * r₁ + r₃ * r₂) + x₁ * (r₀ * r₂ + r₁ * r₃ + r₂ * r₀ + r₃ * r₁) + x₂ * u + x₃ * v) i₂ i₃ ∙ turn (r₀ * r₃ + r₁ * r₀ + r₂ * r₁ + r₃ * r₂) (r₀ * r₂ + r₁ * r₃ + r₂ * r₀ + r₃ * r₁) (r₀ * r₀ + r₁ * r₁ + r₂ * r₂ + r₃ * r₃)
-    where
-      i₀ : r₀ * r₁ + r₁ * r₂ + r₂ * r₃ + r₃ * r₀ ≡ r₀ * r₃ + r₁ * r₀ + r₂ * r₁ + r₃ * r₂
-      i₀ = omega arith
-
-      i₁ : r₃ * r₁ + r₀ * r₂ + r₁ * r₃ + r₂ * r₀ ≡ r₀ * r₂ + r₁ * r₃ + r₂ * r₀ + r₃ * r₁
-      i₁ = omega arith
-
-      i₂ : r₂ * r₁ + r₃ * r₂ + r₀ * r₃ + r₁ * r₀ ≡ r₀ * r₃ + r₁ * r₀ + r₂ * r₁ + r₃ * r₂
-      i₂ = omega arith
-
-      i₃ : r₁ * r₁ + r₂ * r₂ + r₃ * r₃ + r₀ * r₀ ≡ r₀ * r₀ + r₁ * r₁ + r₂ * r₂ + r₃ * r₃
-      i₃ = omega arith
-
-      turn : (o s g : ℕ) → x₀ * o + x₁ * s + x₂ * o + x₃ * g ≡ (x₀ + x₂) * o + x₁ * s + x₃ * g
-      turn o s g = omega arith
-
   at-0 : (x₀ * r₀ + x₁ * r₃ + x₂ * r₂ + x₃ * r₁) * r₀ + (x₀ * r₁ + x₁ * r₀ + x₂ * r₃ + x₃ * r₂) * r₁ + (x₀ * r₂ + x₁ * r₁ + x₂ * r₀ + x₃ * r₃) * r₂ + (x₀ * r₃ + x₁ * r₂ + x₂ * r₁ + x₃ * r₀) * r₃ ≡ (x₁ + x₃) * (r₀ * r₃ + r₁ * r₀ + r₂ * r₁ + r₃ * r₂) + x₀ * (r₀ * r₀ + r₁ * r₁ + r₂ * r₂ + r₃ * r₃) + x₂ * (r₀ * r₂ + r₁ * r₃ + r₂ * r₀ + r₃ * r₁)
   at-0 = collect x₀ x₁ x₂ x₃ r₀ r₃ r₂ r₁ r₁ r₀ r₃ r₂ r₂ r₁ r₀ r₃ r₃ r₂ r₁ r₀ r₀ r₁ r₂ r₃ ∙ ap₂ (λ (u v : ℕ). x₀ * u + x₁ * v + x₂ * (r₂ * r₀ + r₃ * r₁ + r₀ * r₂ + r₁ * r₃) + x₃ * (r₁ * r₀ + r₂ * r₁ + r₃ * r₂ + r₀ * r₃)) i₀ i₁ ∙ ap₂ (λ (u v : ℕ). x₀ * (r₀ * r₀ + r₁ * r₁ + r₂ * r₂ + r₃ * r₃) + x₁ * (r₀ * r₃ + r₁ * r₀ + r₂ * r₁ + r₃ * r₂) + x₂ * u + x₃ * v) i₂ i₃ ∙ turn (r₀ * r₃ + r₁ * r₀ + r₂ * r₁ + r₃ * r₂) (r₀ * r₀ + r₁ * r₁ + r₂ * r₂ + r₃ * r₃) (r₀ * r₂ + r₁ * r₃ + r₂ * r₀ + r₃ * r₁)
     where
@@ -314,23 +278,35 @@ module _ (x₀ x₁ x₂ x₃ r₀ r₁ r₂ r₃ : ℕ) where
       turn : (o s g : ℕ) → x₀ * s + x₁ * o + x₂ * g + x₃ * o ≡ (x₁ + x₃) * o + x₀ * s + x₂ * g
       turn o s g = omega arith
 
-  at-2 : (x₀ * r₀ + x₁ * r₃ + x₂ * r₂ + x₃ * r₁) * r₂ + (x₀ * r₁ + x₁ * r₀ + x₂ * r₃ + x₃ * r₂) * r₃ + (x₀ * r₂ + x₁ * r₁ + x₂ * r₀ + x₃ * r₃) * r₀ + (x₀ * r₃ + x₁ * r₂ + x₂ * r₁ + x₃ * r₀) * r₁ ≡ (x₁ + x₃) * (r₀ * r₃ + r₁ * r₀ + r₂ * r₁ + r₃ * r₂) + x₀ * (r₀ * r₂ + r₁ * r₃ + r₂ * r₀ + r₃ * r₁) + x₂ * (r₀ * r₀ + r₁ * r₁ + r₂ * r₂ + r₃ * r₃)
-  at-2 = collect x₀ x₁ x₂ x₃ r₀ r₃ r₂ r₁ r₁ r₀ r₃ r₂ r₂ r₁ r₀ r₃ r₃ r₂ r₁ r₀ r₂ r₃ r₀ r₁ ∙ ap₂ (λ (u v : ℕ). x₀ * u + x₁ * v + x₂ * (r₂ * r₂ + r₃ * r₃ + r₀ * r₀ + r₁ * r₁) + x₃ * (r₁ * r₂ + r₂ * r₃ + r₃ * r₀ + r₀ * r₁)) i₀ i₁ ∙ ap₂ (λ (u v : ℕ). x₀ * (r₀ * r₂ + r₁ * r₃ + r₂ * r₀ + r₃ * r₁) + x₁ * (r₀ * r₃ + r₁ * r₀ + r₂ * r₁ + r₃ * r₂) + x₂ * u + x₃ * v) i₂ i₃ ∙ turn (r₀ * r₃ + r₁ * r₀ + r₂ * r₁ + r₃ * r₂) (r₀ * r₂ + r₁ * r₃ + r₂ * r₀ + r₃ * r₁) (r₀ * r₀ + r₁ * r₁ + r₂ * r₂ + r₃ * r₃)
+  -- the classes x turned by one turn the products by one
+  turned : (s₀ s₁ s₂ s₃ : ℕ) → (x₀ * r₀ + x₁ * r₃ + x₂ * r₂ + x₃ * r₁) * s₃ + (x₀ * r₁ + x₁ * r₀ + x₂ * r₃ + x₃ * r₂) * s₀ + (x₀ * r₂ + x₁ * r₁ + x₂ * r₀ + x₃ * r₃) * s₁ + (x₀ * r₃ + x₁ * r₂ + x₂ * r₁ + x₃ * r₀) * s₂ ≡ (x₁ * r₀ + x₂ * r₃ + x₃ * r₂ + x₀ * r₁) * s₀ + (x₁ * r₁ + x₂ * r₀ + x₃ * r₃ + x₀ * r₂) * s₁ + (x₁ * r₂ + x₂ * r₁ + x₃ * r₀ + x₀ * r₃) * s₂ + (x₁ * r₃ + x₂ * r₂ + x₃ * r₁ + x₀ * r₀) * s₃
+  turned s₀ s₁ s₂ s₃ =
+      around ((x₀ * r₀ + x₁ * r₃ + x₂ * r₂ + x₃ * r₁) * s₃) ((x₀ * r₁ + x₁ * r₀ + x₂ * r₃ + x₃ * r₂) * s₀) ((x₀ * r₂ + x₁ * r₁ + x₂ * r₀ + x₃ * r₃) * s₁) ((x₀ * r₃ + x₁ * r₂ + x₂ * r₁ + x₃ * r₀) * s₂)
+      ∙ ap₂ (λ (u v : ℕ). u + v) (ap₂ (λ (u v : ℕ). u + v) (ap₂ (λ (u v : ℕ). u + v) (times s₀ r₁ r₀ r₃ r₂) (times s₁ r₂ r₁ r₀ r₃)) (times s₂ r₃ r₂ r₁ r₀)) (times s₃ r₀ r₃ r₂ r₁)
     where
-      i₀ : r₀ * r₂ + r₁ * r₃ + r₂ * r₀ + r₃ * r₁ ≡ r₀ * r₂ + r₁ * r₃ + r₂ * r₀ + r₃ * r₁
-      i₀ = omega arith
+      around : (a b c d : ℕ) → a + b + c + d ≡ b + c + d + a
+      around a b c d = omega arith
 
-      i₁ : r₃ * r₂ + r₀ * r₃ + r₁ * r₀ + r₂ * r₁ ≡ r₀ * r₃ + r₁ * r₀ + r₂ * r₁ + r₃ * r₂
-      i₁ = omega arith
+      times : (s a b c d : ℕ) → (x₀ * a + x₁ * b + x₂ * c + x₃ * d) * s ≡ (x₁ * b + x₂ * c + x₃ * d + x₀ * a) * s
+      times s a b c d = ap (λ (u : ℕ). u * s) (around (x₀ * a) (x₁ * b) (x₂ * c) (x₃ * d))
 
-      i₂ : r₂ * r₂ + r₃ * r₃ + r₀ * r₀ + r₁ * r₁ ≡ r₀ * r₀ + r₁ * r₁ + r₂ * r₂ + r₃ * r₃
-      i₂ = omega arith
+module _ (x₀ x₁ x₂ x₃ r₀ r₁ r₂ r₃ : ℕ) where
+  at-1 : (x₀ * r₀ + x₁ * r₃ + x₂ * r₂ + x₃ * r₁) * r₃ + (x₀ * r₁ + x₁ * r₀ + x₂ * r₃ + x₃ * r₂) * r₀ + (x₀ * r₂ + x₁ * r₁ + x₂ * r₀ + x₃ * r₃) * r₁ + (x₀ * r₃ + x₁ * r₂ + x₂ * r₁ + x₃ * r₀) * r₂ ≡ (x₀ + x₂) * (r₀ * r₃ + r₁ * r₀ + r₂ * r₁ + r₃ * r₂) + x₁ * (r₀ * r₀ + r₁ * r₁ + r₂ * r₂ + r₃ * r₃) + x₃ * (r₀ * r₂ + r₁ * r₃ + r₂ * r₀ + r₃ * r₁)
+  at-1 = turned x₀ x₁ x₂ x₃ r₀ r₁ r₂ r₃ r₀ r₁ r₂ r₃ ∙ at-0 x₁ x₂ x₃ x₀ r₀ r₁ r₂ r₃ ∙ ap (λ (u : ℕ). u * (r₀ * r₃ + r₁ * r₀ + r₂ * r₁ + r₃ * r₂) + x₁ * (r₀ * r₀ + r₁ * r₁ + r₂ * r₂ + r₃ * r₃) + x₃ * (r₀ * r₂ + r₁ * r₃ + r₂ * r₀ + r₃ * r₁)) (add-comm x₂ x₀)
 
-      i₃ : r₁ * r₂ + r₂ * r₃ + r₃ * r₀ + r₀ * r₁ ≡ r₀ * r₃ + r₁ * r₀ + r₂ * r₁ + r₃ * r₂
-      i₃ = omega arith
+module _ (x₀ x₁ x₂ x₃ r₀ r₁ r₂ r₃ : ℕ) where
+  at-2 : (x₀ * r₀ + x₁ * r₃ + x₂ * r₂ + x₃ * r₁) * r₂ + (x₀ * r₁ + x₁ * r₀ + x₂ * r₃ + x₃ * r₂) * r₃ + (x₀ * r₂ + x₁ * r₁ + x₂ * r₀ + x₃ * r₃) * r₀ + (x₀ * r₃ + x₁ * r₂ + x₂ * r₁ + x₃ * r₀) * r₁ ≡ (x₁ + x₃) * (r₀ * r₃ + r₁ * r₀ + r₂ * r₁ + r₃ * r₂) + x₀ * (r₀ * r₂ + r₁ * r₃ + r₂ * r₀ + r₃ * r₁) + x₂ * (r₀ * r₀ + r₁ * r₁ + r₂ * r₂ + r₃ * r₃)
+  at-2 = turned x₀ x₁ x₂ x₃ r₀ r₁ r₂ r₃ r₃ r₀ r₁ r₂ ∙ at-1 x₁ x₂ x₃ x₀ r₀ r₁ r₂ r₃ ∙ around ((x₁ + x₃) * (r₀ * r₃ + r₁ * r₀ + r₂ * r₁ + r₃ * r₂)) (x₂ * (r₀ * r₀ + r₁ * r₁ + r₂ * r₂ + r₃ * r₃)) (x₀ * (r₀ * r₂ + r₁ * r₃ + r₂ * r₀ + r₃ * r₁))
+    where
+      around : (a b c : ℕ) → a + b + c ≡ a + c + b
+      around a b c = omega arith
 
-      turn : (o s g : ℕ) → x₀ * s + x₁ * o + x₂ * g + x₃ * o ≡ (x₁ + x₃) * o + x₀ * s + x₂ * g
-      turn o s g = omega arith
+module _ (x₀ x₁ x₂ x₃ r₀ r₁ r₂ r₃ : ℕ) where
+  at-3 : (x₀ * r₀ + x₁ * r₃ + x₂ * r₂ + x₃ * r₁) * r₁ + (x₀ * r₁ + x₁ * r₀ + x₂ * r₃ + x₃ * r₂) * r₂ + (x₀ * r₂ + x₁ * r₁ + x₂ * r₀ + x₃ * r₃) * r₃ + (x₀ * r₃ + x₁ * r₂ + x₂ * r₁ + x₃ * r₀) * r₀ ≡ (x₀ + x₂) * (r₀ * r₃ + r₁ * r₀ + r₂ * r₁ + r₃ * r₂) + x₁ * (r₀ * r₂ + r₁ * r₃ + r₂ * r₀ + r₃ * r₁) + x₃ * (r₀ * r₀ + r₁ * r₁ + r₂ * r₂ + r₃ * r₃)
+  at-3 = turned x₀ x₁ x₂ x₃ r₀ r₁ r₂ r₃ r₂ r₃ r₀ r₁ ∙ at-2 x₁ x₂ x₃ x₀ r₀ r₁ r₂ r₃ ∙ swap (x₁ * (r₀ * r₂ + r₁ * r₃ + r₂ * r₀ + r₃ * r₁)) (x₃ * (r₀ * r₀ + r₁ * r₁ + r₂ * r₂ + r₃ * r₃))
+    where
+      swap : (a b : ℕ) → (x₂ + x₀) * (r₀ * r₃ + r₁ * r₀ + r₂ * r₁ + r₃ * r₂) + a + b ≡ (x₀ + x₂) * (r₀ * r₃ + r₁ * r₀ + r₂ * r₁ + r₃ * r₂) + a + b
+      swap a b = ap (λ (u : ℕ). u * (r₀ * r₃ + r₁ * r₀ + r₂ * r₁ + r₃ * r₂) + a + b) (add-comm x₂ x₀)
 
 -- ---- the classes of an angle that is a turn less the small one
 module _ (F W δ x₀ x₁ x₂ x₃ r₀ r₁ r₂ r₃ p₀ p₁ p₂ p₃ : ℕ) (P : 0 < F)
@@ -375,7 +351,7 @@ module _ (F W δ x₀ x₁ x₂ x₃ r₀ r₁ r₂ r₃ p₀ p₁ p₂ p₃ : �
       flat a b c d = omega arith
 
   abbrev off' : ℕ
-  off' = 4194304 * W + 32 * δ
+  off' = 0x40_0000 * W + 32 * δ
 
   swap : (N a b : ℕ) → N + a + b ≡ N + b + a
   swap N a b = omega arith
@@ -436,7 +412,7 @@ module _ (F W δ x₀ x₁ x₂ x₃ r₀ r₁ r₂ r₃ p₀ p₁ p₂ p₃ : �
 module _ (F W δ xa xb a b c e r₀ r₁ r₂ r₃ l l' : ℕ) (P : 0 < F) (A : xa ≤ 256 * F) (B : xb ≤ 256 * F) (ρ : r₀ + r₁ + r₂ + r₃ ≤ 32 * F)
     (s : Within xa F l (4096 * (W * F))) (s' : Within xb F l' (4096 * (W * F))) (i : l ≡ a * r₁ + b * r₃ + c * r₀ + e * r₂) (i' : l' ≡ a * r₃ + b * r₁ + c * r₂ + e * r₀)
     (h : a ≤ b + F + δ) (k : b + F ≤ a + δ) (m : c ≤ e + δ) (n : e ≤ c + δ) where
-  angle-more : Alike xa xb r₁ r₃ (4194304 * W + 32 * δ)
+  angle-more : Alike xa xb r₁ r₃ (0x40_0000 * W + 32 * δ)
   angle-more =
       record {
         low = more F W δ (r₀ + r₁ + r₂ + r₃) xa xb r₁ r₃ P ρ A B l l' (s .high) (s' .low) (subst₂ (λ (x y : ℕ). x + F * r₃ ≤ y + F * r₁ + δ * (r₀ + r₁ + r₂ + r₃)) (sym i) (sym i') (turn-low F δ a b c e r₀ r₁ r₂ r₃ h k m n));
@@ -465,13 +441,13 @@ three-facts = (lit≤ tt, lit≤ tt, lit≤ tt, lit≤ tt)
 
 -- how far off, over `whole`
 unfoldable pub gap : ℕ
-gap = 4194304 * rest + 32 * δ
+gap = 0x40_0000 * rest + 32 * δ
 
 pub gap-small : 2 ^ 56 * gap ≤ whole
 unfolding gap δ
 gap-small = go rest (whole / 2 ^ 62) whole rest-small (div-mul-le-self whole (2 ^ 62))
   where
-    go : (x y z : ℕ) → 2 ^ 100 * x ≤ z → y * 2 ^ 62 ≤ z → 2 ^ 56 * (4194304 * x + 32 * y) ≤ z
+    go : (x y z : ℕ) → 2 ^ 100 * x ≤ z → y * 2 ^ 62 ≤ z → 2 ^ 56 * (0x40_0000 * x + 32 * y) ≤ z
     go x y z a b = omega arith
 
 -- ---- for the angle x / 2 ^ 61 and the small one r / 2 ^ 61

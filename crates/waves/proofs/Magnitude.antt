@@ -42,6 +42,19 @@ mag-ge a = mul-le-mul-right (2 ^ 26) (le-trans (le-of-eq refl) (mul-le-mul (m-ge
     m-ge : (a : ℕ) → 2 ^ 23 ≤ 2 ^ 23 + a % 2 ^ 23
     m-ge a = omega arith
 
+-- what the folds ask of an angle: it is positive, at most 4, and a multiple of 2 ^ 26, which no turn is
+abbrev pub Turnable : ℕ → Type 0
+Turnable X = (0 < X) × ((X ≤ 2 ^ 63) × (X % 2 ^ 26 ≡ 0))
+
+pub turnable : (a : ℕ) → a ≤ 0x4080_0000 → Turnable (magOf a)
+turnable a h = (go (magOf a) (mag-ge a), (mag-le a h, multiple (scaledOf a 115)))
+  where
+    go : (x : ℕ) → 2 ^ 49 ≤ x → 0 < x
+    go x l = omega arith
+
+    multiple : (x : ℕ) → x * 2 ^ 26 % 2 ^ 26 ≡ 0
+    multiple x = omega arith
+
 -- below 1, or a multiple of 2 ^ -23
 pub grain : (a : ℕ) → (magOf a < 2 ^ 61) ⊎ ((k : ℕ) × (magOf a ≡ k * 2 ^ 38))
 grain a = split (a / 2 ^ 23 - 115) 12 (λ h. inl (below h)) (λ h. inr ((2 ^ 23 + a % 2 ^ 23) * 2 ^ (a / 2 ^ 23 - 115 - 12), multiple h))

@@ -1,4 +1,3 @@
--- sin and cos as whole-number definitions, their answers where a refusal is asked for, and their special values.
+-- sin and cos as whole-number definitions, and their special values.
 pub mod SinCos
-pub mod Answers
 pub mod Special

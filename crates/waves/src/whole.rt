@@ -3,7 +3,7 @@ ghost use mathlib.Core.Path.{_≡_};
 ghost use lib.Count.{leadingZeros};
 ghost use Prim.Native.Nat.{_+_, _-_, _*_, _/_, _%_, _^_, _<_, _≤_};
 ghost use Rattle.series.specs.Series.{sine, cosine};
-ghost use Rattle.waves.specs.SinCos.{times, added, taken, ratioOf, sineAt, apart, sinFold, cosFold, sinSign, cosSign, waveBits};
+ghost use Rattle.waves.specs.SinCos.{times, added, taken, ratioOf, sineAt, apart, sinFold, cosFold, sinSign, cosSign, magOf, waveBits};
 ghost use Rattle.fixed.specs.Fixed.{pick};
 ghost use lib.Dec.{leb};
 use fixed::pack;
@@ -14,7 +14,15 @@ fn product(u: u64, v: u64) -> u64
     requires { ⌜ (u < 2 ^ 32) × (v < 2 ^ 32) ⌝ }
     ensures { λ r. ⌜ r ≡ times u v ⌝ }
 {
-    u * v / 4294967296
+    u * v / 0x1_0000_0000
+}
+
+// four terms by Horner's rule
+fn horner(w: u64, a: u64, b: u64, c: u64, d: u64) -> u64
+    requires { ⌜ (w < 2 ^ 32) × (a ≤ 2 ^ 32) × (b + c + d < 2 ^ 32) ⌝ }
+    ensures { λ r. ⌜ r ≡ a + times w (b + times w (c + times w d)) ⌝ }
+{
+    a + product(w, b + product(w, c + product(w, d)))
 }
 
 // the terms that are added, with w for (x / 2)^4
@@ -22,7 +30,7 @@ fn plus(w: u64) -> u64
     requires { ⌜ w < 2 ^ 32 ⌝ }
     ensures { λ r. ⌜ r ≡ added w ⌝ }
 {
-    4294967296 + product(w, 572662306 + product(w, 3029959 + product(w, 2825)))
+    horner(w, 0x1_0000_0000, 572662306, 3029959, 2825)
 }
 
 // the terms that are taken off, without a factor (x / 2)^2
@@ -30,7 +38,7 @@ fn minus(w: u64) -> u64
     requires { ⌜ w < 2 ^ 32 ⌝ }
     ensures { λ r. ⌜ r ≡ taken w ⌝ }
 {
-    2863311530 + product(w, 54539267 + product(w, 110180 + product(w, 53)))
+    horner(w, 2863311530, 54539267, 110180, 53)
 }
 
 // sin x / x in units of 2^-32, for x = r / 2^61 below 2
@@ -38,7 +46,7 @@ fn ratio(r: u64) -> u64
     requires { ⌜ r < 2 ^ 62 ⌝ }
     ensures { λ s. ⌜ s ≡ ratioOf r ⌝ }
 {
-    let q = r / 1073741824;
+    let q = r / 0x4000_0000;
     let y = product(q, q);
     let w = product(y, y);
     plus(w) - product(y, minus(w))
@@ -57,7 +65,7 @@ fn sine_at(r: u64) -> u32
     requires { ⌜ (0 < r) × (r < 2 ^ 62) ⌝ }
     ensures { λ p. ⌜ p ≡ sineAt r ⌝ }
 {
-    pack(digits(r) * ratio(r)) - (u64::leading_zeros(r) + 5) * 8388608
+    pack(digits(r) * ratio(r)) - (u64::leading_zeros(r) + 5) * 0x80_0000
 }
 
 // a up to the limit, b beyond. Both are there already, so this compiles to no branch, which random angles would mispredict.
@@ -118,32 +126,48 @@ fn cos_sign(x: u64) -> u32
     1
 }
 
+// |x| in units of 2^-61, for |x| up to 4
+fn magnitude(a: u32) -> u64
+    requires { ⌜ (0x3980_0000 ≤ a) × (a ≤ 0x4080_0000) ⌝ }
+    ensures { λ x. ⌜ x ≡ magOf a ⌝ }
+{
+    scaled(a, 115) * 0x400_0000
+}
+
+// the sine at a folded angle, with its sign
+fn with_sign(sign: u32, r: u64) -> u32
+    requires { ⌜ (sign ≤ 1) × ((0 < r) × (r < 2 ^ 62)) ⌝ }
+    ensures { λ p. ⌜ p ≡ sign * 2 ^ 31 + sineAt r ⌝ }
+{
+    sign * 0x8000_0000 + sine_at(r)
+}
+
 // from the bit pattern of x to that of its sine
 pub fn sin_bits(b: u32) -> u32
     ensures { λ r. ⌜ r ≡ waveBits sine b ⌝ }
 {
-    let a = b % 2147483648;
+    let a = b % 0x8000_0000;
     if a < 0x39800000 {
         return b;
     }
     if 0x40800000 < a {
         return 0x7fc00000;
     }
-    let x = scaled(a, 115) * 67108864;
-    sin_sign(b / 2147483648, x) * 2147483648 + sine_at(sin_fold(x))
+    let x = magnitude(a);
+    with_sign(sin_sign(b / 0x8000_0000, x), sin_fold(x))
 }
 
 // the same for the cosine
 pub fn cos_bits(b: u32) -> u32
     ensures { λ r. ⌜ r ≡ waveBits cosine b ⌝ }
 {
-    let a = b % 2147483648;
+    let a = b % 0x8000_0000;
     if a < 0x39800000 {
         return 0x3f800000;
     }
     if 0x40800000 < a {
         return 0x7fc00000;
     }
-    let x = scaled(a, 115) * 67108864;
-    cos_sign(x) * 2147483648 + sine_at(cos_fold(x))
+    let x = magnitude(a);
+    with_sign(cos_sign(x), cos_fold(x))
 }

@@ -114,6 +114,20 @@ const SWINGING: &[(usize, f32)] = &[
     (8, 300000.0),
 ];
 
+/// A point whose F1 swings in the rounds: a vast E, whose critical frequency is below
+/// zero lest it be too near, and an F1 under 0.125 MHz, so that a change can be 0.1.
+const FAINT: &[(usize, f32)] = &[
+    (0, -0.15079916),
+    (1, 0.08),
+    (2, 0.48),
+    (3, 40000.0),
+    (4, 500.0),
+    (5, 100.0),
+    (6, 34070.0),
+    (7, 35070.0),
+    (8, 37070.0),
+];
+
 type Edge = (u32, [f32; 4], bool, &'static [&'static [(usize, f32)]]);
 
 /// Circuits at edges of their own: shape, path, whether there are deciles, and the
@@ -468,6 +482,73 @@ const EDGES: &[Edge] = &[
     // of a vast E are so near the one sought that the rounds swing
     (0, [6.28, 39547.53, 0.0, 100.0], false, &[SWINGING]),
     (0, [6.28, 39547.54, 0.0, 100.0], false, &[SWINGING]),
+    // and so of F1
+    (0, [0.5, 4010.5645, 0.0, 100.0], false, &[FAINT]),
+    (0, [0.5, 4010.5637, 0.0, 100.0], false, &[FAINT]),
+    // falling heights of F2 above an E that is NaN: F2's lowest height is rounded, so
+    // that its density is not zero but 2^-22 of the greatest, which row 10 meets, being
+    // at 2^-11 of F2's frequency; all forty reads are on the first of the falling steps
+    (
+        0,
+        PATH,
+        false,
+        &[&[
+            (0, 0.01),
+            (1, 0.0),
+            (2, 20.2752),
+            (3, f32::NAN),
+            (4, 0.0),
+            (5, -39.815),
+            (6, 0.0),
+            (7, 0.0),
+            (8, 30.585028),
+        ]],
+    ),
+    // a true height above the profile: F2's greatest density is some 3,000 of the least
+    // numbers, three more than that of the height below, and one more than the one
+    // sought; a product of two of them and 0.25 km is rounded up to one
+    (
+        0,
+        [0.5, 0.74, 3.0, 100.0],
+        false,
+        &[&[
+            (0, 0.0),
+            (1, 0.0),
+            (2, 2.0707423e-21),
+            (3, 1.0),
+            (4, 0.0),
+            (5, 8.05),
+            (6, 72.0),
+            (7, 0.0),
+            (8, 83.05),
+        ]],
+    ),
+    // an F1 whose virtual height is the true one, 2e38 km: E is so faint that the sum
+    // of the weights, a place below 2, becomes 2
+    (
+        0,
+        PATH,
+        false,
+        &[&[
+            (0, 0.59),
+            (1, 3000.0),
+            (2, 9000.0),
+            (3, 1.0),
+            (4, 1.0384594e34),
+            (5, 1.0384594e34),
+            (6, 72.0),
+            (7, 2e38),
+            (8, 3e38),
+        ]],
+    ),
+    // a fall of more than 1.7e38 km at the cusp of F1 and F2: row 21 is above F1's
+    // frequency, row 22 below it
+    (
+        0,
+        PATH,
+        false,
+        &[&[(1, 29.2), (2, 30.0), (4, 50.0), (5, 3.2999e38), (8, 3.3e38)]],
+    ),
 ];
 
 /// Every point on every path in either shape, some points at refusals, and those at

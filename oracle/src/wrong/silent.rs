@@ -231,6 +231,7 @@ const SILENT: &[(&str, &[&str], &str)] = &[
         "equal heights have equal densities",
     ),
     ("muf::rises_throughout", &["49 1 and", "1 1 and"], LEAVES),
+    ("muf::rises_throughout", &["49 1 less"], LAST_FALLS),
     (
         "muf::gethp_densities",
         &["<= 1 at NaN", "<= 2 at NaN", ">= 1 at NaN"],
@@ -326,6 +327,30 @@ const NO_F1: &str = "an F1 of zero is none: what is worked out of it is not read
 const SCANS: &str = "scans read what the walk reads";
 const ZERO_ANGLE: &str = "neither a cosine nor a difference sees the sign of an angle of zero";
 const FLOOR: &str = "the floor of the factor hides it";
+/// Heights rise up to the 49th, `a`, and fall to the last, `b`. The walk and a scan part
+/// only at a read of exactly `a`, where the scan gives its density, the walk that of `b`.
+/// Reads reach 0.99912 of the true height over 70 km, so that one must be above `a` by
+/// 0.00088 of `a` over 70 km; all of these are over 71 km.
+///
+/// - Interpolation passes a step's upper end by so much only where its product is rounded
+///   up to a multiple of the least number, 2^-149. With k of them sought over the step's
+///   lower density, of m, on T km: the product is at most k T + 1/2, k is below m, so it
+///   passes by (1/2 - T) / m at most, and by 1/12 km where k T is above 1/2. So m is at
+///   most 568, and the step ends 1/12 km below `a` or less.
+/// - Such densities are below 2^-116. An F1 that is kept makes those of E, or those of F1
+///   and F2 where they are not zero, far greater: there is none.
+/// - The last steps, of F2, are at most 16 places of their height, or `a` would not pass
+///   `b`: too short. So the step ends at the height `c` where these begin or below it, and
+///   that is above E's peak.
+/// - Its upper density, above the one sought, is not E's, which falls there. Nor the
+///   valley's, which is at most 0.961 of E's greatest and 1.5 of the least numbers more:
+///   the one sought is above the density read at E's peak, 0.961 of E's greatest less half
+///   of one at least, or its height would be found there, and the upper one is more yet.
+/// - So it is F2's. A step is rounded to its double at most, or heights would not rise, and
+///   there is one fewer before `a` than up to `b`: `a` is no farther above the peak `b` than
+///   `c` is below it. So F2's density is above the one sought at `a` and at `b`, and both
+///   are cut at 0.9999.
+const LAST_FALLS: &str = "a read of the height before the last, if that is lower, is of a density above the one sought, as the last height's is";
 const GIVEN: &str = "it is given a value before it is read";
 
 /// Why no sheet can show an edit, if none can.

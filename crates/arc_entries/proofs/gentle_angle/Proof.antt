@@ -1,22 +1,18 @@
--- `arc_entries::gentle_angle` meets its contract: each arm's number is the list's at that place, by computation; 127 is the only place left for the last arm.
-use mathlib.Core.Path.{_≡_, sym, ap}
-use Prim.Native.Nat.{ℕ, _<_, _≤_}
-use native.Mathlib.Omega.{arith}
+-- Each arm has the number of `angles` at its place, by computation; only 127 is left for the last arm.
+use mathlib.Core.Path.{_≡_}
+use Prim.Native.Nat.{ℕ}
 use lib.ListN.{getD}
 use Rattle.arc_tables.specs.Tables.{angles}
-use Rattle.cases.proofs.Arms.{Others, from-up}
+use Rattle.cases.proofs.Arms.{Others, arm, last-arm}
 use Rattle.arc_entries.proofs.gentle_angle.Statement.{statement}
 use Rattle.arc_entries.proofs.gentle_angle.Tie as tie
 
 at : {i j : ℕ} → i ≡ j → getD angles j 0 ≡ getD angles i 0
-at e = sym (ap (λ (i : ℕ). getD angles i 0) e)
+at = arm angles
 
 last : tie.Need-returns-128
 unfolding angles Others
-last c = at (only (c .before .args .i) (c .before .pre) (from-up (c .before .args .i) 127 (c .match .rest)))
-  where
-    only : (i : ℕ) → i < 128 → 127 ≤ i → i ≡ 127
-    only i h g = omega arith
+last c = last-arm angles _ 127 (c .before .pre) (c .match .rest)
 
 pub gentle-angle-spec : {M : Type 1} → statement M
 unfolding angles

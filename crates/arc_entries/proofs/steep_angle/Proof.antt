@@ -1,22 +1,18 @@
--- `arc_entries::steep_angle` meets its contract: each arm's number is the list's at that place, by computation; 128 is the only place left for the last arm.
-use mathlib.Core.Path.{_≡_, sym, ap}
-use Prim.Native.Nat.{ℕ, _<_, _≤_}
-use native.Mathlib.Omega.{arith}
+-- Each arm has the number of `steep` at its place, by computation; only 128 is left for the last arm.
+use mathlib.Core.Path.{_≡_}
+use Prim.Native.Nat.{ℕ}
 use lib.ListN.{getD}
 use Rattle.arc_tables.specs.Tables.{steep}
-use Rattle.cases.proofs.Arms.{Others, from-up}
+use Rattle.cases.proofs.Arms.{Others, arm, last-arm}
 use Rattle.arc_entries.proofs.steep_angle.Statement.{statement}
 use Rattle.arc_entries.proofs.steep_angle.Tie as tie
 
 at : {i j : ℕ} → i ≡ j → getD steep j 0 ≡ getD steep i 0
-at e = sym (ap (λ (i : ℕ). getD steep i 0) e)
+at = arm steep
 
 last : tie.Need-returns-129
 unfolding steep Others
-last c = at (only (c .before .args .i) (c .before .pre) (from-up (c .before .args .i) 128 (c .match .rest)))
-  where
-    only : (i : ℕ) → i < 129 → 128 ≤ i → i ≡ 128
-    only i h g = omega arith
+last c = last-arm steep _ 128 (c .before .pre) (c .match .rest)
 
 pub steep-angle-spec : {M : Type 1} → statement M
 unfolding steep

@@ -8,15 +8,15 @@ use Rattle.cell_rows.proofs.angle_cells.Statement.{statement}
 use Rattle.cell_rows.proofs.angle_cells.Tie as tie
 
 store-requires : tie.Need-store-requires
-store-requires c κs = (omega arith, λ i h. c .before .before .before .row .ensures .sure (c .before .before .if1 .taken) i h)
+store-requires c κs = let start = c .before .before .before in (start .pre .0, start .pre .1, start .pre .2 .sure (c .before .if1 .taken))
 
 returns : tie.Need-returns
 returns c =
-    let start = c .before .before .before .before .before .before .before in
-    c .before .store .ensures ∙ stored-row (start .args .from) (start .args .cells .now) (c .before .before .before .before .before .row .ensures) (c .before .before .before .before .if1 .taken) 30 (le-refl 30)
+    let start = c .before .before .before .before .before in
+    c .before .store .ensures ∙ stored-row (start .args .from) (start .args .cells .now) (start .pre .2) (c .before .before .before .if1 .taken) 30 (le-refl 30)
+
+mend-requires : tie.Need-mend-requires
+mend-requires c κs = let start = c .before .before .before in (start .pre .0, start .pre .1, start .pre .2 .told)
 
 pub angle-cells-spec : {M : Type 1} → statement M
-angle-cells-spec =
-    tie.close
-    (tie.spec (λ c κs. search needs) store-requires (λ c. search needs) returns (λ c κs. search needs) (λ c. search needs)
-    (λ c. search needs))
+angle-cells-spec = tie.close (tie.spec store-requires (λ c. search needs) returns mend-requires (λ c. search needs) (λ c. search needs))

@@ -18,7 +18,7 @@ returns c =
     toZ-pos w32 h ∙ sym (c .before .pre .right (c .if1 .taken))
 
 returns-2 : tie.Need-returns-2
-returns-2 c = toZ-ofZ (sfits-of (c .khz .ok)) ∙ c .khz .ensures
+returns-2 c = rw (← c .before .squared-cosine .ensures .0) (toZ-ofZ (sfits-of (c .khz .ok)) ∙ c .khz .ensures)
 
 pub mended-spec : {M : Type 1} → statement M
-mended-spec = tie.close (tie.spec cast-result returns (λ c κs. search needs) returns-2)
+mended-spec = tie.close (tie.spec cast-result returns (λ c κs. search needs) (λ c κs. search needs) returns-2)

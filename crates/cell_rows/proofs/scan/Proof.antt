@@ -1,47 +1,14 @@
--- After ia turns the cells of the first ia angles are written, and no other.
-use mathlib.Core.Path.{_≡_, refl, ap, _∙_}
-use Prim.Native.Nat.{_-_, _≤_}
-use native.Mathlib.Nat.{le-antisymm}
-use native.Mathlib.Numerals.{add-one}
+-- What is told of each angle is what its cells are made of.
 use native.Mathlib.Omega.{arith}
 use borrow.Author.Needs.{needs}
-use lib.ListN.{length}
-use Rattle.cell_rows.specs.Row.{scanOf}
-use Rattle.cell_rows.proofs.Writes.{length-scan}
 use Rattle.cell_rows.proofs.scan.Statement.{statement}
 use Rattle.cell_rows.proofs.scan.Tie as tie
 
-abbrev Inv-loop : tie.InvT-loop
-Inv-loop rcosds fv radii low high nang cells₀ ia₀ cells ia = (ia ≤ nang) × (cells ≡ scanOf rcosds fv radii cells₀ ia)
+guesses-requires : tie.Need-guesses-requires
+guesses-requires c κs = let p = c .before .before .pre in (p .0, p .2, p .3, let k = p .0 in omega arith, p .0)
 
-abbrev μ-loop : tie.MeasureT-loop
-μ-loop rcosds fv radii low high nang cells₀ ia₀ cells ia = nang - ia
-
-loop-holds : tie.Need-loop-holds Inv-loop μ-loop
-unfolding scanOf
-loop-holds c = (omega arith, refl)
-
-angle-cells-requires : tie.Need-angle-cells-requires Inv-loop μ-loop
-angle-cells-requires c κs =
-    let l = c .before .before .before .loop in
-    let start = c .before .before .before .before in
-    let e : length (l .cells) ≡ length (start .args .cells .now) = ap length (l .inv .1) ∙ length-scan _ _ _ _ _ in
-    (omega arith, start .pre .2, start .pre .3)
-
-loop-again : tie.Need-loop-again Inv-loop μ-loop
-unfolding scanOf
-loop-again c =
-    let l = c .before .before .before .before .before .loop in
-    (omega arith, rw (add-one _, ← l .inv .1) (c .before .angle-cells .ensures))
-
-same-length : tie.Need-same-length Inv-loop μ-loop
-same-length c = ap length (c .before .loop .inv .1) ∙ length-scan _ _ _ _ _
-
-returns : tie.Need-returns Inv-loop μ-loop
-returns c = c .before .loop .inv .1 ∙ ap (scanOf _ _ _ _) (le-antisymm (c .before .loop .inv .0) (c .loop-test .left))
+all-cells-requires : tie.Need-all-cells-requires
+all-cells-requires c κs = let p = c .before .before .before .before .before .before .before .before .pre in (p .0, p .1, let k = p .0 in let e = c .before .before .before .before .out2 .given in omega arith, let k = p .0 in let e = c .before .before .before .doubts2 .given in omega arith, c .before .before .before .before .before .guesses .ensures)
 
 pub scan-spec : {M : Type 1} → statement M
-scan-spec =
-    tie.close
-    (tie.spec Inv-loop μ-loop loop-holds (λ c. omega arith) (λ c. omega arith) (λ c. omega arith) angle-cells-requires
-    (λ c. omega arith) (λ c. omega arith) loop-again same-length returns)
+scan-spec = tie.close (tie.spec (λ c. search needs) (λ c. search needs) guesses-requires (λ c. search needs) (λ c. search needs) all-cells-requires (λ c. search needs) (λ c. search needs))

@@ -1,10 +1,10 @@
--- The test that is passed is the theorem's.
-use mathlib.Core.Path.{sym, subst}
-use Prim.Native.Nat.{_+_, _^_}
-use native.Mathlib.Nat.{le-refl, le-of-lt, lt-irrefl}
+-- A number below 2^31 is the guess, and the test that it passed is the theorem's.
+use mathlib.Core.Path.{_≡_, sym, ap, _∙_, subst}
+use Prim.Native.Nat.{ℕ, _+_, _^_, _≤_, _<_}
 use native.Mathlib.Omega.{arith}
 use borrow.Author.Needs.{needs}
 use lib.Dec.{T, le→leb}
+use lib.IntN.{pos}
 use lib.Ieee.{inFloat}
 use Rattle.cell_test.proofs.Test.{test-suffices}
 use Rattle.cell_test.proofs.cell.Statement.{statement}
@@ -20,21 +20,27 @@ int-to-float-m c = le→leb (c .before .before .guess .result + 1) (2 ^ 24) (ome
 
 returns : tie.Need-returns
 returns c =
-    let start = c .before .before .before .before .before in
+    let start = c .before .before .before .before in
     let a = start .args in
-    let n = c .before .before .before .before .guess in
+    let n = c .before .before .before .guess in
+    let d = c .doubt in
     record {
-      most = le-of-lt (n .ensures);
+      most = small (n .result) (d .result) (n .ensures) (d .ensures .0);
       right = λ h.
-          test-suffices (a .fvv) (a .sqcos) (n .result) (subst T (sym (start .good .0 .1)) tt) (subst T (sym (start .good .1 .0 .1)) tt) (start .pre .0) (start .pre .1) h
-          (subst T (sym (rw (start .pre .2) at (c .before .if1 .taken))) tt) (subst T (sym (rw (start .pre .3) at (c .if2 .taken))) tt);
+          let k = d .ensures .1 (none (n .result) (d .result) h) in
+          test-suffices (a .fvv) (a .sqcos) (n .result) (subst T (sym (start .good .0 .1)) tt) (subst T (sym (start .good .1 .0 .1)) tt) (start .pre .0) (start .pre .1) (n .ensures)
+          (rw (start .pre .2) at (k .1)) (rw (start .pre .3) at (k .2))
+          ∙ ap pos (alone (n .result) (d .result) (k .0));
     }
+  where
+    small : (n d : ℕ) → n < 4194304 → d ≤ 2147483648 → n + d < 4294967296
+    small n d h k = omega arith
 
-returns-2 : tie.Need-returns-2
-returns-2 c = record { most = le-refl _; right = λ h. absurd (lt-irrefl _ h) }
+    none : (n d : ℕ) → n + d < 2147483648 → d < 2147483648
+    none n d h = omega arith
 
-returns-3 : tie.Need-returns-3
-returns-3 c = record { most = le-refl _; right = λ h. absurd (lt-irrefl _ h) }
+    alone : (n d : ℕ) → d ≡ 0 → n ≡ n + d
+    alone n d e = omega arith
 
 pub cell-spec : {M : Type 1} → statement M
-cell-spec = tie.close (tie.spec (λ c κs. search needs) int-to-float-x (λ c. search needs) int-to-float-m returns returns-2 returns-3)
+cell-spec = tie.close (tie.spec (λ c κs. search needs) int-to-float-x (λ c. search needs) int-to-float-m (λ c κs. search needs) (λ c. search needs) returns)

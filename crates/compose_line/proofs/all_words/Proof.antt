@@ -52,6 +52,7 @@ forward c = omega (arith, c .word-end .ensures .1)
 pub all-words-spec : {M : Type 1} → statement M
 all-words-spec =
     tie.close
-    (tie.spec Inv-loop μ-loop (λ c κs. search needs) (λ c κs. omega arith) loop-holds (λ c κs. omega arith) (λ c. omega (arith, forward c))
-    (λ c. omega (arith, forward c)) (λ c. omega (arith, c .word-end .ensures .0)) (λ c κs. search needs) (λ c κs. omega (arith, c .before .before .word-end .ensures .0))
-    loop-less loop-again returns)
+    (tie.spec Inv-loop μ-loop (λ c κs. search needs) (λ c κs. omega arith) loop-holds (λ c κs. omega arith)
+    (λ c. omega (arith, forward c)) (λ c. omega (arith, forward c)) (λ c. omega (arith, c .word-end .ensures .0))
+    (λ c κs. search needs) (λ c κs. omega (arith, c .before .before .word-end .ensures .0)) loop-less loop-again
+    returns)

@@ -6,15 +6,9 @@ use borrow.Author.Needs.{needs}
 use Rattle.compose_line.proofs.begin.Statement.{statement}
 use Rattle.compose_line.proofs.begin.Tie as tie
 
-wanted-requires : tie.Need-wanted-requires
-wanted-requires c κs = search needs
-
-at-once-requires : tie.Need-at-once-requires
-at-once-requires c κs = search needs
-
 returns : tie.Need-returns
 unfolding begun
 returns c = rw (← c .before .wanted .ensures, ← c .at-once .ensures)
 
 pub begin-spec : {M : Type 1} → statement M
-begin-spec = tie.close (tie.spec wanted-requires at-once-requires returns)
+begin-spec = tie.close (tie.spec (λ c κs. search needs) (λ c κs. search needs) returns)

@@ -10,25 +10,13 @@ returns : tie.Need-returns
 unfolding endedRow
 returns c = rw (ne-eqb _ _ (c .if1 .taken))
 
-faulty-requires : tie.Need-faulty-requires
-faulty-requires c κs = search needs
-
 returns-2 : tie.Need-returns-2
 unfolding endedRow
 returns-2 c = rw (eq-eqb _ _ (c .before .before .before .if1 .left), ne-eqb _ _ (c .before .if2 .taken), ← c .faulty .ensures)
 
-slice-aggregate-all-zero : tie.Need-slice-aggregate-all-zero
-slice-aggregate-all-zero c = search needs
-
-all-zero-requires : tie.Need-all-zero-requires
-all-zero-requires c κs = search needs
-
 returns-3 : tie.Need-returns-3
 unfolding endedRow
 returns-3 c = rw (eq-eqb _ _ (c .before .before .before .before .before .before .if1 .left), eq-eqb _ _ (c .before .before .before .before .if2 .left), sym (c .before .all-zero .ensures) ∙ c .if3 .taken)
-
-faulty-requires-2 : tie.Need-faulty-requires-2
-faulty-requires-2 c κs = search needs
 
 returns-4 : tie.Need-returns-4
 unfolding endedRow
@@ -37,12 +25,5 @@ returns-4 c = rw (eq-eqb _ _ (c .before .before .before .before .before .before 
 pub ended-spec : {M : Type 1} → statement M
 ended-spec =
     tie.close
-    (tie.spec
-    returns
-    faulty-requires
-    returns-2
-    slice-aggregate-all-zero
-    all-zero-requires
-    returns-3
-    faulty-requires-2
-    returns-4)
+    (tie.spec returns (λ c κs. search needs) returns-2 (λ c. search needs) (λ c κs. search needs) returns-3
+    (λ c κs. search needs) returns-4)

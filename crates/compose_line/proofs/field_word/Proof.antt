@@ -6,31 +6,13 @@ use borrow.Author.Needs.{needs}
 use Rattle.compose_line.proofs.field_word.Statement.{statement}
 use Rattle.compose_line.proofs.field_word.Tie as tie
 
-faulty-requires : tie.Need-faulty-requires
-faulty-requires c κs = search needs
-
 returns : tie.Need-returns
 unfolding fieldWord
 returns c = rw (le-ltb _ _ (c .before .if1 .taken), ← c .faulty .ensures)
 
-mul-if2 : tie.Need-mul-if2
-mul-if2 c = search needs
-
-array-read-if2 : tie.Need-array-read-if2
-array-read-if2 c = search needs
-
-faulty-requires-2 : tie.Need-faulty-requires-2
-faulty-requires-2 c κs = search needs
-
 returns-2 : tie.Need-returns-2
 unfolding fieldWord
 returns-2 c = rw (lt-ltb _ _ (c .before .before .before .if1 .left), eq-eqb _ _ (c .before .if2 .taken), ← c .faulty2 .ensures)
-
-width-requires : tie.Need-width-requires
-width-requires c κs = search needs
-
-name-requires : tie.Need-name-requires
-name-requires c κs = search needs
 
 returns-3 : tie.Need-returns-3
 unfolding fieldWord
@@ -39,13 +21,5 @@ returns-3 c = rw (lt-ltb _ _ (c .before .before .before .before .if1 .left), ne-
 pub field-word-spec : {M : Type 1} → statement M
 field-word-spec =
     tie.close
-    (tie.spec
-    faulty-requires
-    returns
-    mul-if2
-    array-read-if2
-    faulty-requires-2
-    returns-2
-    width-requires
-    name-requires
-    returns-3)
+    (tie.spec (λ c κs. search needs) returns (λ c. search needs) (λ c. search needs) (λ c κs. search needs) returns-2
+    (λ c κs. search needs) (λ c κs. search needs) returns-3)

@@ -6,19 +6,13 @@ use borrow.Author.Needs.{needs}
 use Rattle.compose_line.proofs.first_word.Statement.{statement}
 use Rattle.compose_line.proofs.first_word.Tie as tie
 
-faulty-requires : tie.Need-faulty-requires
-faulty-requires c κs = search needs
-
 returns : tie.Need-returns
 unfolding firstWord
 returns c = rw (eq-eqb _ _ (c .before .if1 .taken), ← c .faulty .ensures)
-
-begin-requires : tie.Need-begin-requires
-begin-requires c κs = search needs
 
 returns-2 : tie.Need-returns-2
 unfolding firstWord
 returns-2 c = rw (ne-eqb _ _ (c .before .if1 .left), ← c .begin .ensures)
 
 pub first-word-spec : {M : Type 1} → statement M
-first-word-spec = tie.close (tie.spec faulty-requires returns begin-requires returns-2)
+first-word-spec = tie.close (tie.spec (λ c κs. search needs) returns (λ c κs. search needs) returns-2)

@@ -39,6 +39,7 @@ returns c =
 pub compose-spec : {M : Type 1} → statement M
 compose-spec =
     tie.close
-    (tie.spec Inv-loop μ-loop (λ c κs. search needs) loop-holds (λ c κs. c .loop-test .taken) (λ c. omega (arith, c .line-end .ensures .1))
-    (λ c. omega (arith, c .line-end .ensures .1)) (λ c. omega (arith, c .line-end .ensures .0)) (λ c κs. search needs)
-    (λ c. omega arith) loop-less loop-again (λ c κs. search needs) returns)
+    (tie.spec Inv-loop μ-loop (λ c κs. search needs) loop-holds (λ c κs. c .loop-test .taken)
+    (λ c. omega (arith, c .line-end .ensures .1)) (λ c. omega (arith, c .line-end .ensures .1))
+    (λ c. omega (arith, c .line-end .ensures .0)) (λ c κs. search needs) (λ c. omega arith) loop-less loop-again
+    (λ c κs. search needs) returns)

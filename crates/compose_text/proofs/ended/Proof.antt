@@ -10,29 +10,17 @@ returns : tie.Need-returns
 unfolding endedDraft
 returns c = rw (ne-eqb _ _ (c .if1 .taken))
 
-fail-requires : tie.Need-fail-requires
-fail-requires c κs = search needs
-
 returns-2 : tie.Need-returns-2
 unfolding endedDraft
 returns-2 c = rw (eq-eqb _ _ (c .before .before .before .if1 .left), eq-eqb _ _ (c .before .if2 .taken), ← c .fail .ensures)
-
-fail-requires-2 : tie.Need-fail-requires-2
-fail-requires-2 c κs = search needs
 
 returns-3 : tie.Need-returns-3
 unfolding endedDraft
 returns-3 c = rw (eq-eqb _ _ (c .before .before .before .before .before .before .if1 .left), ne-eqb _ _ (c .before .before .before .before .if2 .left), eq-eqb _ _ (c .before .if3 .taken), ← c .fail2 .ensures)
 
-is-whole-requires : tie.Need-is-whole-requires
-is-whole-requires c κs = search needs
-
 returns-4 : tie.Need-returns-4
 unfolding endedDraft
 returns-4 c = rw (eq-eqb _ _ (c .before .before .before .before .before .before .before .if1 .left), ne-eqb _ _ (c .before .before .before .before .before .if2 .left), ne-eqb _ _ (c .before .before .if3 .left), sym (c .before .is-whole .ensures) ∙ c .if4 .taken)
-
-fail-requires-3 : tie.Need-fail-requires-3
-fail-requires-3 c κs = search needs
 
 returns-5 : tie.Need-returns-5
 unfolding endedDraft
@@ -41,13 +29,5 @@ returns-5 c = rw (eq-eqb _ _ (c .before .before .before .before .before .before 
 pub ended-spec : {M : Type 1} → statement M
 ended-spec =
     tie.close
-    (tie.spec
-    returns
-    fail-requires
-    returns-2
-    fail-requires-2
-    returns-3
-    is-whole-requires
-    returns-4
-    fail-requires-3
-    returns-5)
+    (tie.spec returns (λ c κs. search needs) returns-2 (λ c κs. search needs) returns-3 (λ c κs. search needs)
+    returns-4 (λ c κs. search needs) returns-5)

@@ -6,12 +6,9 @@ use borrow.Author.Needs.{needs}
 use Rattle.compose_text.proofs.no_draft.Statement.{statement}
 use Rattle.compose_text.proofs.no_draft.Tie as tie
 
-nothing-requires : tie.Need-nothing-requires
-nothing-requires c κs = search needs
-
 returns : tie.Need-returns
 unfolding noDraft
 returns c = rw (c .nothing .ensures)
 
 pub no-draft-spec : {M : Type 1} → statement M
-no-draft-spec = tie.close (tie.spec nothing-requires returns)
+no-draft-spec = tie.close (tie.spec (λ c κs. search needs) returns)

@@ -6,22 +6,13 @@ use borrow.Author.Needs.{needs}
 use Rattle.compose_text.proofs.with_deciles.Statement.{statement}
 use Rattle.compose_text.proofs.with_deciles.Tie as tie
 
-fail-requires : tie.Need-fail-requires
-fail-requires c κs = search needs
-
 returns : tie.Need-returns
 unfolding withDeciles
 returns c = rw (eq-eqb _ _ (c .before .if1 .taken), ← c .fail .ensures)
 
-deciles-requires : tie.Need-deciles-requires
-deciles-requires c κs = search needs
-
 returns-2 : tie.Need-returns-2
 unfolding withDeciles
 returns-2 c = rw (ne-eqb _ _ (c .before .before .before .if1 .left), lt-ltb _ _ (c .before .if2 .taken), ← c .deciles .ensures)
-
-fail-requires-2 : tie.Need-fail-requires-2
-fail-requires-2 c κs = search needs
 
 returns-3 : tie.Need-returns-3
 unfolding withDeciles
@@ -29,4 +20,5 @@ returns-3 c = rw (ne-eqb _ _ (c .before .before .before .if1 .left), le-ltb _ _ 
 
 pub with-deciles-spec : {M : Type 1} → statement M
 with-deciles-spec =
-    tie.close (tie.spec fail-requires returns deciles-requires returns-2 fail-requires-2 returns-3)
+    tie.close
+    (tie.spec (λ c κs. search needs) returns (λ c κs. search needs) returns-2 (λ c κs. search needs) returns-3)

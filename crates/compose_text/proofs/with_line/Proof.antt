@@ -10,15 +10,9 @@ returns : tie.Need-returns
 unfolding withLine
 returns c = rw (ne-eqb _ _ (c .if1 .taken))
 
-read-requires : tie.Need-read-requires
-read-requires c κs = search needs
-
-with-row-requires : tie.Need-with-row-requires
-with-row-requires c κs = search needs
-
 returns-2 : tie.Need-returns-2
 unfolding withLine
 returns-2 c = rw (eq-eqb _ _ (c .before .before .if1 .left), ← c .before .read .ensures, ← c .with-row .ensures)
 
 pub with-line-spec : {M : Type 1} → statement M
-with-line-spec = tie.close (tie.spec returns read-requires with-row-requires returns-2)
+with-line-spec = tie.close (tie.spec returns (λ c κs. search needs) (λ c κs. search needs) returns-2)

@@ -6,29 +6,17 @@ use borrow.Author.Needs.{needs}
 use Rattle.compose_text.proofs.with_point.Statement.{statement}
 use Rattle.compose_text.proofs.with_point.Tie as tie
 
-fail-requires : tie.Need-fail-requires
-fail-requires c κs = search needs
-
 returns : tie.Need-returns
 unfolding withPoint
 returns c = rw (eq-eqb _ _ (c .before .if1 .taken), ← c .fail .ensures)
-
-fail-requires-2 : tie.Need-fail-requires-2
-fail-requires-2 c κs = search needs
 
 returns-2 : tie.Need-returns-2
 unfolding withPoint
 returns-2 c = rw (ne-eqb _ _ (c .before .before .before .if1 .left), ne-eqb _ _ (c .before .if2 .taken), ← c .fail2 .ensures)
 
-point-requires : tie.Need-point-requires
-point-requires c κs = search needs
-
 returns-3 : tie.Need-returns-3
 unfolding withPoint
 returns-3 c = rw (ne-eqb _ _ (c .before .before .before .before .before .before .if1 .left), eq-eqb _ _ (c .before .before .before .before .if2 .left), lt-ltb _ _ (c .before .if3 .taken), ← c .point .ensures)
-
-fail-requires-3 : tie.Need-fail-requires-3
-fail-requires-3 c κs = search needs
 
 returns-4 : tie.Need-returns-4
 unfolding withPoint
@@ -37,12 +25,5 @@ returns-4 c = rw (ne-eqb _ _ (c .before .before .before .before .before .before 
 pub with-point-spec : {M : Type 1} → statement M
 with-point-spec =
     tie.close
-    (tie.spec
-    fail-requires
-    returns
-    fail-requires-2
-    returns-2
-    point-requires
-    returns-3
-    fail-requires-3
-    returns-4)
+    (tie.spec (λ c κs. search needs) returns (λ c κs. search needs) returns-2 (λ c κs. search needs) returns-3
+    (λ c κs. search needs) returns-4)

@@ -6,9 +6,6 @@ use borrow.Author.Needs.{needs}
 use Rattle.compose_text.proofs.with_row.Statement.{statement}
 use Rattle.compose_text.proofs.with_row.Tie as tie
 
-fail-requires : tie.Need-fail-requires
-fail-requires c κs = search needs
-
 returns : tie.Need-returns
 unfolding withRow
 returns c = rw (ne-eqb _ _ (c .before .if1 .taken), ← c .fail .ensures)
@@ -17,22 +14,13 @@ returns-2 : tie.Need-returns-2
 unfolding withRow
 returns-2 c = rw (eq-eqb _ _ (c .before .before .if1 .left), eq-eqb _ _ (c .if2 .taken))
 
-with-path-requires : tie.Need-with-path-requires
-with-path-requires c κs = search needs
-
 returns-3 : tie.Need-returns-3
 unfolding withRow
 returns-3 c = rw (eq-eqb _ _ (c .before .before .before .before .before .before .if1 .left), ne-eqb _ _ (c .before .before .before .before .if2 .left), eq-eqb _ _ (c .before .if3 .taken), ← c .with-path .ensures)
 
-with-point-requires : tie.Need-with-point-requires
-with-point-requires c κs = search needs
-
 returns-4 : tie.Need-returns-4
 unfolding withRow
 returns-4 c = rw (eq-eqb _ _ (c .before .before .before .before .before .before .before .before .if1 .left), ne-eqb _ _ (c .before .before .before .before .before .before .if2 .left), ne-eqb _ _ (c .before .before .before .if3 .left), eq-eqb _ _ (c .before .if4 .taken), ← c .with-point .ensures)
-
-with-deciles-requires : tie.Need-with-deciles-requires
-with-deciles-requires c κs = search needs
 
 returns-5 : tie.Need-returns-5
 unfolding withRow
@@ -41,13 +29,5 @@ returns-5 c = rw (eq-eqb _ _ (c .before .before .before .before .before .before 
 pub with-row-spec : {M : Type 1} → statement M
 with-row-spec =
     tie.close
-    (tie.spec
-    fail-requires
-    returns
-    returns-2
-    with-path-requires
-    returns-3
-    with-point-requires
-    returns-4
-    with-deciles-requires
-    returns-5)
+    (tie.spec (λ c κs. search needs) returns returns-2 (λ c κs. search needs) returns-3 (λ c κs. search needs)
+    returns-4 (λ c κs. search needs) returns-5)

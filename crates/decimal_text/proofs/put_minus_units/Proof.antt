@@ -2,8 +2,8 @@
 use mathlib.Core.Bool.{true}
 use native.Mathlib.Omega.{arith}
 use borrow.Author.Needs.{needs}
-use Rattle.lines.proofs.Placing.{fits}
-use Rattle.decimal_text.proofs.Widths.{signed-most, put-taken}
+use Rattle.lines.proofs.Placing.{fits, put-taken}
+use Rattle.decimal_text.proofs.Widths.{signed-most}
 use Rattle.decimal_text.proofs.put_minus_units.Statement.{statement}
 use Rattle.decimal_text.proofs.put_minus_units.Tie as tie
 

@@ -2,9 +2,9 @@
 use mathlib.Core.Bool.{false}
 use native.Mathlib.Omega.{arith}
 use borrow.Author.Needs.{needs}
-use Rattle.lines.proofs.Placing.{fits}
+use Rattle.lines.proofs.Placing.{fits, put-taken}
 use Rattle.decimal_text.specs.Number.{signedText}
-use Rattle.decimal_text.proofs.Widths.{signed-most, put-taken}
+use Rattle.decimal_text.proofs.Widths.{signed-most}
 use Rattle.decimal_text.proofs.put_plus_units.Statement.{statement}
 use Rattle.decimal_text.proofs.put_plus_units.Tie as tie
 

@@ -2,8 +2,7 @@
 use native.Mathlib.Omega.{arith}
 use borrow.Author.Needs.{needs}
 use Rattle.lines.proofs.Decimals.{length-decimal}
-use Rattle.lines.proofs.Placing.{fits}
-use Rattle.decimal_text.proofs.Widths.{put-taken}
+use Rattle.lines.proofs.Placing.{fits, put-taken}
 use Rattle.decimal_text.proofs.put_whole.Statement.{statement}
 use Rattle.decimal_text.proofs.put_whole.Tie as tie
 

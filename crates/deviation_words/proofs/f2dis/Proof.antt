@@ -1,6 +1,6 @@
--- The lengths first, in their order; then what `f2dis` answers of the words' floats.
+-- The lengths first, in their order; then what `f2dis` answers of the deciles and the words' floats.
 use mathlib.Core.Path.{refl}
-use borrow.Author.Tests.{lt-ltb, le-ltb, eq-eqb, ne-eqb}
+use borrow.Author.Tests.{lt-ltb, le-ltb}
 use Rattle.deviation_words.specs.F2disWords.{f2disLeft}
 use borrow.Author.Needs.{needs}
 use Rattle.deviation_words.proofs.f2dis.Statement.{statement}
@@ -16,23 +16,17 @@ returns-2 c = rw (le-ltb _ _ (c .before .if1 .left), lt-ltb _ _ (c .if2 .taken))
 
 returns-3 : tie.Need-returns-3
 unfolding f2disLeft
-returns-3 c = rw (le-ltb _ _ (c .before .before .if1 .left), le-ltb _ _ (c .before .if2 .left), ne-eqb _ _ (c .if3 .taken)) (refl, refl)
-
-returns-4 : tie.Need-returns-4
-unfolding f2disLeft
-returns-4 c =
-    let q = c .before .before .before .before .before .before .before .before .before .before .before .before .before .before .before .before .before in
+returns-3 c =
+    let q = c .before .before .before .before .before .before .before .before .before .before .before .before .before .before .before in
     let w = c .before .before .deviation-into .ensures in
     rw (
-      le-ltb _ _ (q .before .before .if1 .left),
-      le-ltb _ _ (q .before .if2 .left),
-      eq-eqb _ _ (q .if3 .left),
-      ← c .before .before .before .before .before .before .before .before .before .before .before .before .before .before .before .before .floats-576 .ensures,
-      ← c .before .before .before .before .before .before .before .before .before .before .before .before .before .before .number .ensures,
-      ← c .before .before .before .before .before .before .before .before .before .before .before .before .number2 .ensures,
-      ← c .before .before .before .before .before .before .before .before .before .before .number3 .ensures,
-      ← c .before .before .before .before .before .before .before .before .number4 .ensures,
-      ← c .before .before .before .before .before .before .number5 .ensures,
+      le-ltb _ _ (q .before .if1 .left),
+      le-ltb _ _ (q .if2 .left),
+      ← c .before .before .before .before .before .before .before .before .before .before .before .before .before .number .ensures,
+      ← c .before .before .before .before .before .before .before .before .before .before .before .number2 .ensures,
+      ← c .before .before .before .before .before .before .before .before .before .number3 .ensures,
+      ← c .before .before .before .before .before .before .before .number4 .ensures,
+      ← c .before .before .before .before .before .number5 .ensures,
       ← c .before .before .before .before .f2dis .ensures,
     )
     (w .0, w .1)
@@ -40,7 +34,7 @@ returns-4 c =
 pub f2dis-spec : {M : Type 1} → statement M
 f2dis-spec =
     tie.close
-    (tie.spec returns returns-2 returns-3 (λ c κs. search needs) (λ c. search needs) (λ c κs. search needs)
+    (tie.spec returns returns-2 (λ c. search needs) (λ c κs. search needs)
     (λ c. search needs) (λ c κs. search needs) (λ c. search needs) (λ c κs. search needs) (λ c. search needs)
-    (λ c κs. search needs) (λ c. search needs) (λ c κs. search needs) (λ c. search needs) (λ c κs. search needs)
-    (λ c κs. search needs) (λ c. search needs) returns-4)
+    (λ c κs. search needs) (λ c. search needs) (λ c κs. search needs) (λ c κs. search needs)
+    (λ c κs. search needs) (λ c. search needs) returns-3)

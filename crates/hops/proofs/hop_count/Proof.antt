@@ -7,6 +7,7 @@ use borrow.Author.Needs.{needs, sfits-of}
 use mir.Facts.{toZ-ofZ}
 use Rattle.hops.specs.Geometry.{hopsOf}
 use Rattle.hops.proofs.Counted.{next-fits, next-float}
+use Rattle.hops.proofs.Says.{hops-say}
 use Rattle.hops.proofs.hop_count.Statement.{statement}
 use Rattle.hops.proofs.hop_count.Tie as tie
 
@@ -14,13 +15,13 @@ returns : tie.Need-returns
 unfolding hopsOf
 returns c =
     let t = c .before .trunc in
-    rw (← c .before .before .hop-ratio .ensures, ← t .ensures, rw (toZ-ofZ (sfits-of (t .ok))) at (c .if1 .taken))
+    hops-say _ _ _ _ (rw (← c .before .before .hop-ratio .ensures, ← t .ensures, rw (toZ-ofZ (sfits-of (t .ok))) at (c .if1 .taken)))
 
 returns-2 : tie.Need-returns-2
 unfolding hopsOf
 returns-2 c =
     let t = c .before .before .trunc in
-    rw (← c .before .before .before .hop-ratio .ensures, ← t .ensures, rw (toZ-ofZ (sfits-of (t .ok))) at (c .before .if1 .left), rw (toZ-ofZ (sfits-of (t .ok))) at (c .if2 .taken))
+    hops-say _ _ _ _ (rw (← c .before .before .before .hop-ratio .ensures, ← t .ensures, rw (toZ-ofZ (sfits-of (t .ok))) at (c .before .if1 .left), rw (toZ-ofZ (sfits-of (t .ok))) at (c .if2 .taken)))
 
 -- the truncation is from 0 to 999, by the two tests
 few : (c : tie.Else2) → let z = c .before .before .trunc .result in (ltZ z (pos 0) ≡ false) × (ltZ (pos 999) z ≡ false)
@@ -45,14 +46,15 @@ unfolding hopsOf
 returns-3 c =
     let b = c .before in
     let t = b .before .before .trunc in
-    rw (
+    hops-say _ _ _ _
+    (rw (
       ← b .before .before .before .hop-ratio .ensures,
       ← t .ensures,
       few b .0,
       few b .1,
       toZ-ofZ {z = t .result} (sfits-of (t .ok)),
       toZ-ofZ {z = t .result +ℤ pos 1} (next-fits (t .result) (few b .0) (few b .1)),
-    )
+    ))
 
 pub hop-count-spec : {M : Type 1} → statement M
 hop-count-spec =

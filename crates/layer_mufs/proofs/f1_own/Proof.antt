@@ -6,11 +6,11 @@ use Rattle.layer_mufs.proofs.f1_own.Tie as tie
 
 returns : tie.Need-returns
 unfolding f1OwnWith
-returns c = rw (← c .before .before .before .before .gethp .ensures, ← c .before .before .before .hop-geometry .ensures, c .before .found .given .1)
+returns c = rw (← c .before .before .before .before .gethp .ensures, ← c .before .before .before .hop-geometry .ensures .0, c .before .found .given .1)
 
 returns-2 : tie.Need-returns-2
 unfolding f1OwnWith
-returns-2 c = rw (← c .before .before .before .before .before .gethp .ensures, ← c .before .before .before .before .hop-geometry .ensures, c .before .before .found2 .given .1, ← c .f1-found .ensures)
+returns-2 c = rw (← c .before .before .before .before .before .gethp .ensures, ← c .before .before .before .before .hop-geometry .ensures .0, c .before .before .found2 .given .1, ← c .f1-found .ensures)
 
 pub f1-own-spec : {M : Type 1} → statement M
 f1-own-spec =

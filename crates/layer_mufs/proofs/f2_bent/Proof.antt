@@ -6,11 +6,11 @@ use Rattle.layer_mufs.proofs.f2_bent.Tie as tie
 
 returns : tie.Need-returns
 unfolding f2BentOf
-returns c = rw (← c .before .before .before .both-deviations .ensures, c .before .sig .given .1)
+returns c = rw (← c .before .before .before .both-deviations .ensures .0, c .before .sig .given .1)
 
 returns-2 : tie.Need-returns-2
 unfolding f2BentOf
-returns-2 c = rw (← c .before .before .before .before .both-deviations .ensures, c .before .before .sig2 .given .1, ← c .line .ensures)
+returns-2 c = rw (← c .before .before .before .before .both-deviations .ensures .0, c .before .before .sig2 .given .1, ← c .line .ensures)
 
 pub f2-bent-spec : {M : Type 1} → statement M
 f2-bent-spec =

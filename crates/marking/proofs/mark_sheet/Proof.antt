@@ -1,7 +1,7 @@
 -- The bytes that were put are our text, so those compared are.
 use borrow.Author.Needs.{needs}
 use Rattle.marking.specs.Marked.{sheetMarked}
-use Rattle.marking.proofs.Parts.{put-taken}
+use Rattle.lines.proofs.Placing.{put-taken}
 use Rattle.marking.proofs.mark_sheet.Statement.{statement}
 use Rattle.marking.proofs.mark_sheet.Tie as tie
 

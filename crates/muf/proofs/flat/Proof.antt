@@ -10,7 +10,7 @@ es-rows-requires c κs = rw (c .row-count .ensures) (rows-there _ _)
 
 returns : tie.Need-returns
 unfolding flatWith mufOfRowsWith
-returns c = rw (← c .before .before .row-count .ensures, ← c .before .es-rows .ensures, ← c .muf-from-search .ensures)
+returns c = rw (← c .before .before .row-count .ensures, ← c .before .es-rows .ensures .0, ← c .muf-from-search .ensures)
 
 pub flat-spec : {M : Type 1} → statement M
 flat-spec = tie.close (tie.spec (λ c κs. search needs) es-rows-requires (λ c κs. search needs) returns)

@@ -32,7 +32,7 @@ muf-at-slot-requires c κs = let b = c .before .before .before .before .controll
 
 returns : tie.Need-returns
 unfolding mufFromSearchWith
-returns c = rw (← c .before .before .before .before .before .before .before .in-domain .ensures, c .before .before .before .before .before .before .if1 .taken, ← c .before .before .before .before .before .controlling .ensures, ← c .before .before .before .before .lists-reach .ensures, c .before .before .before .if2 .taken, ← c .before .before .before .before .before .controlling .ensures, ← c .muf-at-slot .ensures)
+returns c = rw (← c .before .before .before .before .before .before .before .in-domain .ensures, c .before .before .before .before .before .before .if1 .taken, ← c .before .before .before .before .before .controlling .ensures, ← c .before .before .before .before .lists-reach .ensures, c .before .before .before .if2 .taken, ← c .before .before .before .before .before .controlling .ensures, ← c .muf-at-slot .ensures .0)
 
 returns-2 : tie.Need-returns-2
 unfolding mufFromSearchWith

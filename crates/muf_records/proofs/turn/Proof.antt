@@ -10,7 +10,7 @@ returns c = rw (c .before .step .given .1)
 
 returns-2 : tie.Need-returns-2
 unfolding turnOf
-returns-2 c = rw (c .before .before .before .step2 .given .1, ← c .before .row .ensures, ← c .es-row .ensures)
+returns-2 c = rw (c .before .before .before .step2 .given .1, ← c .before .row .ensures, ← c .es-row .ensures .0)
 
 pub turn-spec : {M : Type 1} → statement M
 turn-spec =

@@ -11,7 +11,7 @@ returns : tie.Need-returns
 unfolding layerOf
 returns c =
     let z = c .before .before .before .before .before .before .before .before .args .h .modmuf in
-    let m : mag z < 2147483648 = search needs in
+    let m : mag z < 0x8000_0000 = search needs in
     let t0 = rw (toZ-ofZ {z = z} (record { sfits = m })) at (c .before .before .before .before .before .if1 .taken) in
     rw (t0) (c .before .before .put-word .ensures)
 
@@ -19,7 +19,7 @@ returns-2 : tie.Need-returns-2
 unfolding layerOf
 returns-2 c =
     let z = c .before .before .before .before .before .before .before .before .before .args .h .modmuf in
-    let m : mag z < 2147483648 = search needs in
+    let m : mag z < 0x8000_0000 = search needs in
     let t0 = rw (toZ-ofZ {z = z} (record { sfits = m })) at (c .before .before .before .before .before .before .if1 .left) in
     let t1 = rw (toZ-ofZ {z = z} (record { sfits = m })) at (c .before .before .before .before .before .if2 .taken) in
     rw (t0, t1) (c .before .before .put-word2 .ensures)
@@ -28,7 +28,7 @@ returns-3 : tie.Need-returns-3
 unfolding layerOf
 returns-3 c =
     let z = c .before .before .before .before .before .before .before .before .before .args .h .modmuf in
-    let m : mag z < 2147483648 = search needs in
+    let m : mag z < 0x8000_0000 = search needs in
     let t0 = rw (toZ-ofZ {z = z} (record { sfits = m })) at (c .before .before .before .before .before .before .if1 .left) in
     let t1 = rw (toZ-ofZ {z = z} (record { sfits = m })) at (c .before .before .before .before .before .if2 .left) in
     rw (t0, t1) (c .before .before .put-word3 .ensures)

@@ -1,5 +1,5 @@
 -- Each test by its own outcome.
-use Rattle.layers.specs.FromLayers.{countTaken}
+use Rattle.layer_rules.specs.Rules.{countTaken}
 use Rattle.nominal_factors.specs.Factors.{countsAgree}
 use borrow.Author.Tests.{le-leb, lt-leb}
 use Rattle.nominal_factors.proofs.counts_agree.Statement.{statement}

@@ -1,5 +1,5 @@
 -- Each path is the clause that its tests choose; each call is what its contract says.
-use Rattle.parabolas.specs.Bendy.{penAnswer}
+use Rattle.parabolas.specs.Bendy.{penOf, penAnswer}
 use borrow.Author.Needs.{needs}
 use borrow.Author.Tests.{lt-ltb, le-ltb}
 use Rattle.parabolas.proofs.pen.Statement.{statement}
@@ -14,8 +14,11 @@ unfolding penAnswer
 returns-2 c = rw (le-ltb _ _ (c .before .if1 .left), lt-ltb _ _ (c .if2 .taken))
 
 returns-3 : tie.Need-returns-3
-unfolding penAnswer
-returns-3 c = rw (le-ltb _ _ (c .before .before .if1 .left), le-ltb _ _ (c .before .if2 .left), ← c .pen-at .ensures)
+unfolding penAnswer penOf
+returns-3 c = rw (le-ltb _ _ (c .before .before .before .before .if1 .left), le-ltb _ _ (c .before .before .before .if2 .left), ← c .pen-at .ensures)
 
 pub pen-spec : {M : Type 1} → statement M
-pen-spec = tie.close (tie.spec returns returns-2 (λ c κs. search needs) returns-3)
+pen-spec =
+    tie.close
+    (tie.spec returns returns-2 (λ c. search needs) (λ c. search needs) (λ c. search needs) (λ c. search needs)
+    (λ c. search needs) (λ c. search needs) (λ c κs. search needs) returns-3)

@@ -7,8 +7,9 @@ use Rattle.lines.proofs.Placing.{fits}
 use Rattle.lines.proofs.Sizes.{refused}
 use Rattle.sheet_text.proofs.SlotCount.{three-slots}
 use Rattle.circuit_plot.specs.CircuitPlot.{plotOf}
-use Rattle.plot_text.specs.PlotText.{answeredText, plotText}
-use Rattle.plot_text.proofs.Lengths.{answered-most}
+use Rattle.plot_panels.specs.Panels.{answeredText}
+use Rattle.plot_text.specs.PlotText.{plotText}
+use Rattle.plot_panels.proofs.Lengths.{answered-most}
 use Rattle.plot_text.proofs.plot_text.Statement.{statement}
 use Rattle.plot_text.proofs.plot_text.Tie as tie
 

@@ -3,6 +3,7 @@ use mathlib.Core.Path.{refl}
 use native.Mathlib.Omega.{arith}
 use borrow.Author.Needs.{needs}
 use borrow.Author.Tests.{le-leb, lt-leb}
+use Rattle.records.specs.Record.{form64}
 use Rattle.port_circuit.specs.Exports.{portWrite}
 use Rattle.port_circuit.proofs.Short.{short}
 use Rattle.port_circuit.proofs.port_write.Statement.{statement}
@@ -17,7 +18,7 @@ unfolding portWrite
 returns-2 c = rw (le-leb _ _ (c .before .if1 .left), lt-leb _ _ (c .if2 .taken)) (refl, (refl, refl))
 
 length-into-requires : tie.Need-length-into-requires
-length-into-requires c κs = (omega arith, rw (c .before .before .before .write .ensures .0) (short _ _))
+length-into-requires c κs = (omega arith, rw (c .before .before .before .write .ensures .0) (short form64 (omega arith) _ _))
 
 returns-3 : tie.Need-returns-3
 unfolding portWrite

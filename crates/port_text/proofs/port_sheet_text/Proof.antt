@@ -4,7 +4,7 @@ use mathlib.Core.Path.{refl}
 use native.Mathlib.Omega.{arith}
 use borrow.Author.Needs.{needs}
 use borrow.Author.Tests.{lt-ltb, le-ltb}
-use Rattle.decimal_text.proofs.Widths.{put-taken}
+use Rattle.lines.proofs.Placing.{put-taken}
 use Rattle.port_text.specs.Exports.{sheetLeft}
 use Rattle.port_text.proofs.Fits.{put-fits}
 use Rattle.port_text.proofs.port_sheet_text.Statement.{statement}

@@ -1,28 +1,39 @@
 -- Refused for want of words, or what the writer answers and leaves.
-use Rattle.port_wide.specs.Exports.{portWrite128}
-use mathlib.Core.Path.{refl, ap, _∙_}
-use borrow.Author.Tests.{le-leb, lt-leb}
-use Rattle.circuit_write.specs.Written.{numberIn}
+use mathlib.Core.Path.{refl}
+use native.Mathlib.Omega.{arith}
 use borrow.Author.Needs.{needs}
+use borrow.Author.Tests.{le-leb, lt-leb}
+use Rattle.port_circuit.proofs.Short.{short}
+use Rattle.wide_circuit.specs.Wide.{form128}
+use Rattle.port_wide.specs.Exports.{portWrite128}
 use Rattle.port_wide.proofs.port_write128.Statement.{statement}
 use Rattle.port_wide.proofs.port_write128.Tie as tie
 
 returns : tie.Need-returns
 unfolding portWrite128
-returns c =
-    let w = c .before .before .before .write .ensures in
-    rw (
-      le-leb _ _ (c .before .before .before .before .before .before .before .if1 .taken),
-      ← c .before .before .before .before .before .before .circuit-of .ensures,
-      ← c .before .before .before .before .before .words-5 .ensures,
-    ) (c .number .ensures ∙ ap numberIn (w .0), w .1)
+returns c = rw (lt-leb _ _ (c .if1 .taken)) (refl, (refl, refl))
 
 returns-2 : tie.Need-returns-2
 unfolding portWrite128
-returns-2 c = rw (lt-leb _ _ (c .if1 .left)) (refl, refl)
+returns-2 c = rw (le-leb _ _ (c .before .if1 .left), lt-leb _ _ (c .if2 .taken)) (refl, (refl, refl))
+
+length-into-requires : tie.Need-length-into-requires
+length-into-requires c κs = (omega arith, rw (c .before .before .before .write .ensures .0) (short form128 (omega arith) _ _))
+
+returns-3 : tie.Need-returns-3
+unfolding portWrite128
+returns-3 c =
+    let l = c .before .before .length-into .ensures in
+    let w = c .before .before .before .before .before .before .write .ensures in
+    rw (
+      le-leb _ _ (c .before .before .before .before .before .before .before .before .before .before .before .if1 .left),
+      le-leb _ _ (c .before .before .before .before .before .before .before .before .before .before .if2 .left),
+      ← c .before .before .before .before .before .before .before .before .before .circuit-of .ensures,
+      ← c .before .before .before .before .before .before .before .before .words-5 .ensures,
+      ← w .0,
+    ) (l .0, (w .1, l .1))
 
 pub port-write128-spec : {M : Type 1} → statement M
 port-write128-spec =
     tie.close
-    (tie.spec (λ c κs. search needs) (λ c κs. search needs) (λ c κs. search needs) (λ c κs. search needs) (λ c. search needs) returns
-    returns-2)
+    (tie.spec returns returns-2 (λ c κs. search needs) (λ c κs. search needs) (λ c κs. search needs) length-into-requires (λ c. search needs) (λ c. search needs) returns-3)

@@ -1,7 +1,7 @@
 -- Each step of the definition is what the call of the same name answers.
 use mathlib.Core.Path.{ap}
 use Rattle.profile.specs.Lecden.{lecdenOf}
-use Rattle.profile.specs.declared.Drawn.{Drawn}
+use Rattle.slot_curves.specs.declared.Drawn.{Drawn}
 use borrow.Author.Needs.{needs}
 use Rattle.profile.proofs.lecden_slot.Statement.{statement}
 use Rattle.profile.proofs.lecden_slot.Tie as tie

@@ -1,9 +1,7 @@
--- The tests in turn.
-use Prim.Native.Nat.{_+_, _-_}
+-- The lowest height begins a run; any other does where the height below has another mark.
 use borrow.Author.Needs.{needs}
 use borrow.Author.Tests.{eq-eqb, ne-eqb}
-use mathlib.Core.Path.{_∙_, sym, ap}
-use Rattle.shapes.specs.Mark.{numberOf}
+use mathlib.Core.Path.{_∙_}
 use Rattle.run_text.specs.RunText.{beginsAt}
 use Rattle.run_text.proofs.begins_at.Statement.{statement}
 use Rattle.run_text.proofs.begins_at.Tie as tie
@@ -14,20 +12,7 @@ returns c = rw (eq-eqb _ 0 (c .if1 .taken))
 
 returns-2 : tie.Need-returns-2
 unfolding beginsAt
-returns-2 c =
-    let one = c .before .before .before .number .ensures ∙ ap numberOf (c .before .before .before .before .mark-at .ensures) in
-    let other = c .before .number2 .ensures ∙ ap numberOf (c .before .before .mark-at2 .ensures) in
-    rw (ne-eqb _ 0 (c .before .before .before .before .before .if1 .left), eq-eqb _ _ (sym one ∙ c .if2 .taken ∙ other))
-
-returns-3 : tie.Need-returns-3
-unfolding beginsAt
-returns-3 c =
-    let one = c .before .before .before .number .ensures ∙ ap numberOf (c .before .before .before .before .mark-at .ensures) in
-    let other = c .before .number2 .ensures ∙ ap numberOf (c .before .before .mark-at2 .ensures) in
-    rw (ne-eqb _ 0 (c .before .before .before .before .before .if1 .left), ne-eqb _ _ (λ e. c .if2 .left (one ∙ e ∙ sym other)))
+returns-2 c = rw (ne-eqb _ 0 (c .before .if1 .left)) (c .differ .ensures)
 
 pub begins-at-spec : {M : Type 1} → statement M
-begins-at-spec =
-    tie.close
-    (tie.spec returns (λ c. search needs) (λ c κs. search needs) (λ c κs. search needs) (λ c κs. search needs)
-    (λ c κs. search needs) returns-2 returns-3)
+begins-at-spec = tie.close (tie.spec returns (λ c. search needs) (λ c κs. search needs) returns-2)

@@ -6,23 +6,32 @@ use native.Mathlib.Omega.{arith}
 use borrow.Author.Needs.{needs}
 use lib.Ieee.{nan}
 use lib.ListN.{length}
+use Rattle.shape_densities.specs.Density.{fndOf}
+use Rattle.shape_densities.proofs.MapAt.{map-at}
 use Rattle.cases.proofs.Tabulate.{mapped, mapped-more, mapped-all}
 use Rattle.shapes.specs.Marks.{heightMark}
 use Rattle.shapes.proofs.marks_on.Statement.{statement}
 use Rattle.shapes.proofs.marks_on.Tie as tie
 
 abbrev Inv-loop : tie.InvT-loop
-Inv-loop c htr marks₀ ih₀ marks ih = (ih ≤ 50) × (marks ≡ mapped (heightMark c) nan htr marks₀ ih)
+Inv-loop c htr fnd marks₀ ih₀ marks ih = (ih ≤ 50) × (marks ≡ mapped (heightMark c) nan htr marks₀ ih)
 
 abbrev μ-loop : tie.MeasureT-loop
-μ-loop c htr marks₀ ih₀ marks ih = 50 - ih
+μ-loop c htr fnd marks₀ ih₀ marks ih = 50 - ih
 
 loop-holds : tie.Need-loop-holds Inv-loop μ-loop
 loop-holds c = (omega arith, refl)
 
+mark-at-requires : tie.Need-mark-at-requires Inv-loop μ-loop
+mark-at-requires c κs =
+    let a = c .before .before .before .before .args in
+    let i = c .before .loop .ih in
+    let h : i < length (a .t2) = search needs in
+    rw (c .before .before .before .tails .ensures) (map-at (fndOf (a .c)) (a .t2) i h)
+
 loop-again : tie.Need-loop-again Inv-loop μ-loop
 loop-again c =
-    let a = c .before .before .before .before .args in
+    let a = c .before .before .before .before .before .args in
     let i = c .before .before .loop .ih in
     let h : i < length (a .t2) = search needs in (
       omega arith,
@@ -32,7 +41,7 @@ loop-again c =
 
 returns : tie.Need-returns Inv-loop μ-loop
 returns c =
-    let a = c .before .before .before .args in
+    let a = c .before .before .before .before .args in
     let f = heightMark (a .c) in
     let m = c .before .before .no-marks in
     let n : length (a .t2) ≡ 50 = search needs in
@@ -43,5 +52,6 @@ returns c =
 pub marks-on-spec : {M : Type 1} → statement M
 marks-on-spec =
     tie.close
-    (tie.spec Inv-loop μ-loop (λ c κs. omega arith) loop-holds (λ c. omega arith) (λ c. omega arith)
-    (λ c κs. omega arith) (λ c. omega arith) (λ c. omega arith) (λ c. omega arith) loop-again returns)
+    (tie.spec Inv-loop μ-loop (λ c κs. search needs) (λ c κs. omega arith) loop-holds (λ c. omega arith) (λ c. omega arith)
+    (λ c. omega arith) (λ c. omega arith) mark-at-requires (λ c. omega arith) (λ c. omega arith) (λ c. omega arith)
+    loop-again returns)

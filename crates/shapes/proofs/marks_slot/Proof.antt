@@ -1,7 +1,7 @@
 -- Curves and heights are those that `draw` answers of the slot as it came.
 use mathlib.Core.Path.{ap}
 use borrow.Author.Needs.{needs}
-use Rattle.profile.specs.declared.Drawn.{Drawn}
+use Rattle.slot_curves.specs.declared.Drawn.{Drawn}
 use Rattle.shapes.specs.Marks.{marksOf}
 use Rattle.shapes.proofs.marks_slot.Statement.{statement}
 use Rattle.shapes.proofs.marks_slot.Tie as tie

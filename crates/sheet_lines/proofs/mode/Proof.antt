@@ -23,26 +23,26 @@ own : (z : ℤ) → ltZ z (pos 0) ≡ false → natAbs z ≡ natural z
 own (pos n) e = refl
 own (negsuc n) e = let f : _≡_ {A = ℕ} 0 1 = cc in omega arith
 
-castable : (z : ℤ) → mag z < 2147483648 → ltZ z (pos 0) ≡ false → T (nonNeg z) × Fits w64 (natAbs z)
+castable : (z : ℤ) → mag z < 0x8000_0000 → ltZ z (pos 0) ≡ false → T (nonNeg z) × Fits w64 (natAbs z)
 castable (pos n) m e = (tt, record { fits = omega arith })
 castable (negsuc n) m e = let f : _≡_ {A = ℕ} 0 1 = cc in absurd (omega arith)
 
 returns : tie.Need-returns
 returns c =
     let z = c .before .before .args .h .modmuf in
-    let m : mag z < 2147483648 = search needs in
+    let m : mag z < 0x8000_0000 = search needs in
     below z (rw (toZ-ofZ {z = z} (record { sfits = m })) at (c .if1 .taken))
 
 cast-result : tie.Need-cast-result
 cast-result c =
     let z = c .before .before .args .h .modmuf in
-    let m : mag z < 2147483648 = search needs in
+    let m : mag z < 0x8000_0000 = search needs in
     rw (toZ-ofZ {z = z} (record { sfits = m })) (castable z m (rw (toZ-ofZ {z = z} (record { sfits = m })) at (c .if1 .left)))
 
 returns-2 : tie.Need-returns-2
 returns-2 c =
     let z = c .before .before .args .h .modmuf in
-    let m : mag z < 2147483648 = search needs in
+    let m : mag z < 0x8000_0000 = search needs in
     rw (toZ-ofZ {z = z} (record { sfits = m })) (own z (rw (toZ-ofZ {z = z} (record { sfits = m })) at (c .if1 .left)))
 
 pub mode-spec : {M : Type 1} → statement M

@@ -4,8 +4,9 @@ use native.Mathlib.Omega.{arith}
 use borrow.Author.Needs.{needs}
 use Rattle.lines.proofs.Placing.{fits}
 use Rattle.sheet_text.proofs.SlotCount.{three-slots}
-use Rattle.show_text.specs.ShowText.{showText, pageText}
-use Rattle.show_text.proofs.Lengths.{page-most, refusal-most}
+use Rattle.show_page.specs.Page.{pageText}
+use Rattle.show_text.specs.ShowText.{showText}
+use Rattle.show_page.proofs.Lengths.{page-most, refusal-most}
 use Rattle.show_text.proofs.show_text.Statement.{statement}
 use Rattle.show_text.proofs.show_text.Tie as tie
 

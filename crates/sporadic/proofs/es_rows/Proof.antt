@@ -5,6 +5,7 @@ use native.Mathlib.Omega.{arith}
 use borrow.Author.Needs.{needs}
 use Rattle.sporadic.specs.Sporadic.{rowAt, esFrom, startOf}
 use Rattle.sporadic.proofs.Searches.{one-more, none-left}
+use Rattle.sporadic.proofs.Says.{rows-say}
 use Rattle.sporadic.proofs.es_rows.Statement.{statement}
 use Rattle.sporadic.proofs.es_rows.Tie as tie
 
@@ -23,21 +24,21 @@ returns : tie.Need-returns Inv-loop μ-loop
 returns c =
     let b = c .before .before .before in
     let q = b .before .before .before .loop in
-    rw (one-more _ _ _ _ _ (b .before .before .loop-test .taken), ← b .before .flat-row .ensures, ← b .es-row .ensures, c .before .step .given .1) at (q .inv .1)
+    rows-say _ _ _ _ _ _ (rw (one-more _ _ _ _ _ (b .before .before .loop-test .taken), ← b .before .flat-row .ensures, ← b .es-row .ensures .0, c .before .step .given .1) at (q .inv .1))
 
 loop-again : tie.Need-loop-again Inv-loop μ-loop
 loop-again c =
     let b = c .before .before .before in
     let q = b .before .before .before .loop in (
       omega arith,
-      rw (one-more _ _ _ _ _ (b .before .before .loop-test .taken), ← b .before .flat-row .ensures, ← b .es-row .ensures, c .before .step2 .given .1) at (q .inv .1),
+      rw (one-more _ _ _ _ _ (b .before .before .loop-test .taken), ← b .before .flat-row .ensures, ← b .es-row .ensures .0, c .before .step2 .given .1) at (q .inv .1),
     )
 
 returns-2 : tie.Need-returns-2 Inv-loop μ-loop
 returns-2 c =
     let q = c .before .loop in
     let e : c .before .before .before .before .args .n - q .k ≡ 0 = omega arith in
-    rw (e, none-left) at (q .inv .1)
+    rows-say _ _ _ _ _ _ (rw (e, none-left) at (q .inv .1))
 
 pub es-rows-spec : {M : Type 1} → statement M
 es-rows-spec =

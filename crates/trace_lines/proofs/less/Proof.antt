@@ -12,15 +12,15 @@ use borrow.Author.Needs.{needs}
 use Rattle.trace_lines.proofs.less.Statement.{statement}
 use Rattle.trace_lines.proofs.less.Tie as tie
 
-small : (h k : ℕ) → h < 4294967296 → k < 4294967296 → mag (pos h -ℤ pos k) < 9223372036854775808
+small : (h k : ℕ) → h < 0x1_0000_0000 → k < 0x1_0000_0000 → mag (pos h -ℤ pos k) < 0x8000_0000_0000_0000
 small h zero p q = omega arith
 small h (suc k) p q = by (ltb h (suc k))
   where
-    by : (t : Bool) → mag (cond t (negsuc (suc k - suc h)) (pos (h - suc k))) < 9223372036854775808
+    by : (t : Bool) → mag (cond t (negsuc (suc k - suc h)) (pos (h - suc k))) < 0x8000_0000_0000_0000
     by true = omega arith
     by false = omega arith
 
-fits : (h k : ℕ) → h < 4294967296 → k < 4294967296 → SFits w64 (pos h -ℤ pos k)
+fits : (h k : ℕ) → h < 0x1_0000_0000 → k < 0x1_0000_0000 → SFits w64 (pos h -ℤ pos k)
 fits h k p q = record { sfits = small h k p q }
 
 sub-result : tie.Need-sub-result

@@ -1,21 +1,13 @@
--- `arcs::arcsin::asin_bits` meets its contract, case by case.
+-- Below 2 ^ -12, at 1 and beyond it the definition's own cases; between them the packed angle, below half pi, with the sign of the pattern.
 use mathlib.Core.Path.{_≡_, sym, ap, _∙_, subst}
 use Prim.Native.Nat.{ℕ, _+_, _*_, _/_, _%_, _^_, _<_, _≤_}
 use native.Mathlib.Omega.{arith}
-use mir.Syntax.{w32}
-use mir.Val.{Fits}
 use borrow.Author.Needs.{needs}
 use Rattle.fixed.specs.Fixed.{pattern}
-use Rattle.fixed.proofs.Round.{pattern-lt}
+use Rattle.arcs.proofs.Signed.{sign-fits}
 use Rattle.arcs.proofs.AsinBits.{mag-fits, small-bits, mid-bits, one-bits, outside-bits}
 use Rattle.arcs.proofs.arcsin.asin_bits.Statement.{statement}
 use Rattle.arcs.proofs.arcsin.asin_bits.Tie as tie
-
-add-fits : (b s r : ℕ) → b < 2 ^ 32 → r ≡ pattern s → 2 ^ 30 ≤ s → s < 2 ^ 64 → Fits w32 (b / 2 ^ 31 * 2 ^ 31 + r)
-add-fits b s r f e h k = go (pattern s) e (pattern-lt s h k)
-  where
-    go : (p : ℕ) → r ≡ p → p < 255 * 2 ^ 23 → Fits w32 (b / 2 ^ 31 * 2 ^ 31 + r)
-    go p u v = omega arith
 
 returns : tie.Need-returns
 returns c = sym (small-bits (c .before .args .b) (c .if1 .taken))
@@ -29,7 +21,7 @@ add-result : tie.Need-add-result
 add-result c =
     let r = pack-requires (c .before) (c .pack .lifetimes) in
     let s = c .before .before .before .before in
-    add-fits (s .args .b) (c .before .asin-mag .result) (c .pack .result) (s .fits .b .fits) (c .pack .ensures) (r .0) (r .1)
+    sign-fits (s .args .b) (c .before .asin-mag .result) (c .pack .result) (s .fits .b .fits) (c .pack .ensures) (r .0) (r .1)
 
 returns-2 : tie.Need-returns-2
 returns-2 c =

@@ -1,11 +1,9 @@
--- `arcs::arctan::atan_bits` meets its contract.
+-- Below 2 ^ -12 and from 2 ^ 26 on the definition's own cases; between them the packed angle, below half pi, with the sign of the pattern.
 use mathlib.Core.Path.{_≡_, sym, ap, _∙_, subst}
 use Prim.Native.Nat.{ℕ, _+_, _*_, _/_, _%_, _^_, _<_, _≤_}
 use native.Mathlib.Omega.{arith}
-use mir.Syntax.{w32}
-use mir.Val.{Fits}
 use Rattle.fixed.specs.Fixed.{pattern}
-use Rattle.fixed.proofs.Round.{pattern-lt}
+use Rattle.arcs.proofs.Signed.{sign-fits}
 use Rattle.arcs.proofs.Reduce.{case}
 use Rattle.arcs.proofs.AtanBits.{small-bits, mid-bits, big-bits, nan-bits, angle-big}
 use Rattle.arcs.specs.Atan.{atanMag}
@@ -16,12 +14,6 @@ use Rattle.arcs.proofs.arctan.atan_bits.Tie as tie
 size : (a : ℕ) → 0x3980_0000 ≤ a → a < 0x4c80_0000 → (2 ^ 30 ≤ atanMag a) × (atanMag a < 2 ^ 64)
 size a l h = let C = case a l h in subst (λ (x : ℕ). (2 ^ 30 ≤ x) × (x < 2 ^ 64)) (sym (C .is)) (angle-big (C .n) (C .c) (C .A) (C .q) (C .red))
 
-add-fits : (b s r : ℕ) → b < 2 ^ 32 → r ≡ pattern s → 2 ^ 30 ≤ s → s < 2 ^ 64 → Fits w32 (b / 2 ^ 31 * 2 ^ 31 + r)
-add-fits b s r f e h k = go (pattern s) e (pattern-lt s h k)
-  where
-    go : (p : ℕ) → r ≡ p → p < 255 * 2 ^ 23 → Fits w32 (b / 2 ^ 31 * 2 ^ 31 + r)
-    go p u v = omega arith
-
 returns : tie.Need-returns
 returns c = sym (small-bits (c .before .args .b) (c .if1 .taken))
 
@@ -31,7 +23,7 @@ pack-requires c κs = subst (λ (x : ℕ). (2 ^ 30 ≤ x) × (x < 2 ^ 64)) (sym 
 add-result : tie.Need-add-result
 add-result c =
     let r = pack-requires (c .before) (c .pack .lifetimes) in
-    add-fits (c .before .before .before .before .args .b) (c .before .atan-mag .result) (c .pack .result) (c .before .before .before .before .fits .b .fits) (c .pack .ensures) (r .0) (r .1)
+    sign-fits (c .before .before .before .before .args .b) (c .before .atan-mag .result) (c .pack .result) (c .before .before .before .before .fits .b .fits) (c .pack .ensures) (r .0) (r .1)
 
 returns-2 : tie.Need-returns-2
 returns-2 c =

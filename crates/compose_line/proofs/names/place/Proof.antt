@@ -6,15 +6,9 @@ use borrow.Author.Needs.{needs}
 use Rattle.compose_line.proofs.names.place.Statement.{statement}
 use Rattle.compose_line.proofs.names.place.Tie as tie
 
-path-place-requires : tie.Need-path-place-requires
-path-place-requires c κs = search needs
-
 returns : tie.Need-returns
 unfolding placeOf
 returns c = rw (eq-eqb _ _ (c .before .if1 .taken), ← c .path-place .ensures)
-
-point-place-requires : tie.Need-point-place-requires
-point-place-requires c κs = search needs
 
 returns-2 : tie.Need-returns-2
 unfolding placeOf
@@ -25,5 +19,4 @@ unfolding placeOf
 returns-3 c = rw (ne-eqb _ _ (c .before .if1 .left), ne-eqb _ _ (c .if2 .left))
 
 pub place-spec : {M : Type 1} → statement M
-place-spec =
-    tie.close (tie.spec path-place-requires returns point-place-requires returns-2 returns-3)
+place-spec = tie.close (tie.spec (λ c κs. search needs) returns (λ c κs. search needs) returns-2 returns-3)

@@ -6,15 +6,9 @@ use borrow.Author.Needs.{needs}
 use Rattle.compose_text.proofs.given.deciles.Statement.{statement}
 use Rattle.compose_text.proofs.given.deciles.Tie as tie
 
-with-deciles-requires : tie.Need-with-deciles-requires
-with-deciles-requires c κs = search needs
-
-add-t4 : tie.Need-add-t4
-add-t4 c = search needs
-
 returns : tie.Need-returns
 unfolding givenDeciles
 returns c = rw (c .before .with-deciles .ensures)
 
 pub deciles-spec : {M : Type 1} → statement M
-deciles-spec = tie.close (tie.spec with-deciles-requires add-t4 returns)
+deciles-spec = tie.close (tie.spec (λ c κs. search needs) (λ c. search needs) returns)

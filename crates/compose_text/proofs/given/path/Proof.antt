@@ -6,12 +6,9 @@ use borrow.Author.Needs.{needs}
 use Rattle.compose_text.proofs.given.path.Statement.{statement}
 use Rattle.compose_text.proofs.given.path.Tie as tie
 
-with-path-requires : tie.Need-with-path-requires
-with-path-requires c κs = search needs
-
 returns : tie.Need-returns
 unfolding givenPath
 returns c = rw (c .with-path .ensures)
 
 pub path-spec : {M : Type 1} → statement M
-path-spec = tie.close (tie.spec with-path-requires returns)
+path-spec = tie.close (tie.spec (λ c κs. search needs) returns)

@@ -6,12 +6,9 @@ use borrow.Author.Needs.{needs}
 use Rattle.compose_text.proofs.given.point.Statement.{statement}
 use Rattle.compose_text.proofs.given.point.Tie as tie
 
-with-point-requires : tie.Need-with-point-requires
-with-point-requires c κs = search needs
-
 returns : tie.Need-returns
 unfolding givenPoint
 returns c = rw (c .with-point .ensures)
 
 pub point-spec : {M : Type 1} → statement M
-point-spec = tie.close (tie.spec with-point-requires returns)
+point-spec = tie.close (tie.spec (λ c κs. search needs) returns)

@@ -12,4 +12,5 @@ returns-2 c = record { next = omega arith; cells = sym (set-out _ _ _ (c .if1 .l
 pub put-spec : {M : Type 1} → statement M
 put-spec =
     tie.close
-    (tie.spec (λ c. search needs) (λ c. search needs) (λ c. search needs) (λ c. search needs) (λ c. search needs) returns-2)
+    (tie.spec (λ c. search needs) (λ c. search needs) (λ c. search needs) (λ c. search needs) (λ c. search needs)
+    returns-2)

@@ -27,5 +27,6 @@ returns c = rw (take-all _ _ (c .loop-test .left)) at (c .before .loop .inv .1)
 pub put-all-spec : {M : Type 1} → statement M
 put-all-spec =
     tie.close
-    (tie.spec Inv-loop μ-loop (λ c. (omega arith, clip-none)) (λ c. omega arith) (λ c. omega arith) (λ c κs. search needs)
-    (λ c. omega arith) (λ c. omega arith) loop-again (λ c. clip-length (c .before .loop .inv .1)) returns)
+    (tie.spec Inv-loop μ-loop (λ c. (omega arith, clip-none)) (λ c. omega arith) (λ c. omega arith)
+    (λ c κs. search needs) (λ c. omega arith) (λ c. omega arith) loop-again
+    (λ c. clip-length (c .before .loop .inv .1)) returns)

@@ -24,14 +24,14 @@ returns : tie.Need-returns Inv-loop μ-loop
 returns c =
     let b = c .before .before .before in
     let q = b .before .before .before .loop in
-    rw (one-more _ _ _ _ _ (b .before .before .loop-test .taken), ← b .before .word-row .ensures, ← b .es-row .ensures, c .before .step .given .1) at (q .inv .1)
+    rw (one-more _ _ _ _ _ (b .before .before .loop-test .taken), ← b .before .word-row .ensures, ← b .es-row .ensures .0, c .before .step .given .1) at (q .inv .1)
 
 loop-again : tie.Need-loop-again Inv-loop μ-loop
 loop-again c =
     let b = c .before .before .before in
     let q = b .before .before .before .loop in (
       omega arith,
-      rw (one-more _ _ _ _ _ (b .before .before .loop-test .taken), ← b .before .word-row .ensures, ← b .es-row .ensures, c .before .step2 .given .1) at (q .inv .1),
+      rw (one-more _ _ _ _ _ (b .before .before .loop-test .taken), ← b .before .word-row .ensures, ← b .es-row .ensures .0, c .before .step2 .given .1) at (q .inv .1),
     )
 
 returns-2 : tie.Need-returns-2 Inv-loop μ-loop

@@ -1,0 +1,2 @@
+-- How many points are taken.
+pub mod Counts

@@ -1,0 +1,2 @@
+-- Counts of angles.
+pub mod Counts

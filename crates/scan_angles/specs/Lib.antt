@@ -1,0 +1,2 @@
+-- The scan of angles.
+pub mod Angles

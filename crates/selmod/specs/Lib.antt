@@ -1,0 +1,2 @@
+-- `selmod`.
+pub mod Selmod

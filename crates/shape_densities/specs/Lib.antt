@@ -1,0 +1,2 @@
+-- The densities of the five shapes.
+pub mod Density

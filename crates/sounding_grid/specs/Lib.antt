@@ -1,0 +1,2 @@
+-- The thirty sounding frequencies of a slot.
+pub mod Grid

@@ -1,0 +1,2 @@
+-- The rows of an ionogram at given frequencies.
+pub mod Rows

@@ -1,0 +1,1 @@
+// No function: a state put into words is read back.

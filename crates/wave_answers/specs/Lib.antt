@@ -1,0 +1,2 @@
+-- Sine and cosine with a refusal.
+pub mod Answers
