@@ -1,4 +1,6 @@
 // How a circuit file is laid out; a record, lent as its part of the file, and the numbers in it.
+#![tactic(auto)]
+
 ghost use Rattle.std.specs.Prelude.{◌≡◌, ◌+◌, ◌*◌, ◌≤◌, ◌<◌, length, get_or};
 ghost use Rattle.records.specs.Record.{half_at, word_at, record_words, all_zero, fits};
 

@@ -1,4 +1,6 @@
 // Where a call is turned away: a case for each row of the paper's table, in its order, and for each number that a request added.
+#![tactic(auto)]
+
 ghost use Rattle.std.specs.Prelude.{◌≡◌};
 ghost use Rattle.refusal.specs.Number.{number_of, outcome_number};
 
