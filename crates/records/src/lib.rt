@@ -5,7 +5,7 @@ ghost use Rattle.std.specs.Prelude.{◌≡◌, ◌+◌, ◌*◌, ◌≤◌, ◌<
 ghost use Rattle.records.specs.Record.{half_at, word_at, record_words, all_zero, fits};
 
 // How a file is laid out: bytes in a record, the kind of record 0, and the words that a point has after its fifteen.
-#[derive(Drop)]
+#[derive(Clone, Copy)]
 pub struct Form {
     pub size: usize,
     pub first: usize,
