@@ -7,7 +7,7 @@ use native.Mathlib.Omega.{arith}
 use lib.Dec.{T, ltb, lit<}
 use lib.Arith.{le→nltb}
 use lib.Pow.{pow_pos}
-use lib.Ieee.{Float, inf, fin, Format, binary32, binary64, prec, emax, low, odd, units, round, le}
+use lib.Ieee.{nan, Float, inf, fin, Format, binary32, binary64, prec, emax, low, odd, units, round, le}
 use lib.Ieee.Fits.{two, two-le_pos, round_is}
 use lib.Ieee.Exact.{HasValue, units_val}
 use lib.Ieee.Order.{drop, kept, round_mono}
@@ -61,6 +61,8 @@ limit-is-inf binary64 = refl
 
 no-fin-above : (x : Float) (s : Bool) (a c : ℕ) → HasValue x s a c → T (le (inf false) x) → ⊥
 unfolding le
+no-fin-above nan s a c v h = elim v [ ]
+no-fin-above (inf _) s a c v h = elim v [ ]
 no-fin-above (fin t m e) s a c v h = h
 
 pub grid-over : (f : Format) (a c : ℕ) → 0 < c → limit f * c ≤ a → overflow f ≤ grid f a c

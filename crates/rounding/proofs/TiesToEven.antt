@@ -86,6 +86,8 @@ tie-dist f s t n c q j C Q = go s t
 -- any value r of the format that has the sign s and the size of the rounded fraction
 module _ (f : Format) (s : Bool) (a c : ℕ) (C : 0 < c) where
   rounded : (r : Float) → T (fits f r) → HasValue r s (grid f a c) (2 ^ low f) → Nearest f s a c r
+  rounded nan h v = elim v [ ]
+  rounded (inf _) h v = elim v [ ]
   rounded (fin t m e) h v = record {
     held = h;
     is_finite = tt;
