@@ -14,25 +14,20 @@ fi
 commit=$(sed -n 's/^Repository [^ ]* \([0-9a-f]*\) .*/\1/p' "$source/INDEX.md" 2>/dev/null)
 [ -n "$commit" ] || commit=$(git -C "$source" rev-parse --short=10 HEAD 2>/dev/null) || commit=unknown
 echo "the Rust: HFcast Engine in $source, commit $commit; this port was made from bf34e8f9f3"
-# Runs a command and prints its last line; ends with its log where it fails, since
-# an archive that an earlier build left would be compared otherwise.
+# Proves and builds a crate that is there, and ends with the prover's words where that fails, since an archive that an
+# earlier build left would be compared otherwise.
 made() {
-    log=$("$@" 2>&1) || { echo "$log"; exit 1; }
-    echo "$log" | tail -n 1
+    if [ -d "crates/$1" ]; then
+        tools/build "$1"
+    else
+        echo "crates/$1 is not there"
+    fi
 }
 for name in scalar_c port_circuit port_wide port_layers port_heights port_muf port_nominal port_ionogram port_figures port_tariff port_totals port_traces port_mark port_text; do
-    if [ -d "crates/$name" ]; then
-        made rt staticlib "$name"
-    else
-        echo "crates/$name is not there"
-    fi
+    made "$name"
 done
 for name in chain sheet show plot widen narrow mark compose; do
-    if [ -d "crates/$name" ]; then
-        made rt check "$name"
-    else
-        echo "crates/$name is not there"
-    fi
+    made "$name"
 done
 cd oracle
 exec cargo build --release

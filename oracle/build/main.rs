@@ -45,7 +45,7 @@ fn source_folder() -> PathBuf {
     }
 }
 
-/// Where `rt staticlib` writes the libraries.
+/// Where `tools/build` writes the libraries.
 fn library_folder() -> PathBuf {
     here().join("../target/staticlib")
 }

@@ -52,7 +52,7 @@ const LINES: [Line; 8] = [
     ),
 ];
 
-/// Where `rt check` writes a program.
+/// Where `tools/build` writes a program.
 fn path(name: &str) -> PathBuf {
     Path::new(env!("CARGO_MANIFEST_DIR"))
         .join("../target/bin")
