@@ -1,9 +1,9 @@
 -- The number of calls, the test of the prices and the sum each go along with every step of a permutation.
 use mathlib.Core.Bool.{Bool, true, false, cond, ◌&&◌, Bool-set}
-use mathlib.Core.List.{List, [], ◌∷◌, Perm, Permᴰ, reverse, reverse_perm}
+use mathlib.Core.List.{List, Permᴰ, reverse, reverse_perm}
 use mathlib.Core.Logic.{∥∥₁_elim}
 use mathlib.Core.Path.{◌≡◌, refl, ap, ◌∙◌}
-use Prim.Native.Nat.{ℕ, suc, ◌+◌, ◌*◌, ◌≤◌}
+use Prim.Native.Nat.{ℕ, suc, ◌≤◌}
 use native.Mathlib.Nat.{ℕ_set}
 use native.Mathlib.Omega.{arith}
 use borrow.Author.Tests.{leb-true}

@@ -1,5 +1,7 @@
 // The total of a day's calls, as the depot page has it: the sum of their prices in cents, alone. It is
 // the same from the first call, from the last, or in any other order.
+#![tactic(auto)]
+
 ghost use Rattle.std.specs.Prelude.{◌≡◌};
 ghost use Rattle.totals.specs.Total.{total_of};
 
