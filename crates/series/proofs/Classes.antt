@@ -1,7 +1,7 @@
 -- A partial sum by classes is one by pairs of terms, as a fraction: of the sine those up to number 4 j, 4 j + 1, 4 j + 2 and 4 j + 3 are j pairs, the same with the next term, the same, and j + 1 pairs; of the cosine j pairs with the next term, the same, j + 1 pairs, and the same.
 -- So what is said of all pairs from some on is said of all partial sums from some on.
 use mathlib.Core.Path.{◌≡◌, sym, ap, subst}
-use Prim.Native.Nat.{ℕ, suc, ◌+◌, ◌-◌, ◌*◌, ◌/◌, ◌%◌, ◌^◌, ◌≤◌, ◌<◌}
+use Prim.Native.Nat.{ℕ, suc, ◌+◌, ◌*◌, ◌/◌, ◌%◌, ◌^◌, ◌≤◌, ◌<◌}
 use native.Mathlib.Nat.{le_trans, le_of_eq, mul-pos, mul-le-mul_right, le_of_mul-le-mul_right, eq_of_mul-eq-mul_right}
 use native.Mathlib.Omega.{arith}
 use Rattle.cases.proofs.Cases.{split}

@@ -1,1 +1,3 @@
+#![tactic(auto)]
+
 // Power series with whole numerators and denominators: definitions and theorems, no code.
