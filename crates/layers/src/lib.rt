@@ -1,6 +1,8 @@
 // A control point's layers, a layer's MUF line, and the state over all slots: by value where the
 // Fortran shares COMMON blocks, made by `from_layers` and divided
 // into slots by `ionset` (crate `slots`).
+#![tactic(auto)]
+
 ghost use Rattle.std.specs.Prelude.{◌≡◌};
 ghost use Rattle.layers.specs.State.{profile_only, zero_state, with_iedp, with_ielect, with_exact};
 
@@ -9,7 +11,7 @@ use refusal::Outcome;
 pub mod owners;
 
 // The regular layers over a control point: in each list E first, then F1, then F2.
-#[derive(Drop)]
+#[derive(Clone, Copy)]
 pub struct LayerParams {
     // critical frequency in MHz; an F1 of 0 is no F1
     pub fi: [f32; 3],
@@ -20,7 +22,7 @@ pub struct LayerParams {
 }
 
 // Sporadic E over a control point.
-#[derive(Drop)]
+#[derive(Clone, Copy)]
 pub struct EsParams {
     // its critical frequency in MHz: the median `fs[1]`, and the deciles below and above it
     pub fs: [f32; 3],
@@ -29,7 +31,7 @@ pub struct EsParams {
 }
 
 // Whose profile a state has: nobody's, a slot's, or one supplied from outside.
-#[derive(Drop)]
+#[derive(Clone, Copy)]
 pub enum Owner {
     None,
     Slot(usize),
@@ -37,7 +39,7 @@ pub enum Owner {
 }
 
 // The tables are flat: `fi[3 * k + i]`, layer i of point or slot k, is the Rust's `fi[k][i]`.
-#[derive(Drop)]
+#[derive(Clone, Copy)]
 pub struct IonoState {
     pub fi: [f32; 15],
     pub yi: [f32; 15],
@@ -65,7 +67,7 @@ pub struct IonoState {
 }
 
 // A layer's MUF line.
-#[derive(Drop)]
+#[derive(Clone, Copy)]
 pub struct LayerMuf {
     pub sigl: f32,
     pub sigu: f32,
