@@ -1,6 +1,8 @@
 // The programs' text, put into lent bytes: a byte, a word, a decimal, eight hexadecimal digits. Each
 // function puts as much as there is room for and answers the place after it, so that none asks for room:
 // a program shows once, of its whole text, that it fits.
+#![tactic(auto)]
+
 ghost use Rattle.std.specs.Prelude.{◌≡◌, [], ◌∷◌};
 ghost use Rattle.lines.specs.Text.{Clipped, decimal_of, hex_of, field_of, refused_text};
 
