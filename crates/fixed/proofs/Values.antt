@@ -6,7 +6,7 @@ use native.Mathlib.Nat.{le_trans, le_of_eq, le_of_lt, lt_of_not-le, lt_of_le_of_
 use native.Mathlib.Omega.{arith}
 use lib.Dec.{T, leb, eqb, eqb-suc-zero, not_T, eqb→eq, lit<, lit≤}
 use lib.Pow.{pow_pos, pow_mono, pow-add}
-use lib.Ieee.{Float, nan, inf, binary32, up, size, odd, of_fields, of_bits, is_nan}
+use lib.Ieee.{Float, nan, inf, binary32, size, odd, of_fields, of_bits, is_nan}
 use lib.Ieee.Digits.{size-lt, size-le}
 use lib.Ieee.Bits.{cond_no}
 use lib.Ieee.Exact.{HasValue, odd_sign}

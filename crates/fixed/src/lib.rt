@@ -1,4 +1,6 @@
 // What the elementary functions share: products, shifts and patterns of fixed-point numbers in a u64.
+#![tactic(auto)]
+
 ghost use Rattle.std.specs.Prelude.{◌≡◌, ◌+◌, ◌*◌, ◌/◌, ◌^◌, ◌<◌, ◌≤◌};
 ghost use Rattle.fixed.specs.Fixed.{scaled_of, mant, pattern};
 

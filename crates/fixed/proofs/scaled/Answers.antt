@@ -4,10 +4,8 @@ use native.Mathlib.Nat.{mod-eq_of_lt, lt_of_le_of_lt, mul-le-mul}
 use native.Mathlib.Omega.{arith}
 use lib.Dec.{lit<}
 use lib.Pow.{pow_mono}
-use borrow.Author.Rules.{rules}
 use Rattle.fixed.specs.Fixed.{digits}
-use Rattle.fixed.proofs.scaled.Statement.{statement}
-use Rattle.fixed.proofs.scaled.Tie as tie
+use Rattle.fixed.proofs.scaled.Goals as goal
 
 up_to : (a : ℕ) → digits a ≤ 2 ^ 24 - 1
 up_to a = omega arith
@@ -15,11 +13,5 @@ up_to a = omega arith
 places : (a k : ℕ) → a / 2 ^ 23 ≤ k + 39 → a / 2 ^ 23 - k ≤ 39
 places a k h = omega arith
 
-returns : tie.Need-returns
+pub returns : goal.returns
 returns c = mod-eq_of_lt (lt_of_le_of_lt (mul-le-mul (up_to c.args.a) (pow_mono (places c.args.a c.args.k c.requires.1))) (lit< tt))
-
-pub scaled-spec : {M : Type 1} → statement M
-scaled-spec =
-    tie.close
-    (tie.spec (λ c. search rules) (λ c. search rules) (λ c. search rules) (λ c. search rules) (λ c. search rules)
-    returns)

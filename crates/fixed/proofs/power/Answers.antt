@@ -2,12 +2,7 @@
 use Prim.Native.Nat.{◌^◌}
 use native.Mathlib.Nat.{mod-eq_of_lt, one-mul}
 use lib.Pow.{pow-lt}
-use borrow.Author.Rules.{rules}
-use Rattle.fixed.proofs.power.Statement.{statement}
-use Rattle.fixed.proofs.power.Tie as tie
+use Rattle.fixed.proofs.power.Goals as goal
 
-returns : tie.Need-returns
+pub returns : goal.returns
 returns c = rw (one-mul (2 ^ c.args.k)) (mod-eq_of_lt (pow-lt c.requires))
-
-pub power-spec : {M : Type 1} → statement M
-power-spec = tie.close (tie.spec (λ c. search rules) returns)
