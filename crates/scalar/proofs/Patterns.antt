@@ -19,12 +19,16 @@ some m u l N d z n p e = lt_irrefl 0 (subst (λ (x : ℕ). 0 < x) (sym e ∙ ap 
 
 pub sqrt-at : (v : Float) (N : ℕ) → HasValue v false N (2 ^ 149) → 0 < N → sqrt_of v ≡ root_of_units N
 unfolding sqrt_of
+sqrt-at nan N h p = elim h [ ]
+sqrt-at (inf _) N h p = elim h [ ]
 sqrt-at (fin s zero e) N h p = absurd (some 0 (up e) (2 ^ 149) N (down e) refl p (down_pos e) h.1)
 sqrt-at (fin true (suc m) e) N h p = absurd (mathlib.Core.Bool.true≢false h.0)
 sqrt-at (fin false (suc m) e) N h p = ap (λ (x : ℕ). root_of_units x) (ap (λ (x : ℕ). x / down e) h.1 ∙ mul-div_cancel N (down_pos e))
 
 pub sqrt_negative : (v : Float) (N : ℕ) → HasValue v true N (2 ^ 149) → 0 < N → sqrt_of v ≡ nan
 unfolding sqrt_of
+sqrt_negative nan N h p = elim h [ ]
+sqrt_negative (inf _) N h p = elim h [ ]
 sqrt_negative (fin s zero e) N h p = absurd (some 0 (up e) (2 ^ 149) N (down e) refl p (down_pos e) h.1)
 sqrt_negative (fin true (suc m) e) N h p = refl
 sqrt_negative (fin false (suc m) e) N h p = absurd (mathlib.Core.Bool.false≢true h.0)

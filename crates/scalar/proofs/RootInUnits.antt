@@ -137,6 +137,8 @@ module _ (A Q G N W : ℕ) (q : Root A Q) (g : 0 < G) (no-odd-root : Q % 2 ≡ 1
 
 -- ---- a value in units
 units-is : (v : Float) (s : Bool) (N : ℕ) → HasValue v s N (2 ^ 149) → in_units v ≡ N
+units-is nan s N h = elim h [ ]
+units-is (inf _) s N h = elim h [ ]
 units-is (fin t m e) s N h = ap (λ (x : ℕ). x / down e) h.1 ∙ mul-div_cancel N (down_pos e)
 
 -- ---- the theorem, of a value of N units

@@ -7,7 +7,7 @@ use native.Mathlib.Nat.{le_trans, le_of_eq, lt_of_lt_of_le, lt_of_le_of_lt, eq-o
 use native.Mathlib.Omega.{arith}
 use lib.Dec.{T, lit<, lit≤}
 use lib.Pow.{pow-add, pow_pos, pow-lt, shl_lt}
-use lib.Ieee.{Float, fin, binary32, size, units, round, fits, of_bits, to_bits}
+use lib.Ieee.{nan, inf, Float, fin, binary32, size, units, round, fits, of_bits, to_bits}
 use lib.Ieee.Fits.{round-fits}
 use lib.Ieee.Bits.{of_bits-to_bits}
 use lib.Ieee.Exact.{HasValue, units_val}
@@ -20,6 +20,8 @@ use Rattle.scalar.proofs.RootDigits.{handed, span, root-low, root-high, rounds}
 
 -- ---- the pattern of c * 2 ^ k units, for a c of 24 digits: k in the exponent's field, and c's leading digit adds one to it
 value-bits : (v : Float) (s : Bool) (N : ℕ) → HasValue v s N (2 ^ 149) → to_bits binary32 v ≡ pattern_of binary32 s N
+value-bits nan s N h = elim h [ ]
+value-bits (inf _) s N h = elim h [ ]
 value-bits (fin t m e) s N h = bits_of binary32 t m e N h.1 ∙ ap (λ (b : Bool). pattern_of binary32 b N) h.0
 
 drop-24 : (k : ℕ) → suc (23 + k) - 24 ≡ k

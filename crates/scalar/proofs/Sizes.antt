@@ -22,10 +22,14 @@ Small k (fin s m e) = m * up e ≤ 2 ^ k * down e
 
 pub small-not-nan : (k : ℕ) (x : Float) → Small k x → T (not (is_nan x))
 unfolding is_nan
+small-not-nan k nan h = elim h [ ]
+small-not-nan k (inf _) h = elim h [ ]
 small-not-nan k (fin s m e) h = tt
 
 -- from a value in units of L
 value-small : (k : ℕ) (x : Float) (s : Bool) (N L : ℕ) → 0 < L → HasValue x s N L → N ≤ 2 ^ k * L → Small k x
+value-small k nan s N L p h l = elim h [ ]
+value-small k (inf _) s N L p h l = elim h [ ]
 value-small k (fin t m e) s N L p h l =
     le_of_mul-le-mul_right {k = L} (le_trans (le_of_eq h.1) (le_trans (mul-le-mul_right (down e) l) (le_of_eq (mul_right_comm (2 ^ k) L (down e))))) p
 
@@ -70,6 +74,10 @@ round-small k s a c K C h =
 -- ---- the operations
 pub mul_small : (j k : ℕ) (x y : Float) → j + k ≤ 1000 → Small j x → Small k y → Small (j + k + 2) (mul binary64 x y)
 unfolding mul
+mul_small j k nan y l h i = elim h [ ]
+mul_small j k (inf _) y l h i = elim h [ ]
+mul_small j k (fin s m e) nan l h i = elim i [ ]
+mul_small j k (fin s m e) (inf _) l h i = elim i [ ]
 mul_small j k (fin s m e) (fin t n d) l h i =
     round-small (j + k) _ (m * up e * (n * up d)) (down e * down d) l (mul-pos (down_pos e) (down_pos d))
     (le_trans (mul-le-mul h i) (le_of_eq (mul-mul-mul_comm (2 ^ j) (down e) (2 ^ k) (down d) ∙ ap (λ (x : ℕ). x * (down e * down d)) (sym (pow-add 2 j k)))))
@@ -104,6 +112,10 @@ sum-small k s a t b c l C h i =
 
 pub add_small : (k : ℕ) (x y : Float) → k < 1000 → Small k x → Small k y → Small (k + 3) (add binary64 x y)
 unfolding add
+add_small k nan y l h i = elim h [ ]
+add_small k (inf _) y l h i = elim h [ ]
+add_small k (fin s m e) nan l h i = elim i [ ]
+add_small k (fin s m e) (inf _) l h i = elim i [ ]
 add_small k (fin s m e) (fin t n d) l h i =
     sum-small k s (m * up e * down d) t (n * up d * down e) (down e * down d) l (mul-pos (down_pos e) (down_pos d))
     (le_trans (mul-le-mul_right (down d) h) (le_of_eq (mul_assoc (2 ^ k) (down e) (down d))))
@@ -111,6 +123,8 @@ add_small k (fin s m e) (fin t n d) l h i =
 
 neg_small : (k : ℕ) (x : Float) → Small k x → Small k (neg x)
 unfolding neg
+neg_small k nan h = elim h [ ]
+neg_small k (inf _) h = elim h [ ]
 neg_small k (fin s m e) h = h
 
 pub sub_small : (k : ℕ) (x y : Float) → k < 1000 → Small k x → Small k y → Small (k + 3) (sub binary64 x y)

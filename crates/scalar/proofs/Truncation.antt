@@ -34,6 +34,8 @@ whole a d N L p q e = sym (mul-div-mul_right a d q) ∙ ap₂ (λ (x y : ℕ). x
 
 trunc-at : (v : Float) (s : Bool) (N : ℕ) → HasValue v s N (2 ^ 149) → trunc_of v ≡ kept s (N / 2 ^ 149)
 unfolding trunc_of
+trunc-at nan s N h = elim h [ ]
+trunc-at (inf _) s N h = elim h [ ]
 trunc-at (fin true m e) true N h = ap (λ (q : ℕ). kept true q) (whole (m * up e) (down e) N (2 ^ 149) (down_pos e) (pow_pos 149) h.1)
 trunc-at (fin true m e) false N h = absurd (true≢false h.0)
 trunc-at (fin false m e) true N h = absurd (false≢true h.0)

@@ -1,5 +1,7 @@
 // The arithmetic that everything else rests on: bit patterns, the cut to an i32, minimum, maximum,
 // abs and the square root. Each is total: it answers at NaN, at both infinities and at both zeros.
+#![tactic(auto)]
+
 mod root;
 
 ghost use Rattle.std.specs.Prelude.{◌≡◌, ◌-◌, ◌≤◌, min as least};

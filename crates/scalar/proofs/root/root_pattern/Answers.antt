@@ -1,5 +1,4 @@
 -- `scalar::root::root_pattern` meets its contract: four times what is rooted is the radicand. Assumes nothing.
-use borrow.Author.Rules.{rules}
 use mathlib.Core.Path.{◌≡◌, sym, ap, ap₂, ◌∙◌, subst}
 use Prim.Native.Nat.{ℕ, zero, suc, ◌+◌, ◌*◌, ◌/◌, ◌%◌, ◌^◌, ◌≤◌, ◌<◌}
 use native.Mathlib.Nat.{lt_trans, mod-lt, zero-lt-suc}
@@ -9,8 +8,8 @@ use Rattle.scalar.specs.Root.{root}
 use Rattle.scalar.specs.RootPattern.{radicand, root_digits}
 use Rattle.scalar.proofs.RootDigits.{span}
 use Rattle.scalar.proofs.RootPattern.{digits_in}
-use Rattle.scalar.proofs.root.root_pattern.Statement.{statement}
-use Rattle.scalar.proofs.root.root_pattern.Tie as tie
+use Rattle.scalar.proofs.root.root_pattern.Goals.{After-rounded_root-digits}
+use Rattle.scalar.proofs.root.root_pattern.Goals as goal
 
 -- m and h in e
 abbrev m : ℕ → ℕ
@@ -44,36 +43,29 @@ rooted-in e = let s = span (m e) (h e) (m-low e) (m-high e) in within (rooted e)
     within n A f a b = (omega arith, omega arith)
 
 -- the callee's result
-result-is : (c : tie.After-rounded-root) → c.rounded-root.result ≡ root_digits (m c.before.before.args.e) (h c.before.before.args.e)
-result-is c = c.rounded-root.ensures ∙ ap (λ (x : ℕ). (root x + 1) / 2) (fourfold c.before.before.args.e)
+result-is : (c : After-rounded_root-digits) → c.rounded_root-digits.result ≡ root_digits (m c.args.e) (h c.args.e)
+result-is c = c.rounded_root-digits.ensures ∙ ap (λ (x : ℕ). (root x + 1) / 2) (fourfold c.args.e)
 
-result-le : (c : tie.After-rounded-root) → c.rounded-root.result ≤ 2 ^ 24
-result-le c = let e = c.before.before.args.e in subst (λ (x : ℕ). x ≤ 2 ^ 24) (sym (result-is c)) (digits_in (m e) (h e) (m-low e) (m-high e)).1
+result-le : (c : After-rounded_root-digits) → c.rounded_root-digits.result ≤ 2 ^ 24
+result-le c = let e = c.args.e in subst (λ (x : ℕ). x ≤ 2 ^ 24) (sym (result-is c)) (digits_in (m e) (h e) (m-low e) (m-high e)).1
 
-mul-n : tie.Need-overflow-mul-n
-mul-n c = record { fits = lt_trans (rooted-in c.args.e).1 (lit< tt) }
+pub overflow_mul-n : goal.overflow_mul-n
+overflow_mul-n c = record { fits = lt_trans (rooted-in c.args.e).1 (lit< tt) }
 
-near-root-requires : tie.Need-near-root-requires
-near-root-requires c κs = ((rooted-in c.args.e).1, omega arith)
+pub near_root-requires : goal.near_root-requires
+near_root-requires c = ((rooted-in c.args.e).1, omega arith)
 
-rounded-root-requires : tie.Need-rounded-root-requires
-rounded-root-requires c κs = ((rooted-in c.before.args.e).0, (rooted-in c.before.args.e).1, c.near-root.ensures)
+pub rounded_root-digits-requires : goal.rounded_root-digits-requires
+rounded_root-digits-requires c = ((rooted-in c.args.e).0, (rooted-in c.args.e).1, c.near_root.ensures)
 
-cast-result : tie.Need-overflow-cast-result
-cast-result c = omega (arith, result-le c)
+pub overflow_cast-result : goal.overflow_cast-result
+overflow_cast-result c = omega (arith, result-le (goal.at.overflow_cast-result c).After-rounded_root-digits)
 
-add-result : tie.Need-overflow-add-result
-add-result c = omega (arith, result-le c)
+pub overflow_add-result : goal.overflow_add-result
+overflow_add-result c = omega (arith, result-le (goal.at.overflow_add-result c).After-rounded_root-digits)
 
-returns : tie.Need-returns
-returns c = let e = c.before.before.args.e in ap₂ (λ (x y : ℕ). x * 2 ^ 23 + y) (halved e) (result-is c)
+pub returns : goal.returns
+returns c = let e = c.args.e in ap₂ (λ (x y : ℕ). x * 2 ^ 23 + y) (halved e) (result-is (goal.at.returns c).After-rounded_root-digits)
   where
     halved : (e : ℕ) → e / 2 ^ 24 ≡ e / 2 ^ 23 / 2
     halved e = omega arith
-
-pub root-pattern-spec : {M : Type 1} → statement M
-root-pattern-spec =
-    tie.close
-    (tie.spec (λ c. search rules) (λ c. search rules) (λ c. search rules) (λ c. search rules) (λ c. search rules)
-    mul-n (λ c. search rules) near-root-requires rounded-root-requires (λ c. search rules) cast-result add-result
-    returns)

@@ -1,14 +1,12 @@
 -- `scalar::root::near_root` meets its contract: n is a float exactly, y's pattern is a number's, and the sum is no NaN, by its size. Assumes nothing.
 use Prim.Native.Nat.{◌-◌, ◌*◌, ◌^◌}
 use native.Mathlib.Omega.{arith}
-use borrow.Author.Rules.{rules}
 use lib.Dec.{lit≤, lit<, le→leb}
 use lib.IntN.{pos}
 use lib.Ieee.{Float, binary64, add, sub, mul, of_int, of_bits, in_float}
 use Rattle.scalar.proofs.Nan.{number-pattern-64}
 use Rattle.scalar.proofs.Sizes.{Small, small-not-nan, mul_small, add_small, sub_small, int_small, bits_small}
-use Rattle.scalar.proofs.root.near_root.Statement.{statement}
-use Rattle.scalar.proofs.root.near_root.Tie as tie
+use Rattle.scalar.proofs.root.near_root.Goals as goal
 
 -- the chain of operations, from a w of at most 2 ^ 50 and a y of at most 1; each figure is the sum of two, and 2, or one, and 3
 module _ (w y A B C M : Float) (W : Small 50 w) (Y : Small 0 y) (a : Small 54 A) (b : Small 172 B) (k : Small 352 C) (m : Small 468 M) where
@@ -46,25 +44,19 @@ module _ (w y A B C M : Float) (W : Small 50 w) (Y : Small 0 y) (a : Small 54 A)
       (add_small 352 (mul binary64 rest rest) C (lit< tt) (mul_small 175 175 rest rest (lit≤ tt) rest-small rest-small) k))
       m
 
-int-to-float-w : tie.Need-int-to-float-w
+pub int_to_float-w : goal.int_to_float-w
 unfolding in_float
-int-to-float-w c = le→leb c.before.args.n (2 ^ 53) (omega arith)
+int_to_float-w c = le→leb c.args.n (2 ^ 53) (omega arith)
 
-float-from-bits-y : tie.Need-float-from-bits-y
-float-from-bits-y c = number-pattern-64 _ (omega arith)
+pub float_from_bits-y : goal.float_from_bits-y
+float_from_bits-y c = number-pattern-64 _ (omega arith)
 
-float-to-bits-result : tie.Need-float-to-bits-result
-float-to-bits-result c =
-    let n = c.before.args.n in
-    let t = c.before.args.t in
+pub float_to_bits-result : goal.float_to_bits-result
+float_to_bits-result c =
+    let n = c.args.n in
+    let t = c.args.t in
     small-not-nan 471 _
     (near (of_int binary64 (pos n)) (of_bits binary64 (0x3e8a_fab0_0000_0000 - t * 2 ^ 28)) _ _ _ _
     (int_small 48 n (lit≤ tt) (omega arith)) (bits_small 0 (0x3e8a_fab0_0000_0000 - t * 2 ^ 28) (lit≤ tt) (omega arith))
     (bits_small 54 4621118784733092990 (lit≤ tt) (lit< tt)) (bits_small 172 4640028094607903140 (lit≤ tt) (lit< tt))
     (bits_small 352 4671754589461097391 (lit≤ tt) (lit< tt)) (bits_small 468 4922434392715952128 (lit≤ tt) (lit< tt)))
-
-pub near-root-spec : {M : Type 1} → statement M
-near-root-spec =
-    tie.close
-    (tie.spec int-to-float-w (λ c. search rules) (λ c. search rules) float-from-bits-y float-to-bits-result
-    (λ c. search rules))
