@@ -1,4 +1,6 @@
 // The chain of a circuit file, followed from record 0, in any form.
+#![tactic(auto)]
+
 ghost use Rattle.std.specs.Prelude.{◌≡◌, [], ◌∷◌, ◌+◌, ◌*◌, ◌≤◌, length, leb};
 ghost use Rattle.records.specs.Record.{Fit, form64, record_at, next_of};
 ghost use Rattle.record_chain.specs.Chain.{chain_of, head_good, member, step_of, step_number, step_index, sound_by};
