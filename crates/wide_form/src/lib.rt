@@ -1,4 +1,6 @@
 // What differs in a circuit file that carries F2M3: its form, and F2M3 in a point's record.
+#![tactic(auto)]
+
 ghost use Rattle.std.specs.Prelude.{◌≡◌, ◌≤◌, length, drop};
 ghost use Rattle.records.specs.Record.{record_words};
 ghost use Rattle.wide_form.specs.Form128;
