@@ -1,11 +1,13 @@
 // Reading a number off a profile: by a scan of the segments from the lowest on, or, where the
 // heights rise, on from the segment at which the last read stopped.
+#![tactic(auto)]
+
 ghost use Rattle.std.specs.Prelude.{◌≡◌};
 ghost use Rattle.readings.specs.Scan.{segment_of, held_of, hit_value, scan_of, value_of, reading_kind, segment_number, found_of, reading_of};
 ghost use Rattle.readings.specs.Cursor.{climb_of, read_on_of};
 
 // What one segment has for a probe.
-#[derive(Drop)]
+#[derive(Clone, Copy)]
 pub enum Hit {
     At(f32),
     Miss,
@@ -61,7 +63,7 @@ pub fn hit_value(h: Hit) -> f32
 
 // A density read, with its number: at or below the floor, on a segment, whose own number stands
 // beside it, or above all of them.
-#[derive(Drop)]
+#[derive(Clone, Copy)]
 pub enum Reading {
     Floor(f32),
     Segment(f32, u32),
@@ -115,7 +117,7 @@ pub fn scan(from: &[f32; 50], to: &[f32; 50], probe: f32) -> Reading
 }
 
 // A number found by a search, and the segment that it was found on.
-#[derive(Drop)]
+#[derive(Clone, Copy)]
 pub struct Found {
     pub value: f32,
     pub segment: u32,
@@ -143,7 +145,7 @@ pub fn read_by_scan(htr: &[f32; 50], fnsq: &[f32; 50], zi: f32) -> Reading
 }
 
 // A reading, and the cursor that it leaves.
-#[derive(Drop)]
+#[derive(Clone, Copy)]
 pub struct Read {
     pub reading: Reading,
     pub cursor: usize,
