@@ -1,4 +1,6 @@
 // The day's total for callers in any language: words in, words out. Each function answers 0, or the number of its refusal, and then leaves every lent word as it was.
+#![tactic(auto)]
+
 ghost use Rattle.std.specs.Prelude.{◌≡◌, ◌≤◌, length};
 ghost use Rattle.totals.specs.Total.{total_number};
 ghost use Rattle.port_totals.specs.Exports.{total_into, total_left};
@@ -19,8 +21,7 @@ fn total_into(t: Total, out: &mut [u32]) -> u32
 }
 
 // out: the cents; from the first price to the last
-#[unsafe(no_mangle)]
-pub extern "C" fn port_total(prices: &[u32], out: &mut [u32]) -> u32
+pub fn port_total(prices: &[u32], out: &mut [u32]) -> u32
     ensures { (result ≡ (total_left prices.now out.old).number) × (out.new ≡ (total_left prices.now out.old).words) }
 {
     if out.len() < 1 {
@@ -31,8 +32,7 @@ pub extern "C" fn port_total(prices: &[u32], out: &mut [u32]) -> u32
 }
 
 // the same, from the last price to the first
-#[unsafe(no_mangle)]
-pub extern "C" fn port_total_last(prices: &[u32], out: &mut [u32]) -> u32
+pub fn port_total_last(prices: &[u32], out: &mut [u32]) -> u32
     ensures { (result ≡ (total_left prices.now out.old).number) × (out.new ≡ (total_left prices.now out.old).words) }
 {
     if out.len() < 1 {
