@@ -4,7 +4,7 @@
 ghost use Rattle.std.specs.Prelude.{◌≡◌};
 ghost use Rattle.refusal.specs.Number.{number_of, outcome_number};
 
-#[derive(Drop)]
+#[derive(Clone, Copy)]
 pub enum Refusal {
     // the file's length, or the room lent to the writer
     Length,
@@ -49,7 +49,7 @@ pub enum Refusal {
 }
 
 // An answer whose value stands beside it.
-#[derive(Drop)]
+#[derive(Clone, Copy)]
 pub enum Outcome {
     Answered,
     Refused(Refusal),
