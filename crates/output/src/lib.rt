@@ -1,3 +1,5 @@
+#![tactic(auto)]
+
 // A program's last step: what it has to say goes to standard output, and where that takes it not whole, a
 // line on standard error says so.
 pub fn write_text(text: &[u8]) {
