@@ -1,6 +1,6 @@
 -- A word of plain letters as its bytes.
 use Rattle.std.specs.Prelude.{List, [] as none, ◌∷◌ as ◌and◌, ℕ}
-use Prim.Native.Char.{Char, code}
+use Prim.Native.Char.{code}
 use Prim.Native.String.{String, [], ◌∷◌}
 
 abbrev pub ascii : String → List ℕ

@@ -1,4 +1,6 @@
 // A text in a field of a given width, put into lent bytes as the crate `lines` puts text.
+#![tactic(auto)]
+
 ghost use Rattle.lines.specs.Text.{Clipped};
 ghost use Rattle.aligned.specs.Aligned.{repeated, right};
 
