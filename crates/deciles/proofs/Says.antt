@@ -2,7 +2,7 @@
 use mathlib.Core.Bool.{Bool, true, false, cond}
 use mathlib.Core.List.{List}
 use mathlib.Core.Path.{◌≡◌, refl}
-use Prim.Native.Nat.{ℕ, ◌+◌}
+use Prim.Native.Nat.{◌+◌}
 use native.Mathlib.Omega.{arith}
 use borrow.Author.Tests.{ltb-true, eq-eqb, ne_eqb}
 use lib.Dec.{eqb}
@@ -36,9 +36,9 @@ says-by true false false x y = (refl, refl)
 says-by false none below x y = (refl, refl)
 
 -- an answer that is the definition's says what the definition says
-pub deviation-says : (r : Deviation) (f2d : List Float) (fmuf ssn clat freq abb : Float) → r ≡ f2dis_of f2d fmuf ssn clat freq abb → (r ≡ f2dis_of f2d fmuf ssn clat freq abb) × DeviationSays r f2d fmuf ssn clat freq abb
+pub deviation-says : (r : Deviation) (f2d : List Float) (fmuf ssn clat freq abb : Float) → r ≡ f2dis_of f2d fmuf ssn clat freq abb → DeviationSays r f2d fmuf ssn clat freq abb
 unfolding f2dis_of DeviationSays
 deviation-says r f2d fmuf ssn clat freq abb e =
     let cl = clat *f f57_29577 in
     let decile = get_or f2d (place_of (icc_of abb) (j_of ssn cl) (icl_of cl + i_of fmuf freq)) nan in
-    (e, rw (e, ← block-below abb) (says-by (eqb (length f2d) 576) (get_or f2d 0 nan ≤f f0) (eqb (icc_of abb) 0) (classical_of fmuf) (spread_of fmuf decile)))
+    rw (e, ← block-below abb) (says-by (eqb (length f2d) 576) (get_or f2d 0 nan ≤f f0) (eqb (icc_of abb) 0) (classical_of fmuf) (spread_of fmuf decile))

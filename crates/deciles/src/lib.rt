@@ -1,4 +1,6 @@
 // How far the F2 MUF spreads about its median, as a standard deviation out of the decile table.
+#![tactic(auto)]
+
 ghost use Rattle.std.specs.Prelude.{◌≡◌, ◌<◌, ◌≤◌};
 ghost use Rattle.deciles.specs.F2dis.{sunspot_row_of, j_of, i_of, icl_of, time_block_of, icc_of, place_of, classical_of, spread_of, f2dis_of, DeviationSays};
 

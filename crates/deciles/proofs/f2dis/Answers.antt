@@ -1,0 +1,47 @@
+-- Each answer follows its path of tests. The index is in range by the ranges of `icc`, `j`, `icl` and `i`.
+use Prim.Native.Nat.{◌<◌, ◌≤◌}
+use native.Mathlib.Omega.{arith}
+use borrow.Author.Tests.{ne_eqb}
+use mir.Facts.{Fits-le, Fits-lit}
+use Rattle.deciles.specs.F2dis.{f2dis_of}
+use Rattle.deciles.proofs.Ranges.{j-range, i-range, icl-range, icc-range}
+use Rattle.deciles.proofs.Says.{deviation-says}
+use Rattle.deciles.proofs.f2dis.Goals as goal
+
+pub returns-then-f2d-ne576 : goal.returns-then-f2d-ne576
+unfolding f2dis_of
+returns-then-f2d-ne576 c = record { value = (rw (ne_eqb _ _ c.if-f2d-ne576.true)); deviation_says = deviation-says _ _ _ _ _ _ _ (rw (ne_eqb _ _ c.if-f2d-ne576.true)) }
+
+pub returns-then-f2d : goal.returns-then-f2d
+unfolding f2dis_of
+returns-then-f2d c = record { value = (rw (c.if-f2d-ne576.false, c.if-f2d.true, ← c.classical.ensures)); deviation_says = deviation-says _ _ _ _ _ _ _ (rw (c.if-f2d-ne576.false, c.if-f2d.true, ← c.classical.ensures)) }
+
+pub returns-then-icc-eq0 : goal.returns-then-icc-eq0
+unfolding f2dis_of
+returns-then-icc-eq0 c = record { value = (rw (c.if-f2d-ne576.false, c.if-f2d.false, ← c.time_block-icc.ensures, c.if-icc-eq0.true)); deviation_says = deviation-says _ _ _ _ _ _ _ (rw (c.if-f2d-ne576.false, c.if-f2d.false, ← c.time_block-icc.ensures, c.if-icc-eq0.true)) }
+
+pub overflow_add-iz : goal.overflow_add-iz
+overflow_add-iz c =
+    let b : c.band.result ≤ 8 = rw c.band.ensures (icl-range _).1 in
+    let h : c.half.result ≤ 8 = rw c.half.ensures (i-range _ _) in
+    Fits-le {n = 16} (omega arith) (Fits-lit tt)
+
+pub place-at-requires : goal.place-at-requires
+place-at-requires c =
+    let t = c.time_block-icc in
+    let b = c.band in
+    let h = c.half in
+    let icc : t.result ≤ 6 = rw t.ensures (icc-range _) in
+    let j₀ : 0 < c.row-j.result = rw c.row-j.ensures (j-range _ _).0 in
+    let j₁ : c.row-j.result ≤ 6 = rw c.row-j.ensures (j-range _ _).1 in
+    let icl₀ : 0 < b.result = rw b.ensures (icl-range _).0 in
+    let icl₁ : b.result ≤ 8 = rw b.ensures (icl-range _).1 in
+    let i : h.result ≤ 8 = rw h.ensures (i-range _ _) in
+    (omega arith, icc, j₀, j₁, omega arith, omega arith)
+
+pub returns : goal.returns
+unfolding f2dis_of
+returns c = record {
+  value = rw (c.if-f2d-ne576.false, c.if-f2d.false, ← c.time_block-icc.ensures, ne_eqb _ _ c.if-icc-eq0.false, ← c.band.ensures, ← c.half.ensures, ← c.row-j.ensures, ← c.place-at.ensures.value, ← c.spread.ensures);
+  deviation_says = deviation-says _ _ _ _ _ _ _ (rw (c.if-f2d-ne576.false, c.if-f2d.false, ← c.time_block-icc.ensures, ne_eqb _ _ c.if-icc-eq0.false, ← c.band.ensures, ← c.half.ensures, ← c.row-j.ensures, ← c.place-at.ensures.value, ← c.spread.ensures));
+}
