@@ -2,9 +2,9 @@
 use mathlib.Core.Bool.{Bool, true, false, not, ◌&&◌, ◌||◌}
 use mathlib.Core.List.{List, [], ◌∷◌}
 use mathlib.Core.Path.{◌≡◌, refl, sym, ap, ap₂, ◌∙◌, subst}
-use Prim.Native.Nat.{ℕ, ◌%◌, ◌^◌, ◌<◌}
-use lib.Dec.{T, eqb, ltb, eqb→eq, eqb_refl}
-use lib.Ieee.{Float, nan, inf, fin, binary32, is_nan, nan_bits, of_bits, to_bits}
+use Prim.Native.Nat.{ℕ, ◌^◌, ◌<◌}
+use lib.Dec.{T, eqb, eqb→eq, eqb_refl}
+use lib.Ieee.{Float, nan, inf, fin, binary32, is_nan, of_bits, to_bits}
 use lib.Ieee.Bits.{is_true, of_bits-to_bits, to_bits-of_bits, nan_bits_is, nan_bits_above}
 use Rattle.same.specs.Same.{nan_pattern, same_bits, Same, SameAll, F32, AllF32, SameIsEqual}
 
