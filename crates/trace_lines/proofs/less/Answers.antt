@@ -8,9 +8,7 @@ use lib.Signed.{mag}
 use mir.Val.{SFits}
 use mir.Facts.{to_z-of_z, to_z_pos}
 use mir.Syntax.{w64}
-use borrow.Author.Rules.{rules}
-use Rattle.trace_lines.proofs.less.Statement.{statement}
-use Rattle.trace_lines.proofs.less.Tie as tie
+use Rattle.trace_lines.proofs.less.Goals as goal
 
 small : (h k : ℕ) → h < 0x1_0000_0000 → k < 0x1_0000_0000 → mag (pos h -ℤ pos k) < 0x8000_0000_0000_0000
 small h zero p q = omega arith
@@ -23,15 +21,12 @@ small h (suc k) p q = by (ltb h (suc k))
 fits : (h k : ℕ) → h < 0x1_0000_0000 → k < 0x1_0000_0000 → SFits w64 (pos h -ℤ pos k)
 fits h k p q = record { sfits = small h k p q }
 
-sub-result : tie.Need-overflow-sub-result
-sub-result c =
+pub overflow_sub-result : goal.overflow_sub-result
+overflow_sub-result c =
     rw (to_z_pos w64 {n = c.args.h} (omega arith), to_z_pos w64 {n = c.args.k} (omega arith))
     (fits c.args.h c.args.k (omega arith) (omega arith))
 
-returns : tie.Need-returns
+pub returns : goal.returns
 returns c =
     rw (to_z_pos w64 {n = c.args.h} (omega arith), to_z_pos w64 {n = c.args.k} (omega arith))
     (to_z-of_z (fits c.args.h c.args.k (omega arith) (omega arith)))
-
-pub less-spec : {M : Type 1} → statement M
-less-spec = tie.close (tie.spec (λ c. search rules) (λ c. search rules) sub-result returns)

@@ -1,0 +1,44 @@
+-- The smaller of the two kHz is the next; where one trace is at its end, the other's.
+use native.Mathlib.Omega.{arith}
+use native.Mathlib.Nat.{le_antisymm}
+use mir.Facts.{to_z-of_z}
+use borrow.Author.Rules.{sfits_of}
+use Rattle.trace_lines.proofs.Steps.{head_first, head-second, head-both}
+use Rattle.trace_lines.proofs.next.Goals as goal
+
+pub returns-then-i-a : goal.returns-then-i-a
+returns-then-i-a c =
+    let s = c in
+    let g = s.args in
+    head-second g.a.now g.ah.now g.b.now g.bh.now s.requires.0 s.requires.1 g.i g.j (omega arith)
+    (λ m. omega arith)
+
+pub returns-then-j-b : goal.returns-then-j-b
+returns-then-j-b c =
+    let s = c in
+    let g = s.args in
+    head_first g.a.now g.ah.now g.b.now g.bh.now s.requires.0 s.requires.1 g.i g.j (omega arith)
+    (λ m. omega arith)
+
+pub returns-then-f-g : goal.returns-then-f-g
+returns-then-f-g c =
+    let s = c in
+    let g = s.args in
+    head_first g.a.now g.ah.now g.b.now g.bh.now s.requires.0 s.requires.1 g.i g.j (omega arith)
+    (λ m. c.if-f-g.true)
+
+pub returns-then-g-f : goal.returns-then-g-f
+returns-then-g-f c =
+    let s = c in
+    let g = s.args in
+    head-second g.a.now g.ah.now g.b.now g.bh.now s.requires.0 s.requires.1 g.i g.j (omega arith)
+    (λ m. c.if-g-f.true)
+
+pub returns : goal.returns
+returns c =
+    let d = c in
+    let s = d.before.before.before.before.before.before.before.before.before.before in
+    let g = s.args in
+    rw (to_z-of_z (sfits_of c.less-d.type_inv), c.less-d.ensures)
+    (head-both g.a.now g.ah.now g.b.now g.bh.now s.requires.0 s.requires.1 g.i g.j (omega arith) (omega arith)
+    (le_antisymm d.if4.false d.before.if3.false))
