@@ -1,4 +1,5 @@
 // The Rust's constants (constants.rs), digit for digit.
+#![tactic(auto)]
 
 // degrees to radians
 pub const D2R: f32 = 0.01745329251;
