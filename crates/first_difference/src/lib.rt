@@ -1,5 +1,7 @@
 // Two texts, ours and theirs: whether they are the same, or the first line of theirs that is not ours. A line is taken with its
 // line feed.
+#![tactic(auto)]
+
 ghost use Rattle.std.specs.Prelude.{◌≡◌};
 ghost use Rattle.first_difference.specs.Difference.{verdict_of};
 ghost use Rattle.first_difference.specs.Closed.{feed_of};
