@@ -1,5 +1,7 @@
 // The arc tangent's angles with their tangents, and the arc sine's with their sines and cosines.
 // A `match` compiles to one read of constant memory; a constant array would be built anew at each call.
+#![tactic(auto)]
+
 ghost use Rattle.std.specs.Prelude.{◌≡◌, ◌<◌, get_or};
 ghost use Rattle.arc_tables.specs.Tables.{angles, steep, cosines, arcs};
 
