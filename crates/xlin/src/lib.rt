@@ -1,4 +1,6 @@
 // Interpolation between the fifty nodes of a grid.
+#![tactic(auto)]
+
 ghost use Rattle.std.specs.Prelude.{◌≡◌};
 ghost use Rattle.xlin.specs.Xlin.{xlin_found};
 
