@@ -1,5 +1,7 @@
 // The rules of `from_layers` and `ionset` that need no state: how many points are taken, a point's row
 // in a table, and an F1 that is too close to its neighbours.
+#![tactic(auto)]
+
 ghost use Rattle.std.specs.Prelude.{◌≡◌, ◌<◌};
 ghost use Rattle.layer_rules.specs.Rules.{count_taken, row_set, too_close};
 
