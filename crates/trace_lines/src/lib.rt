@@ -1,4 +1,6 @@
 // The lines of two traces, one after the other: the line at the smaller of the kHz that are left.
+#![tactic(auto)]
+
 ghost use Rattle.std.specs.Prelude.{◌≡◌, ◌+◌, ◌≤◌, ◌<◌, pos, ◌-ℤ◌, length, drop};
 ghost use Rattle.trace_lines.specs.Trace.{Rows};
 ghost use Rattle.trace_lines.specs.Lines.{of_first, of_second, trace_lines, line_at};

@@ -8,37 +8,31 @@ use Rattle.trace_lines.proofs.next.Goals as goal
 
 pub returns-then-i-a : goal.returns-then-i-a
 returns-then-i-a c =
-    let s = c in
-    let g = s.args in
-    head-second g.a.now g.ah.now g.b.now g.bh.now s.requires.0 s.requires.1 g.i g.j (omega arith)
+    let g = c.args in
+    head-second g.a.now g.ah.now g.b.now g.bh.now c.requires.0 c.requires.1 g.i g.j (omega arith)
     (λ m. omega arith)
 
 pub returns-then-j-b : goal.returns-then-j-b
 returns-then-j-b c =
-    let s = c in
-    let g = s.args in
-    head_first g.a.now g.ah.now g.b.now g.bh.now s.requires.0 s.requires.1 g.i g.j (omega arith)
+    let g = c.args in
+    head_first g.a.now g.ah.now g.b.now g.bh.now c.requires.0 c.requires.1 g.i g.j (omega arith)
     (λ m. omega arith)
 
 pub returns-then-f-g : goal.returns-then-f-g
 returns-then-f-g c =
-    let s = c in
-    let g = s.args in
-    head_first g.a.now g.ah.now g.b.now g.bh.now s.requires.0 s.requires.1 g.i g.j (omega arith)
+    let g = c.args in
+    head_first g.a.now g.ah.now g.b.now g.bh.now c.requires.0 c.requires.1 g.i g.j (omega arith)
     (λ m. c.if-f-g.true)
 
 pub returns-then-g-f : goal.returns-then-g-f
 returns-then-g-f c =
-    let s = c in
-    let g = s.args in
-    head-second g.a.now g.ah.now g.b.now g.bh.now s.requires.0 s.requires.1 g.i g.j (omega arith)
+    let g = c.args in
+    head-second g.a.now g.ah.now g.b.now g.bh.now c.requires.0 c.requires.1 g.i g.j (omega arith)
     (λ m. c.if-g-f.true)
 
 pub returns : goal.returns
 returns c =
-    let d = c in
-    let s = d.before.before.before.before.before.before.before.before.before.before in
-    let g = s.args in
+    let g = c.args in
     rw (to_z-of_z (sfits_of c.less-d.type_inv), c.less-d.ensures)
-    (head-both g.a.now g.ah.now g.b.now g.bh.now s.requires.0 s.requires.1 g.i g.j (omega arith) (omega arith)
-    (le_antisymm d.if4.false d.before.if3.false))
+    (head-both g.a.now g.ah.now g.b.now g.bh.now c.requires.0 c.requires.1 g.i g.j (omega arith) (omega arith)
+    (le_antisymm c.if-g-f.false c.if-f-g.false))
