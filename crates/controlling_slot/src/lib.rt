@@ -1,4 +1,6 @@
 // The slot that controls a MUF hour.
+#![tactic(auto)]
+
 ghost use Rattle.std.specs.Prelude.{◌≡◌, ◌<◌};
 ghost use Rattle.controlling_slot.specs.Controlling.{compare_e, controlling_of};
 
