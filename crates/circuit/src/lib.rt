@@ -1,6 +1,8 @@
 // The circuit file: a chain of records that holds the numbers of one circuit; in the paper's form a record has 64 bytes. Every
 // number is held by its bits, so that a NaN keeps its payload. What takes a record, or a form, is open to the readers of other
 // forms.
+#![tactic(auto)]
+
 mod numbers;
 
 ghost use Rattle.std.specs.Prelude.{◌≡◌, ◌<◌, map, not};
@@ -16,7 +18,7 @@ use refusal::{Outcome, Refusal};
 
 // A point is fifteen words: fi, yi, hi and Es fs, three each, hs, clat, clck. The words past the km points are no part of the
 // circuit: the reader leaves them zero, the writer does not look at them.
-#[derive(Drop)]
+#[derive(Clone, Copy)]
 pub struct Circuit {
     pub km: usize,
     pub shape: usize,
