@@ -1,4 +1,6 @@
 // e to an f32 by whole numbers, from its bit pattern to a bit pattern with no float operation: a power of two, a table of twelve entries and five terms of the series.
+#![tactic(auto)]
+
 ghost use Rattle.std.specs.Prelude.{◌≡◌, ◌+◌, ◌-◌, ◌*◌, ◌/◌, ◌%◌, ◌^◌, ◌<◌, ◌≤◌, ltb, get_or};
 ghost use Rattle.fixed.specs.Fixed.{pick};
 ghost use Rattle.exponential.specs.Tables.{ln2, sixteenths};

@@ -10,15 +10,8 @@ use Rattle.fixed.specs.Fixed.{pick}
 use Rattle.exponential.specs.Exp.{rounded_to24, lowered}
 use Rattle.exponential.proofs.ExpCases.{lowered-normal, lowered-subnormal}
 use Rattle.exponential.proofs.ExpRange.{cut-le}
-use borrow.Author.Rules.{rules}
-use Rattle.exponential.proofs.packed.Statement.{statement}
-use Rattle.exponential.proofs.packed.Tie as tie
-
-deep : (s e : ℕ) → s < 2 → e ≤ 127 + s * 23 → 1125 < e + s * 1000 → 125 < e
-deep s e b h k = omega arith
-
-few : (c : tie.Then1) → c.before.args.h / 2 ^ (c.before.args.e - 87) ≤ 2 ^ 25
-few c = cut-le c.before.args.h c.before.args.e (omega arith) (deep c.before.args.s c.before.args.e c.before.requires.0 c.before.requires.1 c.if1.true)
+use Rattle.exponential.proofs.packed.Goals.{Then-e-s-gt1125}
+use Rattle.exponential.proofs.packed.Goals as goal
 
 -- the field is at most 253
 module _ (s e f : ℕ) (is : f ≡ pick (ltb s 1) (126 + e) (125 - e)) where
@@ -40,27 +33,26 @@ module _ (s e f : ℕ) (is : f ≡ pick (ltb s 1) (126 + e) (125 - e)) where
       (λ l. ap (λ (x : ℕ). x * 2 ^ 23 + rounded_to24 h) (is ∙ ap (λ (t : Bool). pick t (126 + e) (125 - e)) (lt-ltb _ _ l)) ∙ sym (ap (λ (t : Bool). pick t ((126 + e) * 2 ^ 23 + rounded_to24 h) (lowered e h)) (lt-ltb _ _ l)))
       (λ l. ap (λ (x : ℕ). x * 2 ^ 23 + rounded_to24 h) (is ∙ ap (λ (t : Bool). pick t (126 + e) (125 - e)) (le-ltb _ _ l)) ∙ sym (lowered-normal e h (omega arith)) ∙ sym (ap (λ (t : Bool). pick t ((126 + e) * 2 ^ 23 + rounded_to24 h) (lowered e h)) (le-ltb _ _ l)))
 
-add-result : tie.Need-overflow-add-result
-add-result c = omega (arith, few c)
+deep : (s e : ℕ) → s < 2 → e ≤ 127 + s * 23 → 1125 < e + s * 1000 → 125 < e
+deep s e b h k = omega arith
 
-cast-result : tie.Need-overflow-cast-result
-cast-result c = omega (arith, few c)
+few : (c : Then-e-s-gt1125) → c.args.h / 2 ^ (c.args.e - 87) ≤ 2 ^ 25
+few c = cut-le c.args.h c.args.e (omega arith) (deep c.args.s c.args.e c.requires.0 c.requires.1 c.if-e-s-gt1125.true)
 
-returns : tie.Need-returns
-returns c = let s = c.before.args.s in let e = c.before.args.e in let h = c.before.args.h in sym (ap (λ (t : Bool). pick t ((126 + e) * 2 ^ 23 + rounded_to24 h) (lowered e h)) (le-ltb s 1 (omega arith)) ∙ lowered-subnormal e h (deep s e c.before.requires.0 c.before.requires.1 c.if1.true))
+pub overflow_add-result : goal.overflow_add-result
+overflow_add-result c = omega (arith, few (goal.at.overflow_add-result c).Then-e-s-gt1125)
 
-mul-result : tie.Need-overflow-mul-result
-mul-result c = let s = c.before.before in omega (arith, small s.args.s s.args.e c.field.result c.field.ensures s.requires.1)
+pub overflow_cast-result : goal.overflow_cast-result
+overflow_cast-result c = omega (arith, few (goal.at.overflow_cast-result c).Then-e-s-gt1125)
 
-add-result-3 : tie.Need-overflow-add-result-3
-add-result-3 c = let s = c.before.before in omega (arith, small s.args.s s.args.e c.field.result c.field.ensures s.requires.1)
+pub returns-then-e-s-gt1125 : goal.returns-then-e-s-gt1125
+returns-then-e-s-gt1125 c = let s = c.args.s in let e = c.args.e in let h = c.args.h in sym (ap (λ (t : Bool). pick t ((126 + e) * 2 ^ 23 + rounded_to24 h) (lowered e h)) (le-ltb s 1 (omega arith)) ∙ lowered-subnormal e h (deep s e c.requires.0 c.requires.1 c.if-e-s-gt1125.true))
 
-returns-2 : tie.Need-returns-2
-returns-2 c = let s = c.before.before in normal s.args.s s.args.e c.field.result c.field.ensures s.args.h c.before.if1.false
+pub overflow_mul-result : goal.overflow_mul-result
+overflow_mul-result c = let s = c in omega (arith, small s.args.s s.args.e c.field.result c.field.ensures s.requires.1)
 
-pub packed-spec : {M : Type 1} → statement M
-packed-spec =
-    tie.close
-    (tie.spec (λ c. search rules) (λ c. search rules) (λ c. search rules) (λ c. search rules) add-result cast-result
-    returns (λ c. search rules) (λ c κs. search rules) mul-result (λ c. search rules) (λ c. search rules)
-    add-result-3 returns-2)
+pub overflow_add-result-3 : goal.overflow_add-result-3
+overflow_add-result-3 c = let s = c in omega (arith, small s.args.s s.args.e c.field.result c.field.ensures s.requires.1)
+
+pub returns : goal.returns
+returns c = let s = c in normal s.args.s s.args.e c.field.result c.field.ensures s.args.h c.if-e-s-gt1125.false

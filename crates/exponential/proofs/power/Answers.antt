@@ -5,9 +5,7 @@ use native.Mathlib.Omega.{arith}
 use Rattle.exponential.specs.Tables.{ln2}
 use Rattle.exponential.specs.Exp.{rise_of, factor, left, power_of}
 use Rattle.exponential.proofs.ExpRange.{entry-le, rise-le, product_le}
-use borrow.Author.Rules.{rules}
-use Rattle.exponential.proofs.power.Statement.{statement}
-use Rattle.exponential.proofs.power.Tie as tie
+use Rattle.exponential.proofs.power.Goals as goal
 
 -- with the entry F and the rise p that the two calls give
 module _ (R f p : ℕ) (h : R ≤ ln2) (e : f ≡ factor R) (r : p ≡ rise_of (left R)) where
@@ -24,14 +22,11 @@ module _ (R f p : ℕ) (h : R ≤ ln2) (e : f ≡ factor R) (r : p ≡ rise_of (
   unfolding power_of
   is = ap₂ (λ (x y : ℕ). x + x / 2 ^ 32 * y / 2 ^ 4) e r
 
-mul-result : tie.Need-overflow-mul-result
-mul-result c = let s = c.before.before in let b = bound s.args.r c.before.sixteenth.result c.rise.result s.requires c.before.sixteenth.ensures c.rise.ensures in omega arith
+pub overflow_mul-result : goal.overflow_mul-result
+overflow_mul-result c = let s = c in let b = bound s.args.r c.sixteenth-f.result c.rise-p.result s.requires c.sixteenth-f.ensures c.rise-p.ensures in omega arith
 
-add-result : tie.Need-overflow-add-result
-add-result c = let s = c.before.before in let b = bound s.args.r c.before.sixteenth.result c.rise.result s.requires c.before.sixteenth.ensures c.rise.ensures in let d = below s.args.r c.before.sixteenth.result c.rise.result s.requires c.before.sixteenth.ensures c.rise.ensures in omega arith
+pub overflow_add-result : goal.overflow_add-result
+overflow_add-result c = let s = c in let b = bound s.args.r c.sixteenth-f.result c.rise-p.result s.requires c.sixteenth-f.ensures c.rise-p.ensures in let d = below s.args.r c.sixteenth-f.result c.rise-p.result s.requires c.sixteenth-f.ensures c.rise-p.ensures in omega arith
 
-returns : tie.Need-returns
-returns c = let s = c.before.before in is s.args.r c.before.sixteenth.result c.rise.result s.requires c.before.sixteenth.ensures c.rise.ensures
-
-pub power-spec : {M : Type 1} → statement M
-power-spec = tie.close (tie.spec (λ c κs. search rules) (λ c κs. search rules) mul-result add-result returns)
+pub returns : goal.returns
+returns c = let s = c in is s.args.r c.sixteenth-f.result c.rise-p.result s.requires c.sixteenth-f.ensures c.rise-p.ensures

@@ -7,9 +7,7 @@ use lib.Dec.{ltb}
 use Rattle.fixed.specs.Fixed.{pick}
 use Rattle.exponential.specs.Tables.{ln2}
 use Rattle.exponential.specs.Exp.{power_of, rounded_to24, lowered, grown, shrunk}
-use borrow.Author.Rules.{rules}
-use Rattle.exponential.proofs.signed.Statement.{statement}
-use Rattle.exponential.proofs.signed.Tie as tie
+use Rattle.exponential.proofs.signed.Goals as goal
 
 picked : (t : Bool) (x y b : ℕ) → x ≤ b → y ≤ b → pick t x y ≤ b
 picked true x y b h k = h
@@ -20,11 +18,8 @@ unfolding grown shrunk
 joined true r x y e p q f = ap₂ (λ (z u : ℕ). (126 + z) * 2 ^ 23 + rounded_to24 u) f (sym p ∙ ap power_of q)
 joined false r x y e p q f = ap₂ (λ (z u : ℕ). lowered z u) f (sym p ∙ ap power_of q)
 
-power-requires : tie.Need-power-requires
-power-requires c κs = let x = c.before.args.x in subst (λ (r : ℕ). r ≤ ln2) (sym c.folded.ensures) (picked (ltb c.before.args.s 1) (x % ln2) (ln2 - x % ln2) ln2 (omega arith) (omega arith))
+pub power-requires : goal.power-requires
+power-requires c = let x = c.args.x in subst (λ (r : ℕ). r ≤ ln2) (sym c.folded.ensures) (picked (ltb c.args.s 1) (x % ln2) (ln2 - x % ln2) ln2 (omega arith) (omega arith))
 
-returns : tie.Need-returns
-returns c = let s = c.before.before.before in c.packed.ensures ∙ joined (ltb s.args.s 1) c.before.before.folded.result s.args.x c.before.power.result (s.args.x / ln2) (sym c.before.power.ensures) c.before.before.folded.ensures refl
-
-pub signed-spec : {M : Type 1} → statement M
-signed-spec = tie.close (tie.spec (λ c κs. search rules) power-requires (λ c κs. search rules) returns)
+pub returns : goal.returns
+returns c = let s = c in c.packed.ensures ∙ joined (ltb s.args.s 1) c.folded.result s.args.x c.power.result (s.args.x / ln2) (sym c.power.ensures) c.folded.ensures refl

@@ -1,0 +1,12 @@
+-- The definition's test is the code's.
+use mathlib.Core.Path.{sym, ap}
+use mathlib.Core.Bool.{Bool}
+use borrow.Author.Tests.{lt-ltb, le-ltb}
+use Rattle.fixed.specs.Fixed.{pick}
+use Rattle.exponential.proofs.limit.Goals as goal
+
+pub returns-then-s-lt1 : goal.returns-then-s-lt1
+returns-then-s-lt1 c = sym (ap (λ (t : Bool). pick t (0x42b1_7218) (0x42d0_0000)) (lt-ltb _ _ c.if-s-lt1.true))
+
+pub returns : goal.returns
+returns c = sym (ap (λ (t : Bool). pick t (0x42b1_7218) (0x42d0_0000)) (le-ltb _ _ c.if-s-lt1.false))
