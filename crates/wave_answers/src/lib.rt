@@ -1,4 +1,6 @@
 // Sine and cosine with a refusal: 13 outside -4 to 4.
+#![tactic(auto)]
+
 ghost use Rattle.std.specs.Prelude.{◌≡◌};
 ghost use Rattle.wave_answers.specs.Answers.{sin_answer, cos_answer, answer_number, answer_value};
 
