@@ -5,7 +5,7 @@ use native.Mathlib.Nat.{mod-lt, zero-lt-suc, mul_assoc}
 use native.Mathlib.Omega.{arith}
 use lib.Pow.{pow-add}
 use lib.Ieee.{binary32, of_bits}
-use Rattle.scalar.specs.Root.{root, root_of_units, sqrt_of}
+use Rattle.scalar.specs.Root.{root, sqrt_of}
 use Rattle.scalar.specs.RootPattern.{radicand, root_digits, root_pattern}
 use Rattle.scalar.proofs.RoundedRoot.{rounded}
 use Rattle.scalar.proofs.RootPattern.{root-pattern}

@@ -1,6 +1,8 @@
 // Forty square roots at a time. Each is guessed with floats and tested by whole numbers, in loops with
 // no branch and no call, so that the compiler makes vector instructions of them. Where one of the
 // forty guesses is not proved right by its test, all are worked out one by one.
+#![tactic(auto)]
+
 ghost use Rattle.std.specs.Prelude.{◌≡◌, ◌%◌, ◌^◌, ◌≤◌, ◌<◌, get_or};
 ghost use Rattle.std.specs.Float.{binary32};
 ghost use Rattle.std.specs.Float.Ieee.{of_bits, to_bits};

@@ -2,12 +2,10 @@
 use Prim.Native.Nat.{ℕ, ◌+◌, ◌-◌, ◌*◌, ◌/◌, ◌%◌, ◌^◌, ◌≤◌, ◌<◌}
 use native.Mathlib.Nat.{lt_of_le_of_lt, mul-le-mul}
 use native.Mathlib.Omega.{arith}
-use borrow.Author.Rules.{rules}
 use lib.Dec.{lit<}
 use Rattle.roots.specs.Guess.{rooted}
 use Rattle.roots.proofs.Digits.{test-small, test-right}
-use Rattle.roots.proofs.right.Statement.{statement}
-use Rattle.roots.proofs.right.Tie as tie
+use Rattle.roots.proofs.right.Goals as goal
 
 rooted-lt : (b : ℕ) → rooted b < 2 ^ 49
 rooted-lt b = lt_of_le_of_lt (mul-le-mul (digits b) (scale b)) (lit< tt)
@@ -30,33 +28,27 @@ square-lt g = go (g % 2 ^ 25) (digits_lt g)
     go : (r : ℕ) → r < 2 ^ 25 → r * r < 2 ^ 50
     go r l = lt_of_le_of_lt (mul-le-mul (most r l) (most r l)) (lit< tt)
 
-mul-n : tie.Need-overflow-mul-n
-mul-n c = omega (arith, rooted-lt c.args.b)
+pub overflow_mul-n : goal.overflow_mul-n
+overflow_mul-n c = omega (arith, rooted-lt c.args.b)
 
-mul-w : tie.Need-overflow-mul-w
-mul-w c = omega (arith, square-lt c.args.g)
+pub overflow_mul-w : goal.overflow_mul-w
+overflow_mul-w c = omega (arith, square-lt c.args.g)
 
-add-w : tie.Need-overflow-add-w
-add-w c = omega (arith, square-lt c.args.g)
+pub overflow_add-w : goal.overflow_add-w
+overflow_add-w c = omega (arith, square-lt c.args.g)
 
-sub-w : tie.Need-overflow-sub-w
-sub-w c = omega (arith, rooted-lt c.args.b)
+pub overflow_sub-w : goal.overflow_sub-w
+overflow_sub-w c = omega (arith, rooted-lt c.args.b)
 
-add-result : tie.Need-overflow-add-result
-add-result c = omega (arith, square-lt c.args.g, digits_lt c.args.g)
+pub overflow_add-result : goal.overflow_add-result
+overflow_add-result c = omega (arith, square-lt c.args.g, digits_lt c.args.g)
 
-sub-result : tie.Need-overflow-sub-result
-sub-result c = omega (arith, rooted-lt c.args.b, digits_lt c.args.g)
+pub overflow_sub-result : goal.overflow_sub-result
+overflow_sub-result c = omega (arith, rooted-lt c.args.b, digits_lt c.args.g)
 
-returns : tie.Need-returns
+pub returns : goal.returns
 returns c =
     let b = c.args.b in
     let g = c.args.g in
     let r = g % 2 ^ 25 in
     (test-small (r * r) (rooted b) r (square-lt g) (rooted-lt b) (digits_lt g), test-right (r * r) (rooted b) r (square-lt g) (rooted-lt b) (digits_lt g))
-
-pub right-spec : {M : Type 1} → statement M
-right-spec =
-    tie.close
-    (tie.spec (λ c. search rules) (λ c. search rules) (λ c. search rules) (λ c. search rules) (λ c. search rules)
-    (λ c. search rules) mul-n (λ c. search rules) mul-w add-w sub-w add-result sub-result (λ c. search rules) returns)
