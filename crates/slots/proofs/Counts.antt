@@ -1,6 +1,6 @@
 -- Points make at most three slots.
 use mathlib.Core.Bool.{Bool, true, false}
-use Prim.Native.Nat.{ℕ, ◌≤◌}
+use Prim.Native.Nat.{◌≤◌}
 use lib.Dec.{leb, lit≤}
 use Rattle.slots.specs.Ionset.{layer_from, two_slots, three_slots, assigned_by, assigned_of}
 use Rattle.layers.specs.declared.IonoState.{IonoState}

@@ -1,4 +1,6 @@
 // The state that the points' layers make, `from_layers`, and its points assigned to slots, `ionset`.
+#![tactic(auto)]
+
 ghost use Rattle.std.specs.Prelude.{◌≡◌, ◌<◌, ◌≤◌};
 ghost use Rattle.slots.specs.FromLayers.{point_set, points_set, empty_of, from_layers_of};
 ghost use Rattle.slots.specs.Ionset.{layer_from, two_slots, three_slots, assigned_of, f1_settled, f2_settled, slot_settled, slots_settled, ionset_of};
