@@ -1,14 +1,13 @@
 -- The first word and the first line of a text are its first bytes, and the others are those of the rest.
 use mathlib.Core.Path.{◌≡◌, refl, sym, ap, ◌∙◌}
-use mathlib.Core.Bool.{Bool, true, false, not, cond}
+use mathlib.Core.Bool.{Bool, true, false, cond}
 use mathlib.Core.List.{List, [], ◌∷◌}
-use Prim.Native.Nat.{ℕ, zero, suc, ◌+◌, ◌≤◌, ◌<◌}
-use native.Mathlib.Omega.{arith}
+use Prim.Native.Nat.{ℕ, suc}
 use lib.Dec.{eqb}
-use lib.ListN.{length, take, drop}
+use lib.ListN.{take, drop}
 use Rattle.lines.specs.Text.{line_feed}
 use Rattle.first_difference.specs.Lines.{in_front, lines_of}
-use Rattle.words.specs.Words.{blank, run, in_word, other, word_ends, words_of}
+use Rattle.words.specs.Words.{blank, run, in_word, word_ends, words_of}
 
 -- blanks in front are no word
 pub blanks-first : (t : List ℕ) → words_of (drop (run blank t) t) ≡ words_of t

@@ -1,5 +1,5 @@
 -- A line as words, which blanks set apart, and a text up to a byte and after it.
-use Rattle.std.specs.Prelude.{ℕ, zero, suc, Bool, true, false, not, ◌||◌, cond, List, [], ◌∷◌, eqb, take, drop}
+use Rattle.std.specs.Prelude.{ℕ, suc, Bool, true, not, ◌||◌, cond, List, [], ◌∷◌, eqb, take, drop}
 use Rattle.first_difference.specs.Lines.{in_front}
 
 -- space, tab, carriage return, line feed

@@ -1,4 +1,6 @@
 // Where a line ends in a text, and a word in a line.
+#![tactic(auto)]
+
 ghost use Rattle.std.specs.Prelude.{◌≡◌, ◌+◌, ◌≤◌, ◌<◌, length, drop};
 ghost use Rattle.first_difference.specs.Difference.{same_bytes};
 ghost use Rattle.words.specs.Words.{blank, run, in_word, other};
