@@ -1,4 +1,6 @@
 // One record of a circuit file, put into its part of the file.
+#![tactic(auto)]
+
 ghost use Rattle.std.specs.Prelude.{◌≡◌, ◌+◌, ◌*◌, ◌≤◌, length, replicate, ◌++◌};
 ghost use Rattle.records.specs.Record.{Fit};
 ghost use Rattle.record_put.specs.Bytes.{half_of, word_bytes, bytes_of, record_of, head_of};

@@ -1,0 +1,10 @@
+-- Kind, next index, words and zeros, each into its part.
+use Rattle.record_put.proofs.Cells.{put_all, one, two, three}
+use Rattle.record_put.proofs.record.Goals as goal
+
+pub returns : goal.returns
+unfolding one two three
+returns c =
+    let a = c in
+    rw (c.zeros.ensures, c.words.ensures, c.half-2.ensures, c.half.ensures)
+    (put_all a.args.out.now a.args.ws.now a.args.kind a.args.next a.requires)

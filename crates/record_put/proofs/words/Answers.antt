@@ -1,0 +1,44 @@
+use Prim.Native.Nat.{◌+◌, ◌*◌}
+use mathlib.Core.Path.{refl, ap, ◌∙◌}
+use native.Mathlib.Omega.{arith}
+use lib.ListN.{length, take}
+use lib.Seq.{take_all}
+use Rattle.records.proofs.Lists.{length_part, filled-up}
+use Rattle.record_put.specs.Bytes.{bytes_of}
+use Rattle.record_put.proofs.Cells.{words_more, length-filled, bytes-took}
+use Rattle.record_put.proofs.words.Goals as goal
+
+pub loop-i-init : goal.loop-i-init
+unfolding bytes_of
+loop-i-init c = (omega arith, refl, refl)
+
+pub word-requires : goal.word-requires
+word-requires c =
+    let l = c.loop-i in
+    length_part (4 * l.i) 4 l.out (omega arith)
+
+pub loop-i-preserved : goal.loop-i-preserved
+loop-i-preserved c =
+    let a = c.args in
+    let l = c.loop-i in
+    let e =
+    words_more a.ws.now l.out a.out.now c.word.new.out l.i (omega arith) l.invariant.2
+    c.word.ensures
+    in (
+      omega arith,
+      ap length e
+          ∙ length-filled (bytes_of (take (l.i + 1) a.ws.now)) a.out.now (4 * (l.i + 1))
+          (bytes-took a.ws.now (l.i + 1) (omega arith)) (omega arith),
+      e,
+    )
+
+pub shape_of-out : goal.shape_of-out
+shape_of-out c = c.loop-i.invariant.1
+
+pub returns : goal.returns
+returns c =
+    let a = c.args in
+    let l = c.loop-i in
+    l.invariant.2
+    ∙ filled-up _ a.out.now (4 * l.i) (omega arith)
+    ∙ ap bytes_of (take_all l.i a.ws.now (omega arith))
