@@ -1,23 +1,22 @@
 -- Where x - h0 is above zero, h0 + (x - h0) is above h0 or NaN. Of finite ones: a step n leads from h0 to a value that is not past x, and n itself is a value. The difference is rounded from at least n, so it is at least n; the sum is rounded
 -- from at least h0 + n, so it is at least that. An infinite difference gives +infinity, or NaN where h0 is -infinity.
-use mathlib.Core.Path.{◌≡◌, refl, sym, ap, ◌∙◌, subst}
-use mathlib.Core.Logic.{◌⊎◌, inl, inr}
-use Prim.Native.Nat.{ℕ, zero, suc, ◌+◌, ◌-◌, ◌*◌, ◌^◌, ◌≤◌, ◌<◌}
+use mathlib.Core.Path.{◌≡◌, sym, ap, ◌∙◌, subst}
+use Prim.Native.Nat.{ℕ, zero, suc, ◌+◌, ◌-◌, ◌^◌, ◌≤◌, ◌<◌}
 use native.Mathlib.Nat.{le_trans, le_of_eq, lt_of_lt_of_le, mul-le-mul_right}
 use lib.Pow.{pow_pos}
 use native.Mathlib.Omega.{arith}
 use mathlib.Core.Bool.{Bool, true, false, ◌||◌}
 use lib.IntN.{ℤ}
 use lib.Dec.{T}
-use lib.Ieee.{Float, nan, inf, fin, Format, binary32, low, up, down, lt, fits, is_nan, add, sub, neg, of_bits}
+use lib.Ieee.{Float, nan, inf, fin, Format, binary32, low, lt, fits, is_nan, add, sub, neg}
 use lib.Ieee.Fits.{add-fits, sub-fits}
 use lib.Ieee.Scale.{overflow, finite}
-use Rattle.order.specs.Units.{real, key_of, sgn, mag, key, rounded, total, nought}
-use Rattle.order.proofs.Keys.{mag-le, or_r, overflow-pos}
+use Rattle.order.specs.Units.{key_of, mag, key, rounded, total, nought}
+use Rattle.order.proofs.Keys.{mag-le, or_r}
 use Rattle.order.proofs.Sums.{total-up, total-down, total_mono, rounded-mono, add-key, add-real, sub-key, finite-real, R-zero}
 use Rattle.order.proofs.Tests.{nought-is, lt→keys, keys→lt, sub-gt, key-le}
 use Rattle.height_integral.specs.Lowest.{AboveLowest}
-use Rattle.height_integral.proofs.Steps.{Value, value_of, rounded-value, Up, step-up, Down, step_down}
+use Rattle.height_integral.proofs.Steps.{Value, value_of, rounded-value, step-up, step_down}
 
 -- ---- in keys: a step n from the key of h0 that is not past the key of x
 abbrev Step : Format → ℕ → ℕ → Type 0

@@ -3,13 +3,13 @@
 use mathlib.Core.Path.{◌≡◌, refl, sym, ap, ◌∙◌, subst}
 use mathlib.Core.Logic.{◌⊎◌, inl, inr}
 use Prim.Native.Nat.{ℕ, zero, suc, ◌+◌, ◌-◌, ◌*◌, ◌^◌, ◌≤◌, ◌<◌}
-use native.Mathlib.Nat.{le_trans, le_of_eq, le_of_lt, lt_of_lt_of_le, lt_of_le_of_lt, eq-or-lt_of_le, mul_comm, mul_assoc, add-mul, one-mul, mul-pos, mul-sub, mul-le-mul_right, lt_of_mul-lt-mul_right}
+use native.Mathlib.Nat.{le_trans, le_of_eq, le_of_lt, lt_of_lt_of_le, lt_of_le_of_lt, eq-or-lt_of_le, mul_comm, mul_assoc, one-mul, mul-sub, mul-le-mul_right, lt_of_mul-lt-mul_right}
 use native.Mathlib.Omega.{arith}
 use mathlib.Core.Bool.{Bool, true, false, not}
 use lib.IntN.{ℤ}
 use lib.Dec.{T, leb, leb→le, nleb→lt, lit<}
 use lib.Pow.{pow-add, pow_pos}
-use lib.Ieee.{fin, Format, binary32, binary64, prec, low, up, down, fits, round}
+use lib.Ieee.{fin, Format, binary32, binary64, prec, low, fits, round}
 use lib.Ieee.Scale.{overflow}
 use lib.Ieee.Exact.{round_exact}
 use Rattle.rounding.proofs.Units.{on-grid}

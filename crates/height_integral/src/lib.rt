@@ -1,5 +1,7 @@
 // The virtual height of a vertical frequency, the integral evaluated rather than approximated: on a
 // segment the density is linear in height, so that each has a closed form.
+#![tactic(auto)]
+
 ghost use Rattle.std.specs.Prelude.{◌≡◌, false, ◌≤◌, T};
 ghost use Rattle.scalar.specs.F32.{◌+f◌, ◌-f◌, ◌>f◌, ◌≥f◌, at};
 ghost use Rattle.scalar.specs.Literals.{f0};
