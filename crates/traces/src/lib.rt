@@ -1,4 +1,6 @@
 // Two traces held against one another: every kHz of either, rising, with the difference of the heights where both have it.
+#![tactic(auto)]
+
 ghost use Rattle.std.specs.Prelude.{◌≡◌, ◌+◌, ◌≤◌, length};
 ghost use Rattle.trace_lines.specs.Trace.{rises as rises_of, fit as fitOf, Rows};
 ghost use Rattle.trace_lines.specs.Lines.{trace_lines};

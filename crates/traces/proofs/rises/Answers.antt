@@ -1,5 +1,4 @@
--- What is left of the test at step i is the whole test: all steps before it rise.
-use Prim.Native.Nat.{ℕ, zero, suc, ◌+◌, ◌-◌, ◌≤◌, ◌<◌}
+use Prim.Native.Nat.{ℕ, zero, suc, ◌+◌, ◌≤◌, ◌<◌}
 use mathlib.Core.Path.{◌≡◌, refl, ◌∙◌, sym}
 use mathlib.Core.Bool.{true, false, ◌&&◌}
 use mathlib.Core.List.{List, [], ◌∷◌}
@@ -9,8 +8,7 @@ use lib.Dec.{ltb}
 use lib.ListN.{length, get_or, drop}
 use borrow.Author.Tests.{lt-ltb, le-ltb}
 use Rattle.trace_lines.specs.Trace.{rises as rises_of}
-use Rattle.traces.proofs.rises.Statement.{statement}
-use Rattle.traces.proofs.rises.Tie as tie
+use Rattle.traces.proofs.rises.Goals as goal
 
 step : (l : List ℕ) (i : ℕ) → suc i < length l
     → rises_of (drop i l) ≡ (ltb (get_or l i 0) (get_or l (suc i) 0) && rises_of (drop (suc i) l))
@@ -38,32 +36,17 @@ less l i h k =
     let m : get_or l (suc i) 0 ≤ get_or l i 0 = rw (add-one i) at k in
     step l i (omega arith) ∙ rw (le-ltb (get_or l i 0) (get_or l (suc i) 0) m)
 
-abbrev invariant-loop : tie.invariant-loop
-invariant-loop khz i₀ i = (i ≤ length khz) × (rises_of (drop i khz) ≡ rises_of khz)
+pub loop-i-init : goal.loop-i-init
+loop-i-init c = (omega arith, refl)
 
-abbrev decreases-loop : tie.decreases-loop
-decreases-loop khz i₀ i = length khz - i
+pub loop-i-preserved : goal.loop-i-preserved
+loop-i-preserved c =
+    (omega arith, sym (more c.args.khz.now c.loop-i.i c.loop-i-test.true c.if-khz-i.true) ∙ c.loop-i.invariant.1)
 
-loop-holds : tie.Need-loop-init invariant-loop decreases-loop
-loop-holds c = (omega arith, refl)
+pub returns-else-khz-i : goal.returns-else-khz-i
+returns-else-khz-i c =
+    sym (less c.args.khz.now c.loop-i.i c.loop-i-test.true c.if-khz-i.false) ∙ c.loop-i.invariant.1
 
-loop-again : tie.Need-loop-preserved invariant-loop decreases-loop
-loop-again c =
-    let p = c.before.before.before.before in
-    (omega arith, sym (more p.before.args.khz.now p.loop.i c.before.before.before.loop-test.true c.if1.true) ∙ p.loop.invariant.1)
-
-returns : tie.Need-returns invariant-loop decreases-loop
+pub returns : goal.returns
 returns c =
-    let p = c.before.before.before.before in
-    sym (less p.before.args.khz.now p.loop.i c.before.before.before.loop-test.true c.if1.false) ∙ p.loop.invariant.1
-
-returns-2 : tie.Need-returns-2 invariant-loop decreases-loop
-returns-2 c =
-    let p = c.before in
-    sym (end p.before.args.khz.now p.loop.i (omega arith)) ∙ p.loop.invariant.1
-
-pub rises-spec : {M : Type 1} → statement M
-rises-spec =
-    tie.close
-    (tie.spec invariant-loop decreases-loop loop-holds (λ c. omega arith) (λ c. omega arith) (λ c. omega arith) (λ c. omega arith)
-    (λ c. omega arith) (λ c. omega arith) (λ c. omega arith) (λ c. omega arith) loop-again returns returns-2)
+    sym (end c.args.khz.now c.loop-i.i (omega arith)) ∙ c.loop-i.invariant.1
