@@ -1,5 +1,7 @@
 // The natural logarithm of an f32 by whole numbers: the significand is c * (1 + s) / (1 - s) for the nearest eighth c,
 // whose logarithm stands in a table, and ln ((1 + s) / (1 - s)) is 2 (s + s^3 / 3 + s^5 / 5 + ..).
+#![tactic(auto)]
+
 ghost use Rattle.std.specs.Prelude.{◌≡◌, ◌+◌, ◌-◌, ◌*◌, ◌/◌, ◌%◌, ◌^◌, ◌<◌, ◌≤◌, leb, get_or};
 ghost use Rattle.fixed.specs.Fixed.{pick};
 ghost use Rattle.logarithm.specs.Tables.{eighths};

@@ -13,9 +13,7 @@ use Rattle.exponential.specs.Tables.{ln2}
 use Rattle.logarithm.specs.Tables.{eighths}
 use Rattle.logarithm.specs.Ln.{index, centre, twice_of, rest_of}
 use Rattle.logarithm.proofs.LnRange.{up-near, down-near, sum-ge, rest_up, rest-down, rest_le, taken}
-use borrow.Author.Rules.{rules}
-use Rattle.logarithm.proofs.rest.Statement.{statement}
-use Rattle.logarithm.proofs.rest.Tie as tie
+use Rattle.logarithm.proofs.rest.Goals as goal
 
 picked : (t : Bool) (x y b : ℕ) → x ≤ b → y ≤ b → pick t x y ≤ b
 picked true x y b h k = h
@@ -45,23 +43,17 @@ module _ (m y n a : ℕ) (low : 2 ^ 23 ≤ m) (high : m < 2 ^ 24) (y-is : y ≡ 
   less : m < centre m → a ≤ y
   less h = subst₂ (λ (x z : ℕ). x ≤ z) (sym (a-down h)) (sym y-is) (taken m low high h)
 
-twice-requires : tie.Need-twice-requires
-twice-requires c κs = let s = c.before.before in (near s.args.m c.before.eighth.result c.distance.result (twice_of c.distance.result (s.args.m + centre s.args.m)) s.requires.0 s.requires.1 c.before.eighth.ensures c.distance.ensures refl, sum-ge s.args.m s.requires.0 s.requires.1)
+pub twice-a-requires : goal.twice-a-requires
+twice-a-requires c = let s = c in (near s.args.m c.eighth-y.result c.distance.result (twice_of c.distance.result (s.args.m + centre s.args.m)) s.requires.0 s.requires.1 c.eighth-y.ensures c.distance.ensures refl, sum-ge s.args.m s.requires.0 s.requires.1)
 
-add-result : tie.Need-overflow-add-result
-add-result c = let s = c.before.before.before.before in fits s.args.m c.before.before.before.eighth.result c.before.before.distance.result c.before.twice.result s.requires.0 s.requires.1 c.before.before.before.eighth.ensures c.before.before.distance.ensures c.before.twice.ensures c.if1.true
+pub overflow_add-result : goal.overflow_add-result
+overflow_add-result c = let s = c in fits s.args.m c.eighth-y.result c.distance.result c.twice-a.result s.requires.0 s.requires.1 c.eighth-y.ensures c.distance.ensures c.twice-a.ensures c.if-c-m.true
 
-returns : tie.Need-returns
-returns c = let s = c.before.before.before.before in upward s.args.m c.before.before.before.eighth.result c.before.before.distance.result c.before.twice.result s.requires.0 s.requires.1 c.before.before.before.eighth.ensures c.before.before.distance.ensures c.before.twice.ensures c.if1.true
+pub returns-then-c-m : goal.returns-then-c-m
+returns-then-c-m c = let s = c in upward s.args.m c.eighth-y.result c.distance.result c.twice-a.result s.requires.0 s.requires.1 c.eighth-y.ensures c.distance.ensures c.twice-a.ensures c.if-c-m.true
 
-sub-result : tie.Need-overflow-sub-result
-sub-result c = let s = c.before.before.before.before in less s.args.m c.before.before.before.eighth.result c.before.before.distance.result c.before.twice.result s.requires.0 s.requires.1 c.before.before.before.eighth.ensures c.before.before.distance.ensures c.before.twice.ensures c.if1.false
+pub overflow_sub-result : goal.overflow_sub-result
+overflow_sub-result c = let s = c in less s.args.m c.eighth-y.result c.distance.result c.twice-a.result s.requires.0 s.requires.1 c.eighth-y.ensures c.distance.ensures c.twice-a.ensures c.if-c-m.false
 
-returns-2 : tie.Need-returns-2
-returns-2 c = let s = c.before.before.before.before in downward s.args.m c.before.before.before.eighth.result c.before.before.distance.result c.before.twice.result s.requires.0 s.requires.1 c.before.before.before.eighth.ensures c.before.before.distance.ensures c.before.twice.ensures c.if1.false
-
-pub rest-spec : {M : Type 1} → statement M
-rest-spec =
-    tie.close
-    (tie.spec (λ c. search rules) (λ c. search rules) (λ c. search rules) (λ c κs. search rules)
-    (λ c κs. search rules) (λ c. search rules) twice-requires add-result returns sub-result returns-2)
+pub returns : goal.returns
+returns c = let s = c in downward s.args.m c.eighth-y.result c.distance.result c.twice-a.result s.requires.0 s.requires.1 c.eighth-y.ensures c.distance.ensures c.twice-a.ensures c.if-c-m.false
