@@ -1,11 +1,13 @@
 // The densities of a slot's five shapes at its heights.
+#![tactic(auto)]
+
 ghost use Rattle.std.specs.Prelude.{◌≡◌, map};
 ghost use Rattle.shape_densities.specs.Density.{fnd_of, density_of};
 
 pub mod density;
 
 // All that the five shapes use.
-#[derive(Drop)]
+#[derive(Clone, Copy)]
 pub struct Curves {
     pub hlow: f32,
     pub hup: f32,
@@ -33,7 +35,7 @@ pub struct Curves {
 }
 
 // The density of each shape at one height.
-#[derive(Drop)]
+#[derive(Clone, Copy)]
 pub struct Candidates {
     pub fnd: f32,
     pub fne: f32,

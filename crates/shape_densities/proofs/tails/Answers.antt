@@ -1,0 +1,31 @@
+use mathlib.Core.Path.{◌≡◌, refl, ap, ◌∙◌}
+use Prim.Native.Nat.{◌<◌}
+use native.Mathlib.Numerals.{add-one}
+use native.Mathlib.Omega.{arith}
+use borrow.Author.Rules.{rules}
+use lib.Ieee.{nan}
+use lib.ListN.{length}
+use Rattle.shape_densities.specs.Density.{fnd_of}
+use Rattle.cases.proofs.Tabulate.{mapped, mapped-more, mapped-all}
+use Rattle.shape_densities.proofs.tails.Goals as goal
+
+pub loop-ih-init : goal.loop-ih-init
+loop-ih-init c = (omega arith, refl)
+
+pub loop-ih-preserved : goal.loop-ih-preserved
+loop-ih-preserved c =
+    let a = c.args in
+    let i = c.loop-ih.ih in
+    let h : i < length a.htr = search rules in (
+      omega arith,
+      rw (c.tail_density-d.ensures, c.loop-ih.invariant.1, add-one i)
+          (mapped-more (fnd_of a.c) nan a.htr a.htr i h),
+    )
+
+pub returns : goal.returns
+returns c =
+    let a = c.args in
+    let f = fnd_of a.c in
+    let n : length a.htr ≡ 50 = search rules in
+    let e : c.loop-ih.ih ≡ length a.htr = omega arith in
+    c.loop-ih.invariant.1 ∙ ap (mapped f nan a.htr a.htr) e ∙ mapped-all f nan a.htr a.htr refl
