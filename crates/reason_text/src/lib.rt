@@ -1,4 +1,6 @@
 // Why a circuit file was turned away, in words.
+#![tactic(auto)]
+
 ghost use Rattle.lines.specs.Text.{Clipped};
 ghost use Rattle.reason_text.specs.ReasonText.{file_reason, hour_reason, reason_of};
 
