@@ -1,5 +1,5 @@
 -- The file that holds a circuit, and what the writer answers and leaves (the paper, "Circuit file").
-use Rattle.std.specs.Prelude.{ℕ, zero, suc, ◌+◌, ◌*◌, ◌-◌, List, [], ◌++◌, Bool, true, false, ◌&&◌, length, take, drop, replicate, eqb, leb}
+use Rattle.std.specs.Prelude.{ℕ, zero, suc, ◌+◌, ◌*◌, ◌-◌, List, [], ◌++◌, Bool, true, false, ◌&&◌, length, take, drop, eqb, leb}
 use Rattle.refusal.specs.declared.Refusal.{Refusal}
 use Rattle.refusal.specs.Number.{number_of}
 use Rattle.circuit.specs.declared.Circuit.{Circuit}

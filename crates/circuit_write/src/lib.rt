@@ -1,4 +1,6 @@
 // The writer of a circuit file.
+#![tactic(auto)]
+
 ghost use Rattle.std.specs.Prelude.{◌≡◌, ◌+◌, ◌*◌, ◌≤◌, ◌<◌, length, drop, [], ◌++◌};
 ghost use Rattle.records.specs.Record.{form64, Fit};
 ghost use Rattle.circuit_write.specs.Written.{records_of, next_in, entry_of, file_of, write_answer_of, left_of, write_number};
