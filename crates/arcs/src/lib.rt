@@ -1,5 +1,7 @@
 // Arc sine and arc tangent of an f32 by whole numbers: from the bit pattern of x to that of the answer, with no float operation between.
 // specs/ says what each gives for every f32; crate `exact_arcs` proves that this is less than one unit in the last place from the exact value.
+#![tactic(auto)]
+
 ghost use Rattle.std.specs.Prelude.{◌≡◌};
 ghost use Rattle.arcs.specs.Asin.{asin_of};
 ghost use Rattle.arcs.specs.Atan.{atan_of};

@@ -3,11 +3,9 @@ use mathlib.Core.Path.{◌≡◌, ap, ◌∙◌, subst}
 use Prim.Native.Nat.{ℕ, ◌+◌, ◌-◌, ◌*◌, ◌^◌, ◌<◌, ◌≤◌}
 use native.Mathlib.Nat.{mul-le-mul}
 use native.Mathlib.Omega.{arith}
-use borrow.Author.Rules.{rules}
 use Rattle.scalar.specs.Root.{root}
 use Rattle.arcs.specs.Asin.{cosine_of}
-use Rattle.arcs.proofs.arcsin.near_cosine.Statement.{statement}
-use Rattle.arcs.proofs.arcsin.near_cosine.Tie as tie
+use Rattle.arcs.proofs.arcsin.near_cosine.Goals as goal
 
 above : (m n g : ℕ) → m ≡ 2 ^ 64 - 1 - n * n → n < 2 ^ 32 → g ≤ 2 ^ 32 → 2 ^ 32 ≤ g + n → m < g * (2 ^ 33 - g)
 above m n g e t l h = go (2 ^ 32 - g) (omega arith) (omega arith)
@@ -20,14 +18,11 @@ above m n g e t l h = go (2 ^ 32 - g) (omega arith) (omega arith)
         let d : g + 2 * k ≡ 2 ^ 33 - g = omega arith in
         subst (λ (x : ℕ). m < g * x) d (omega (arith, e, q, f, ap (λ (x : ℕ). x * x) s))
 
-mean-requires : tie.Need-mean-requires
-mean-requires c κs =
-    let s = c.before in
-    (s.requires.1, s.requires.2, above c.rest-of-square.result s.args.n s.args.g c.rest-of-square.ensures.0 s.requires.0 s.requires.2 s.requires.3)
+pub mean-requires : goal.mean-requires
+mean-requires c =
+    let s = c in
+    (s.requires.1, s.requires.2, above c.rest_of_square-m.result s.args.n s.args.g c.rest_of_square-m.ensures.0 s.requires.0 s.requires.2 s.requires.3)
 
-returns : tie.Need-returns
+pub returns : goal.returns
 unfolding cosine_of
-returns c = c.whole-root.ensures ∙ ap root c.before.before.rest-of-square.ensures.0
-
-pub near-cosine-spec : {M : Type 1} → statement M
-near-cosine-spec = tie.close (tie.spec (λ c κs. search rules) mean-requires (λ c κs. search rules) returns)
+returns c = c.whole_root.ensures ∙ ap root c.rest_of_square-m.ensures.0

@@ -6,9 +6,7 @@ use native.Mathlib.Nat.{mod-lt, div-mul-le_self, div-add-mod', mul-add-div_right
 use lib.Dec.{lit<}
 use mir.Syntax.{w64}
 use mir.Val.{Fits}
-use borrow.Author.Rules.{rules}
-use Rattle.arcs.proofs.arctan.quotient.Statement.{statement}
-use Rattle.arcs.proofs.arctan.quotient.Tie as tie
+use Rattle.arcs.proofs.arctan.quotient.Goals as goal
 
 high : (m d : ℕ) → m < 2 ^ 61 → 2 ^ 25 ≤ d → m / d < 2 ^ 36
 high m d h k = go (m / d) (div-mul-le_self m d) (mul-le-mul_left (m / d) k)
@@ -31,26 +29,20 @@ is n d P = sym (ap (λ (x : ℕ). x / d) (go (n * 2 ^ 30 / d) (n * 2 ^ 30 % d) (
     go : (x y : ℕ) → x * d + y ≡ n * 2 ^ 30 → n * 2 ^ 56 ≡ x * 2 ^ 26 * d + y * 2 ^ 26
     go x y e = omega arith
 
-mul-result : tie.Need-overflow-mul-result
-mul-result c =
+pub overflow_mul-result : goal.overflow_mul-result
+overflow_mul-result c =
     let h = high (c.args.n * 2 ^ 30) c.args.d (omega (arith, c.requires.0)) c.requires.1 in
     omega arith
 
-mul-result-2 : tie.Need-overflow-mul-result-2
-mul-result-2 c =
+pub overflow_mul-result-2 : goal.overflow_mul-result-2
+overflow_mul-result-2 c =
     let h = low (c.args.n * 2 ^ 30) c.args.d c.requires.1 in
     omega (arith, c.requires.2)
 
-add-result : tie.Need-overflow-add-result
-add-result c =
+pub overflow_add-result : goal.overflow_add-result
+overflow_add-result c =
     sum (c.args.n * 2 ^ 30 / c.args.d) (c.args.n * 2 ^ 30 % c.args.d) c.args.d c.requires.1 c.requires.2
     (high (c.args.n * 2 ^ 30) c.args.d (omega (arith, c.requires.0)) c.requires.1) (low (c.args.n * 2 ^ 30) c.args.d c.requires.1)
 
-returns : tie.Need-returns
+pub returns : goal.returns
 returns c = is c.args.n c.args.d (lt_of_lt_of_le (lit< tt) c.requires.1)
-
-pub quotient-spec : {M : Type 1} → statement M
-quotient-spec =
-    tie.close
-    (tie.spec (λ c. search rules) (λ c. search rules) mul-result (λ c. search rules) mul-result-2 (λ c. search rules)
-    add-result returns)
