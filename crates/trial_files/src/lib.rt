@@ -1,11 +1,13 @@
 // Circuit files made by hand, for trials. Of what they hold nothing is promised: the trials' stored outputs tell.
+#![tactic(auto)]
+
 ghost use Rattle.std.specs.Prelude.{◌<◌, ◌≤◌};
 
 // Room for 65 records of the new form, one more than a file may have.
 pub const ROOM: usize = 8320;
 
 // Records of 64 bytes, or of 128.
-#[derive(Drop)]
+#[derive(Clone, Copy)]
 pub enum Form {
     Old,
     New,
