@@ -9,7 +9,7 @@ use lib.IntN.{pos, negsuc}
 use lib.Pow.{pow_pos, pow-add}
 use lib.Count.{count_leading_zeros}
 use borrow.Author.Tests.{le-leb, lt-leb}
-use lib.Ieee.{Float, nan, inf, fin, binary32, up, down, size, of_bits, to_bits, fits}
+use lib.Ieee.{Float, nan, inf, fin, binary32, up, down, size, of_bits, to_bits}
 use lib.Ieee.Digits.{size-lt, size-le}
 use lib.Ieee.Fits.{down_pos}
 use lib.Ieee.Bits.{of_bits-to_bits, to_bits-lt}
