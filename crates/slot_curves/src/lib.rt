@@ -1,4 +1,6 @@
 // A slot's shapes drawn from its numbers: the valley, F1 reshaped, the tail, the fifty heights.
+#![tactic(auto)]
+
 mod f1;
 mod grid;
 
@@ -8,7 +10,7 @@ ghost use Rattle.slot_curves.specs.Draw.{tail_of, curves_of, drawn_of};
 use shape_densities::Curves;
 
 // One slot's layers, the Rust's `fi[k][0]` as `fi0`.
-#[derive(Drop)]
+#[derive(Clone, Copy)]
 pub struct Slot {
     pub fi0: f32,
     pub fi1: f32,
@@ -24,7 +26,7 @@ pub struct Slot {
 
 // The valley between E and F2: the density goes in a straight line from flow, at the height hlow,
 // to fup, at hup.
-#[derive(Drop)]
+#[derive(Clone, Copy)]
 pub struct Valley {
     pub hlow: f32,
     pub hte: f32,
@@ -38,7 +40,7 @@ pub struct Valley {
 }
 
 // The F1 layer reshaped: linear or parabolic, and what it leaves in the slot.
-#[derive(Drop)]
+#[derive(Clone, Copy)]
 pub struct F1Shape {
     pub lin: bool,
     pub fc1: f32,
@@ -50,7 +52,7 @@ pub struct F1Shape {
 }
 
 // The exponential tail under E, from the height hex down.
-#[derive(Drop)]
+#[derive(Clone, Copy)]
 pub struct Tail {
     pub hex: f32,
     pub alp: f32,
@@ -59,7 +61,7 @@ pub struct Tail {
 
 // A slot's shapes, ready to be read at its heights: the slot reshaped, all that the shapes use, and
 // the fifty heights.
-#[derive(Drop)]
+#[derive(Clone, Copy)]
 pub struct Drawn {
     pub slot: Slot,
     pub curves: Curves,
