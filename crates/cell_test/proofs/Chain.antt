@@ -1,5 +1,5 @@
 -- The test of a cell in whole numbers.
-use Prim.Native.Nat.{ℕ, suc, ◌+◌, ◌*◌, ◌≤◌, ◌<◌}
+use Prim.Native.Nat.{ℕ, suc, ◌*◌, ◌≤◌, ◌<◌}
 use Rattle.scalar.proofs.WholeRoot.{square}
 use native.Mathlib.Nat.{mul_assoc, mul_comm, mul_left_comm, le_trans, not-le_of_lt, lt_of_mul-lt-mul_right, mul-lt-mul_of_pos_left, mul-le-mul_left, le_of_suc-le-suc, lt_of_not-le, le_of_mul-le-mul_right, mul-le-mul_right, mul-le-mul, mul-pos}
 use native.Mathlib.Omega.{arith}

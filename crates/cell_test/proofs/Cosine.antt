@@ -1,19 +1,18 @@
 -- The square of the cosine is from a millionth to 1.
-use mathlib.Core.Path.{◌≡◌, refl, sym, ap, ◌∙◌, subst}
+use mathlib.Core.Path.{◌≡◌, refl, sym, subst}
 use mathlib.Core.Bool.{Bool, true, false, not, ◌||◌, cond}
-use Prim.Native.Nat.{ℕ, ◌+◌, ◌-◌, ◌*◌, ◌^◌, ◌≤◌}
+use Prim.Native.Nat.{ℕ, ◌+◌, ◌-◌, ◌*◌, ◌≤◌}
 use native.Mathlib.Nat.{le_trans, le_of_eq}
 use native.Mathlib.Omega.{arith}
-use lib.IntN.{ℤ}
 use lib.Dec.{T}
-use lib.Ieee.{Float, nan, inf, fin, binary32, up, down, unlike, round, neg, add, sub, mul, lt, le, eq, is_nan, of_bits, fits, size}
+use lib.Ieee.{Float, nan, inf, fin, binary32, up, down, neg, add, sub, mul, lt, le, is_nan, of_bits, fits, size}
 use lib.Ieee.Bits.{is_true, is_false, of_bits-fits}
 use lib.Ieee.Fits.{sub-fits, mul-fits}
 use lib.Ieee.Scale.{overflow, finite}
 use Rattle.scalar.specs.F32.{◌-f◌, ◌*f◌, ◌≤f◌}
 use Rattle.scalar.specs.Literals.{f0_000001, f1}
 use Rattle.scalar.specs.Scalar.{or_second, max_of}
-use Rattle.order.specs.Units.{real, sgn, mag, key, key_of, total}
+use Rattle.order.specs.Units.{real, sgn, mag, key, total}
 use Rattle.order.proofs.Keys.{mag-le}
 use Rattle.order.proofs.Sums.{round-as, total_mono, sub-key}
 use Rattle.order.proofs.Tests.{keys→le, le-real}

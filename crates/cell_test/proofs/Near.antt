@@ -1,9 +1,8 @@
 -- The relative error of one rounding: a fraction in binary32's normal range is moved by at most 2 ^ -24 of itself.
-use mathlib.Core.Path.{◌≡◌, refl, sym, ap, ◌∙◌, subst}
-use mathlib.Core.Logic.{◌⊎◌, inl, inr}
-use mathlib.Core.Bool.{Bool, true, false}
+use mathlib.Core.Path.{◌≡◌, refl, sym, ap, subst}
+use mathlib.Core.Bool.{false}
 use Prim.Native.Nat.{ℕ, zero, suc, ◌+◌, ◌-◌, ◌*◌, ◌/◌, ◌%◌, ◌^◌, ◌≤◌, ◌<◌, compare, Ordering}
-use native.Mathlib.Nat.{le_trans, le_of_eq, lt_of_lt_of_le, mul_comm, mul_assoc, mul_right_comm, mul-one, one-mul, add-mul, suc-mul, mul-pos, mul-le-mul_right, le_of_mul-le-mul_right, le-div_iff_mul-le, div-add-mod', mod-lt, zero-lt-suc}
+use native.Mathlib.Nat.{le_trans, le_of_eq, mul_assoc, mul-one, add-mul, suc-mul, mul-pos, mul-le-mul_right, le_of_mul-le-mul_right, le-div_iff_mul-le, div-add-mod', mod-lt, zero-lt-suc}
 use native.Mathlib.Omega.{arith}
 use lib.Pow.{pow_pos}
 use lib.Ieee.{Float, binary32, nearest, round}

@@ -1,14 +1,14 @@
 -- Product, quotient and root of numbers above zero, in units of 2 ^ -149, each with the error of its rounding.
-use mathlib.Core.Path.{◌≡◌, refl, sym, ap, ◌∙◌, subst}
+use mathlib.Core.Path.{◌≡◌, sym, ap, ◌∙◌, subst}
 use mathlib.Core.Bool.{Bool, true, false, cond}
 use Prim.Native.Nat.{ℕ, zero, suc, ◌+◌, ◌-◌, ◌*◌, ◌/◌, ◌%◌, ◌^◌, ◌≤◌, ◌<◌}
 use native.Mathlib.Nat.{le_trans, le_of_eq, le_of_lt, lt_of_lt_of_le, lt_of_le_of_lt, mul_comm, mul_assoc, mul_right_comm, mul-mul-mul_comm, mul-one, one-mul, mul-pos, mul-le-mul, mul-le-mul_right, le_of_mul-le-mul_right, lt_of_mul-lt-mul_right, zero-lt-suc, div-eq_of_lt-le, min-eq_left}
 use native.Mathlib.Omega.{arith}
-use lib.IntN.{ℤ, pos}
-use lib.Dec.{T, eqb, eqb→eq, eqb-suc-zero, ltb→lt, lit≤, lit<}
+use lib.IntN.{pos}
+use lib.Dec.{T, eqb, eqb→eq, eqb-suc-zero, lit≤, lit<}
 use lib.Pow.{pow_pos}
 use lib.Ieee.{Float, nan, inf, fin, binary32, up, down, round, mul, div, le, of_bits}
-use lib.Ieee.Fits.{down_pos, up_pos}
+use lib.Ieee.Fits.{down_pos}
 use lib.Ieee.Exact.{HasValue}
 use lib.Ieee.Scale.{round_same}
 use lib.Ieee.Positive.{positive, num, den, den_pos, mul_at, positive_of_value, value→cross, values_of_le}
@@ -17,7 +17,7 @@ use Rattle.scalar.specs.Root.{root, root_of_units, sqrt_of}
 use Rattle.scalar.specs.Scalar.{trunc_of}
 use Rattle.scalar.proofs.WholeRoot.{Root, root_is, root_ge, root-lt}
 use Rattle.scalar.proofs.Patterns.{sqrt-at}
-use Rattle.cell_test.proofs.Near.{Within, Rounded, rounds}
+use Rattle.cell_test.proofs.Near.{Rounded, rounds}
 
 abbrev pub L : ℕ
 L = 2 ^ 149

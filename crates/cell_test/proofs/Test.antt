@@ -1,15 +1,15 @@
 -- A number between the bounds is the cell. Each number on the way is in the normal range, by its size, so each rounding is by at most 2 ^ -24 of it.
-use mathlib.Core.Path.{◌≡◌, refl, sym, ap, ◌∙◌, subst}
+use mathlib.Core.Path.{◌≡◌, refl, sym, subst}
 use mathlib.Core.Logic.{◌⊎◌, inl, inr}
 use mathlib.Core.Bool.{Bool, true, false, ◌&&◌, cond}
-use Prim.Native.Nat.{ℕ, zero, suc, ◌+◌, ◌-◌, ◌*◌, ◌/◌, ◌%◌, ◌^◌, ◌≤◌, ◌<◌, zero-le}
+use Prim.Native.Nat.{ℕ, zero, suc, ◌+◌, ◌-◌, ◌*◌, ◌^◌, ◌≤◌, ◌<◌, zero-le}
 use native.Mathlib.Nat.{le_trans, le_of_eq, le_of_lt, lt_of_lt_of_le, lt_of_le_of_lt, mul-pos, mul-le-mul, mul-le-mul_left, mul-le-mul_right, zero-lt-suc, zero-mul}
 use native.Mathlib.Numerals.{add-one}
 use native.Mathlib.Omega.{arith}
-use lib.IntN.{ℤ, pos}
+use lib.IntN.{pos}
 use lib.Dec.{T, lit≤, lit<}
 use lib.Pow.{pow_pos}
-use lib.Ieee.{Float, nan, inf, fin, binary32, round, of_int, of_bits, mul, div, eq, le, fits}
+use lib.Ieee.{Float, nan, inf, fin, binary32, of_int, of_bits, eq, le, fits}
 use lib.Ieee.Fits.{and_l, and_r}
 use lib.Ieee.Exact.{HasValue}
 use lib.Ieee.Back.{round_whole}
@@ -27,7 +27,7 @@ use Rattle.cell_test.specs.Laws.{product_of, TestSuffices}
 use Rattle.cell_test.proofs.Near.{Within, Rounded, spread}
 use Rattle.cell_test.proofs.Chain as chain
 use Rattle.cell_test.proofs.Zero.{Zero, zero-real, by_zero, zero-by, zero-over, trunc-zero, not-at-most, eq-zero}
-use Rattle.cell_test.proofs.Steps.{L, Is, product, multiple, whole-square, quotient, Twice, RootOf, root-of, cut, ordered}
+use Rattle.cell_test.proofs.Steps.{L, Is, product, multiple, whole-square, quotient, RootOf, root-of, cut, ordered}
 
 -- ---- a value between two others, in units
 pub record Sized (x : Float) (lo hi : ℕ) : Type 0 where

@@ -1,6 +1,6 @@
 -- A cell of the reflectrix from the row's frequency and the square of the cosine at the layer, and the bounds of the test that a guess at it has to pass. Definitions only.
 -- A number n is the cell where n * n * sqcos is at most the lower bound and (n + 1) * (n + 1) * sqcos at least the upper one, each product rounded; Laws.antt says so.
-use Rattle.std.specs.Prelude.{◌≡◌, Bool, ◌&&◌, ◌||◌, cond, ℕ, ◌^◌, ◌≤◌, ◌<◌, ℤ, pos, Float}
+use Rattle.std.specs.Prelude.{◌≡◌, Bool, ◌&&◌, ◌||◌, cond, ℕ, ◌^◌, ◌<◌, ℤ, pos, Float}
 use Rattle.std.specs.Float.{nan, binary32}
 use Rattle.std.specs.Float.Ieee.{of_bits}
 use Rattle.scalar.specs.F32.{◌-f◌, ◌*f◌, ◌/f◌, ◌≤f◌, ◌==f◌}

@@ -1,5 +1,7 @@
 // A cell of the reflectrix without a root: a number is guessed, and a test of two products says
 // whether it is the cell.
+#![tactic(auto)]
+
 ghost use Rattle.std.specs.Prelude.{◌≡◌, ◌^◌, ◌≤◌, ◌<◌, T};
 ghost use Rattle.order.specs.Units.{real};
 ghost use Rattle.scalar.specs.F32.{◌≤f◌};
