@@ -1,4 +1,6 @@
 // What is wrong with a text that says a circuit, put into lent bytes: the number of its line, and what is wrong.
+#![tactic(auto)]
+
 ghost use Rattle.lines.specs.Text.{Clipped};
 ghost use Rattle.fault_text.specs.FaultText.{fault_words, wrong_text};
 
