@@ -1,4 +1,6 @@
 // States as words, so that any language can call the port: a float is its bits, an i32 its two's complement.
+#![tactic(auto)]
+
 ghost use Rattle.std.specs.Prelude.{◌≡◌, ◌+◌, ◌*◌, ◌≤◌, length};
 ghost use Rattle.port_state.specs.Words.{floats_of, floats_into, signed_of, word_of, yes_of, flag_of, count_word};
 ghost use Rattle.port_state.specs.State.{state_words, state_of, tables_into, profile_into, counts_into, flags_into, owner_into, exact_into, state_into};
