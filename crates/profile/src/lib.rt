@@ -1,4 +1,6 @@
 // A slot's density profile, made of its layers: a squared plasma frequency at each of fifty heights.
+#![tactic(auto)]
+
 ghost use Rattle.std.specs.Prelude.{◌≡◌, ◌<◌};
 ghost use Rattle.profile.specs.Rising.{rises_of};
 ghost use Rattle.profile.specs.Lecden.{slot_at, slot_written, supplied_of, lecden_of, lecden_answer};
