@@ -1,5 +1,7 @@
 // The frame of a panel with its axes, as SVG in lent bytes: a line of the grid for every 5 MHz and every
 // 100 km.
+#![tactic(auto)]
+
 ghost use Rattle.std.specs.Prelude.{◌≤◌};
 ghost use Rattle.lines.specs.Text.{Clipped, joined};
 ghost use Rattle.svg_axes.specs.Axes.{across_text, up_text, across_at, up_at, axes_text};
