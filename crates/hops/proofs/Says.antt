@@ -1,13 +1,12 @@
 -- Number and value of an answer, case by case of the definition.
 use mathlib.Core.Bool.{Bool, true, false, not, cond, ◌&&◌}
-use mathlib.Core.Path.{◌≡◌, refl, sym, subst}
-use lib.Dec.{T, eqb}
+use mathlib.Core.Path.{◌≡◌, refl}
+use lib.Dec.{eqb}
 use lib.IntN.{ℤ, pos, ◌+ℤ◌}
 use lib.Signed.{lt_z}
 use lib.Ieee.{Float, binary32, of_int}
 use Rattle.scalar.specs.Literals.{f0}
 use Rattle.scalar.specs.Scalar.{trunc_of}
-use Rattle.refusal.specs.Number.{number_of}
 use Rattle.refusal.proofs.Numbers.{no_answer}
 use Rattle.hops.specs.Geometry.{hop_ratio_of, hops_by, hops_of, hops_number, hops_value, HopsSay, hop_geometry_of, no_geometry, geometry_by, geometry_of, geometry_number, geometry_value, GeometrySays}
 use Rattle.hops.specs.declared.Hops.{Hops}
@@ -19,16 +18,16 @@ count_by false true n = (refl, refl)
 count_by false false n = (refl, refl)
 
 -- an answer that is the definition's says what the definition says
-pub hops-say : (r : Hops) (gcdkm amind h : Float) → r ≡ hops_of gcdkm amind h → (r ≡ hops_of gcdkm amind h) × HopsSay r gcdkm amind h
+pub hops-say : (r : Hops) (gcdkm amind h : Float) → r ≡ hops_of gcdkm amind h → HopsSay r gcdkm amind h
 unfolding hops_of HopsSay
 hops-say r gcdkm amind h e =
     let n = trunc_of (hop_ratio_of gcdkm amind h) in
-    (e, rw e (count_by (lt_z n (pos 0)) (lt_z (pos 999) n) n))
+    rw e (count_by (lt_z n (pos 0)) (lt_z (pos 999) n) n)
 
 geometry-by : (count : Hops) (gcdkm hp ht : Float) (split : Bool) → let g = geometry_by count gcdkm hp ht split in (geometry_number g ≡ hops_number count) × (geometry_value g ≡ cond (eqb (hops_number count) 0) (hop_geometry_of gcdkm (hops_value count) hp ht split) no_geometry)
 geometry-by (Hops.Count xhops) gcdkm hp ht split = (refl, refl)
 geometry-by (Hops.Refused r) gcdkm hp ht split = (refl, rw (no_answer r))
 
-pub geometry-says : (r : Geometry) (gcdkm amind hp ht : Float) (split : Bool) → r ≡ geometry_of gcdkm amind hp ht split → (r ≡ geometry_of gcdkm amind hp ht split) × GeometrySays r gcdkm amind hp ht split
+pub geometry-says : (r : Geometry) (gcdkm amind hp ht : Float) (split : Bool) → r ≡ geometry_of gcdkm amind hp ht split → GeometrySays r gcdkm amind hp ht split
 unfolding geometry_of GeometrySays
-geometry-says r gcdkm amind hp ht split e = (e, rw e (geometry-by (hops_of gcdkm amind hp) gcdkm hp ht split))
+geometry-says r gcdkm amind hp ht split e = rw e (geometry-by (hops_of gcdkm amind hp) gcdkm hp ht split)

@@ -1,4 +1,6 @@
 // The hops of a path by one layer, their angles, and the rounds that correct the MUF for bending.
+#![tactic(auto)]
+
 ghost use Rattle.std.specs.Prelude.{◌≡◌};
 ghost use Rattle.hops.specs.Geometry.{hop_ratio_of, hops_of, hops_number, hops_value, HopsSay, psi_of, del_of, sphe_of, secp_of, hop_geometry_of, geometry_of, GeometrySays};
 ghost use Rattle.hops.specs.Rounds.{sph_of, round_of, settled_of, rounds_of};
@@ -13,7 +15,7 @@ pub enum Hops {
     Refused(Refusal),
 }
 
-#[derive(Drop)]
+#[derive(Clone, Copy)]
 pub struct HopGeometry {
     pub secp: f32,
     pub sphe: f32,
@@ -34,7 +36,7 @@ pub enum Geometry {
 
 // What the rounds of one layer hold to: critical frequency, tangent frequency, heights, and the
 // geometry of the first pass.
-#[derive(Drop)]
+#[derive(Clone, Copy)]
 pub struct Ray {
     pub fc: f32,
     pub fx: f32,
@@ -46,7 +48,7 @@ pub struct Ray {
 }
 
 // What a round hands to the next.
-#[derive(Drop)]
+#[derive(Clone, Copy)]
 pub struct Round {
     pub sphe: f32,
     pub fob: f32,
