@@ -6,6 +6,7 @@ ghost use Rattle.std.specs.Prelude.{◌≡◌, ◌<◌, get_or};
 ghost use Rattle.arc_tables.specs.Tables.{angles, steep, cosines, arcs};
 
 // the angle whose tangent is i / 128, in units of 2^-56
+#[tactic(auto, unfolding(arc_tables::specs::Tables::angles))]
 pub fn gentle_angle(i: usize) -> u64
     requires { i < 128 }
     ensures { result ≡ get_or angles i 0 }
@@ -143,6 +144,7 @@ pub fn gentle_angle(i: usize) -> u64
 }
 
 // the angle whose tangent is 128 / (i + 1)
+#[tactic(auto, unfolding(arc_tables::specs::Tables::steep))]
 pub fn steep_angle(i: usize) -> u64
     requires { i < 129 }
     ensures { result ≡ get_or steep i 0 }
@@ -281,6 +283,7 @@ pub fn steep_angle(i: usize) -> u64
 }
 
 // the cosine to the sine i / 256, in units of 2^-32
+#[tactic(auto, unfolding(arc_tables::specs::Tables::cosines))]
 pub fn node_cosine(i: usize) -> u64
     requires { i < 183 }
     ensures { result ≡ get_or cosines i 0 }
@@ -473,6 +476,7 @@ pub fn node_cosine(i: usize) -> u64
 }
 
 // the angle whose tangent is i / 256 over that cosine, in units of 2^-56
+#[tactic(auto, unfolding(arc_tables::specs::Tables::arcs))]
 pub fn node_angle(i: usize) -> u64
     requires { i < 183 }
     ensures { result ≡ get_or arcs i 0 }

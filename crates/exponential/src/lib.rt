@@ -13,6 +13,7 @@ use scalar::{bits, number};
 pub const LN2: u64 = 49946518145322873;
 
 // e^(j / 16) in units of 2^-62. A `match` compiles to one read of constant memory; a constant array would be built anew at each call.
+#[tactic(auto, unfolding(crate::specs::Tables::sixteenths))]
 fn sixteenth(j: u64) -> u64
     requires { j < 12 }
     ensures { result ≡ get_or sixteenths j 0 }

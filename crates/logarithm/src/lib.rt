@@ -12,6 +12,7 @@ use fixed::pack;
 use scalar::{bits, number};
 
 // ln (1 + i / 8) in units of 2^-56. A `match` compiles to one read of constant memory; a constant array would be built anew at each call.
+#[tactic(auto, unfolding(crate::specs::Tables::eighths))]
 fn eighth(i: u64) -> u64
     requires { i < 9 }
     ensures { result ≡ get_or eighths i 0 }
