@@ -1,4 +1,6 @@
 // The tangent frequencies of a slot's layers.
+#![tactic(auto)]
+
 ghost use Rattle.std.specs.Prelude.{◌≡◌};
 ghost use Rattle.tangents.specs.Tangents.{xt_of, fx1_of, beta_of, f2_tangent_of, tangents_of};
 
