@@ -1,5 +1,7 @@
 // The numbers of `nommuf` that need no list: the distance factors, what one point does to the
 // lowest of each layer, which MUF is the circuit's, and the test of the counts.
+#![tactic(auto)]
+
 ghost use Rattle.std.specs.Prelude.{◌≡◌};
 ghost use Rattle.scalar.specs.F32.{at};
 ghost use Rattle.nominal_factors.specs.Factors.{horner_of, elfc_of, flfc_of, ec_step, fmuf_of, f2_step, allmuf_of, counts_agree};
