@@ -1,5 +1,7 @@
 // The cells of one angle, guessed together. The loops run over thirty-two places and have no branch,
 // so that four places are worked out at once.
+#![tactic(auto)]
+
 ghost use Rattle.std.specs.Prelude.{◌≡◌, map, ℕ, ◌+◌, ◌*◌, ◌≤◌, ◌<◌, length, take, get_or};
 ghost use Rattle.scalar.specs.F32.{◌/f◌, at as number_at};
 ghost use Rattle.cell_test.specs.Cell.{khz_of, sqcos_of, low_of, high_of, in_doubt, Told};

@@ -1,0 +1,11 @@
+-- After i turns the first i cells are written.
+use mathlib.Core.Path.{◌≡◌}
+use Prim.Native.Nat.{◌-◌, ◌≤◌}
+use Rattle.cell_rows.specs.Row.{angle_cells_of}
+use Rattle.cell_rows.proofs.mend.Given as goal
+
+abbrev pub invariant-loop-i : goal.invariant-loop-i
+invariant-loop-i l = (l.i ≤ 30) × (l.cells ≡ angle_cells_of l.fv l.radii l.rcosd l.from l.initial.cells l.i)
+
+abbrev pub decreases-loop-i : goal.decreases-loop-i
+decreases-loop-i l = 30 - l.i
