@@ -1,7 +1,6 @@
 -- Each is worked out from what the loop before it left at its place. Assumes nothing.
 use mathlib.Core.Path.{◌≡◌, ap, ◌∙◌}
 use mathlib.Core.List.{List}
-use borrow.Author.Rules.{rules}
 use lib.Dec.{lit≤}
 use lib.ListN.{replicate}
 use lib.Ieee.{Float, nan}
@@ -11,8 +10,7 @@ use Rattle.scalar.specs.Root.{sqrt_of}
 use Rattle.roots.specs.Roots.{put_each, roots_into}
 use Rattle.roots.proofs.Stored.{put-at, put_same}
 use Rattle.integrands.specs.Integrands.{integrand_of}
-use Rattle.integrands.proofs.integrands.Statement.{statement}
-use Rattle.integrands.proofs.integrands.Tie as tie
+use Rattle.integrands.proofs.integrands.Goals as goal
 
 composed : (ysq rest root m out : List Float) → rest ≡ put_each (λ j. f1 -f at ysq j) (replicate 40 f0) 40 → root ≡ roots_into rest (replicate 40 f0) 40 → out ≡ put_each (λ j. f1 /f at root j) m 40 → out ≡ put_each (λ k. integrand_of (at ysq k)) m 40
 composed ysq rest root m out e-rest e-root e-out =
@@ -23,11 +21,8 @@ composed ysq rest root m out e-rest e-root e-out =
     (ap (λ (l : List Float). at l k) e-root ∙ put-at (λ j. sqrt_of (at rest j)) nan (replicate 40 f0) 40 (lit≤ tt) k h
     ∙ ap sqrt_of (ap (λ (l : List Float). at l k) e-rest ∙ put-at (λ j. f1 -f at ysq j) nan (replicate 40 f0) 40 (lit≤ tt) k h)))
 
-returns : tie.Need-returns
+pub returns : goal.returns
 returns c =
-    let after-roots = c.before.before.before in
+    let after-roots = c in
     let start = after-roots.before.before.before.before.before in
     composed start.args.ysq.now _ _ _ _ after-roots.before.before.before.rests.ensures after-roots.roots.ensures c.inverses.ensures
-
-pub integrands-spec : {M : Type 1} → statement M
-integrands-spec = tie.close (tie.spec (λ c κs. search rules) (λ c κs. search rules) (λ c κs. search rules) returns)
