@@ -1,9 +1,8 @@
 -- The laws of a marking: by our outcome and the size of theirs, then those of two texts compared.
-use Prim.Native.Nat.{ℕ, ◌+◌, ◌≤◌, ◌<◌}
+use Prim.Native.Nat.{ℕ, ◌+◌, ◌<◌}
 use mathlib.Core.Path.{◌≡◌, refl, sym, ap, ◌∙◌}
 use mathlib.Core.Bool.{Bool, true, false, cond}
 use mathlib.Core.List.{List}
-use mathlib.Core.Logic.{◌↔◌}
 use native.Mathlib.Omega.{arith}
 use borrow.Author.Tests.{ltb-false, lt-ltb, le-ltb}
 use lib.Dec.{ltb}
@@ -15,7 +14,7 @@ use Rattle.first_difference.specs.Closed.{feeds_of, common_of, closed_of}
 use Rattle.first_difference.specs.Laws.{FirstOther}
 use Rattle.first_difference.specs.declared.Verdict.{Verdict}
 use Rattle.first_difference.proofs.Laws.{difference-laws}
-use Rattle.marking_answer.specs.Answer.{sheet_most, sized_by, sized_of, marking_of, text_marked_by, text_marked}
+use Rattle.marking_answer.specs.Answer.{sheet_most, sized_of, marking_of, text_marked}
 use Rattle.marking_answer.specs.Laws.{Markable, TextLaws}
 use Rattle.marking_answer.specs.declared.Marking.{Marking}
 

@@ -1,4 +1,6 @@
 // The marking of a text, theirs, beside ours: refused, the same, or different from some line on; and its line of text.
+#![tactic(auto)]
+
 ghost use Rattle.std.specs.Prelude.{◌≡◌};
 ghost use Rattle.lines.specs.Text.{Clipped};
 ghost use Rattle.marking_answer.specs.Answer.{sized_of, marking_of, text_marked};
