@@ -1,4 +1,6 @@
 // The elevation angles of the scan, degrees, and how many of them apply to a path.
+#![tactic(auto)]
+
 ghost use Rattle.std.specs.Prelude.{◌≡◌, ◌+◌, ◌-◌, ◌<◌, ◌≤◌, get_or};
 ghost use Rattle.scalar.specs.F32.{at};
 ghost use Rattle.scan_angles.specs.Angles.{ANG as Angles-as-ANG, NANGX as Angles-as-NANGX, distance_step_of, raised_from, angle_count_of, sang_of, scan_number, scan_value};

@@ -1,0 +1,25 @@
+-- The truncated number keeps within i32, so the tests read it as it is, and between 1 and 8 it is its own size.
+use native.Mathlib.Omega.{arith}
+use mir.Facts.{to_z-of_z}
+use borrow.Author.Rules.{sfits_of}
+use Rattle.scan_angles.specs.Angles.{distance_step_of}
+use Rattle.scalar.proofs.Casts.{castable}
+use Rattle.scan_angles.proofs.step.Goals as goal
+
+pub returns-then-id-lt1 : goal.returns-then-id-lt1
+unfolding distance_step_of
+returns-then-id-lt1 c = rw (← c.trunc-id.ensures, rw (to_z-of_z (sfits_of c.trunc-id.type_inv)) at c.if-id-lt1.true)
+
+pub returns-then-id-gt8 : goal.returns-then-id-gt8
+unfolding distance_step_of
+returns-then-id-gt8 c = rw (← c.trunc-id.ensures, rw (to_z-of_z (sfits_of c.trunc-id.type_inv)) at c.if-id-lt1.false, rw (to_z-of_z (sfits_of c.trunc-id.type_inv)) at c.if-id-gt8.true)
+
+pub overflow_cast-result : goal.overflow_cast-result
+overflow_cast-result c =
+    let t = c.trunc-id in
+    rw (to_z-of_z (sfits_of t.type_inv))
+    (castable t.result 8 (omega arith) (rw (to_z-of_z (sfits_of t.type_inv)) at c.if-id-lt1.false) (rw (to_z-of_z (sfits_of t.type_inv)) at c.if-id-gt8.false))
+
+pub returns : goal.returns
+unfolding distance_step_of
+returns c = rw (← c.trunc-id.ensures, rw (to_z-of_z (sfits_of c.trunc-id.type_inv)) at c.if-id-lt1.false, rw (to_z-of_z (sfits_of c.trunc-id.type_inv)) at c.if-id-gt8.false, to_z-of_z (sfits_of c.trunc-id.type_inv))
