@@ -1,4 +1,6 @@
 // The four layer lines read from words.
+#![tactic(auto)]
+
 ghost use Rattle.std.specs.Prelude.{◌≡◌, ◌+◌, ◌≤◌, length};
 ghost use Rattle.line_words.specs.Lines.{line_of_words, lines_of_words};
 
