@@ -1,5 +1,5 @@
 -- `selmod`: the slot by which ray paths are worked out, at an end of the path: the one with the lower F2, or with the lower E where F2 is alike.
-use Rattle.std.specs.Prelude.{Bool, true, false, cond, ℕ, eqb, Float}
+use Rattle.std.specs.Prelude.{Bool, true, false, cond, ℕ, eqb}
 use Rattle.scalar.specs.F32.{◌-f◌, ◌<f◌, ◌>f◌, at}
 use Rattle.scalar.specs.Literals.{f0, f0_01}
 use Rattle.scalar.specs.Scalar.{abs_of}

@@ -1,4 +1,6 @@
 // `selmod`: the slot by which ray paths are worked out.
+#![tactic(auto)]
+
 ghost use Rattle.std.specs.Prelude.{◌≡◌};
 ghost use Rattle.selmod.specs.Selmod.{selmod_of, slot_if};
 
