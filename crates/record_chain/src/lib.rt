@@ -9,7 +9,7 @@ use records::Form;
 use refusal::{Outcome, Refusal};
 
 // The records of a chain, in its order: `count` of them, then zeros. Beside a refusal all are zero.
-#[derive(Drop)]
+#[derive(Clone, Copy)]
 pub struct Chain {
     pub outcome: Outcome,
     pub order: [usize; 64],

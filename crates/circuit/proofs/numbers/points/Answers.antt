@@ -1,42 +1,35 @@
-use Prim.Native.Nat.{◌≤◌, ◌+◌, ◌*◌}
+use Prim.Native.Nat.{◌+◌, ◌*◌}
 use mathlib.Core.Path.{refl}
 use native.Mathlib.Omega.{arith}
-use lib.ListN.{length, get_or}
+use lib.ListN.{get_or}
 use Rattle.records.specs.Record.{form64}
 use Rattle.circuit.specs.Read.{numbers_of}
 use Rattle.records.proofs.Lists.{length_part}
 use Rattle.circuit.proofs.Lists.{read_next, read-end}
-use Rattle.circuit.proofs.numbers.points.Goals.{After-shared_slice_known-in-loop-i-1}
 use Rattle.circuit.proofs.numbers.points.Goals as goal
-
--- the record is there
-there : (c : After-shared_slice_known-in-loop-i-1)
-    → 64 * get_or c.args.order.now (1 + c.loop-i.i) 0 + 64
-    ≤ length c.args.file.now
-there c = c.requires.2 (1 + c.loop-i.i)
 
 pub loop-i-init : goal.loop-i-init
 unfolding numbers_of
 loop-i-init c = (omega arith, (refl, refl))
 
 pub overflow_mul-n : goal.overflow_mul-n
-overflow_mul-n c = omega (arith, there (goal.at.overflow_mul-n c).After-shared_slice_known-in-loop-i-1)
+overflow_mul-n c = omega (arith, c.requires.2 (1 + c.loop-i.i))
 
 pub overflow_mul-n-in-loop-i : goal.overflow_mul-n-in-loop-i
-overflow_mul-n-in-loop-i c = omega (arith, there (goal.at.overflow_mul-n-in-loop-i c).After-shared_slice_known-in-loop-i-1)
+overflow_mul-n-in-loop-i c = omega (arith, c.requires.2 (1 + c.loop-i.i))
 
 pub overflow_add-n-in-loop-i : goal.overflow_add-n-in-loop-i
-overflow_add-n-in-loop-i c = omega (arith, there (goal.at.overflow_add-n-in-loop-i c).After-shared_slice_known-in-loop-i-1)
+overflow_add-n-in-loop-i c = omega (arith, c.requires.2 (1 + c.loop-i.i))
 
 pub slice_bounds-read_point-end : goal.slice_bounds-read_point-end
-slice_bounds-read_point-end c = omega (arith, there (goal.at.slice_bounds-read_point-end c).After-shared_slice_known-in-loop-i-1)
+slice_bounds-read_point-end c = omega (arith, c.requires.2 (1 + c.loop-i.i))
 
 pub read_point-requires : goal.read_point-requires
 read_point-requires c =
     let l = c.loop-i in
     let a = c.args in
     let n = 64 * get_or a.order.now (1 + l.i) 0 in
-    (omega (arith, length_part n 64 a.file.now (there (goal.at.read_point-requires c).After-shared_slice_known-in-loop-i-1)), length_part (15 * l.i) 15 l.out (omega arith))
+    (omega (arith, length_part n 64 a.file.now (c.requires.2 (1 + c.loop-i.i))), length_part (15 * l.i) 15 l.out (omega arith))
 
 pub loop-i-preserved : goal.loop-i-preserved
 loop-i-preserved c =
