@@ -1,5 +1,7 @@
 // The circuit file that carries F2M3: records of 128 bytes, the first 64 of each as in the paper's form but for the kind of
 // record 0, and F2M3 at byte 64 of a point. F2M3 stands beside the circuit, a word for each of five points, by its bits.
+#![tactic(auto)]
+
 mod numbers;
 
 ghost use Rattle.std.specs.Prelude.{◌≡◌};
@@ -14,7 +16,7 @@ use record_chain::Chain;
 use refusal::Outcome;
 
 // Beside a refusal every number is zero. F2M3 past the km points is zero too.
-#[derive(Drop)]
+#[derive(Clone, Copy)]
 pub struct WideAnswer {
     pub outcome: Outcome,
     pub circuit: Circuit,

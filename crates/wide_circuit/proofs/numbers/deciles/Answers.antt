@@ -1,0 +1,43 @@
+use Prim.Native.Nat.{◌+◌, ◌*◌}
+use mathlib.Core.Path.{refl}
+use native.Mathlib.Omega.{arith}
+use lib.ListN.{get_or}
+use Rattle.wide_circuit.specs.Wide.{form128}
+use Rattle.circuit.specs.Read.{numbers_of}
+use Rattle.records.proofs.Lists.{length_part}
+use Rattle.circuit.proofs.Lists.{read_next, read-end}
+use Rattle.wide_circuit.proofs.numbers.deciles.Goals as goal
+
+pub loop-i-init : goal.loop-i-init
+unfolding numbers_of
+loop-i-init c = (omega arith, (refl, refl))
+
+pub overflow_mul-n : goal.overflow_mul-n
+overflow_mul-n c = omega (arith, c.requires.3 (c.args.from + c.loop-i.i))
+
+pub overflow_mul-n-in-loop-i : goal.overflow_mul-n-in-loop-i
+overflow_mul-n-in-loop-i c = omega (arith, c.requires.3 (c.args.from + c.loop-i.i))
+
+pub overflow_add-n-in-loop-i : goal.overflow_add-n-in-loop-i
+overflow_add-n-in-loop-i c = omega (arith, c.requires.3 (c.args.from + c.loop-i.i))
+
+pub slice_bounds-read_deciles-end : goal.slice_bounds-read_deciles-end
+slice_bounds-read_deciles-end c = omega (arith, c.requires.3 (c.args.from + c.loop-i.i))
+
+pub read_deciles-requires : goal.read_deciles-requires
+read_deciles-requires c =
+    let l = c.loop-i in
+    let a = c.args in
+    let n = 128 * get_or a.order.now (a.from + l.i) 0 in
+    (omega (arith, length_part n 128 a.file.now (c.requires.3 (c.args.from + c.loop-i.i))), length_part (12 * l.i) 12 l.out (omega arith))
+
+pub loop-i-preserved : goal.loop-i-preserved
+loop-i-preserved c =
+    let a = c.args in
+    let l = c.loop-i in
+    read_next form128 a.file.now a.order.now a.from 0 12 576 a.count l.i l.out l.invariant _ (omega arith) c.read_deciles.ensures (omega arith)
+
+pub returns : goal.returns
+returns c =
+    let a = c.args in
+    read-end form128 a.file.now a.order.now a.from 0 12 576 a.count _ _ c.loop-i.invariant c.loop-i-test.false
