@@ -1,6 +1,5 @@
 -- A density that is not zero is one of the five candidates, since a maximum is one of its operands; what is not worked out is 0, and so it is not that one. Of two marks with the paper's property neither can come before the other.
 use mathlib.Core.Bool.{Bool, true, false, not, cond, ◌&&◌, ◌||◌, true≢false}
-use mathlib.Core.List.{map}
 use mathlib.Core.Logic.{◌⊎◌, inl, inr}
 use mathlib.Core.Path.{◌≡◌, refl, sym, ap, ◌∙◌, subst}
 use Prim.Native.Nat.{ℕ, zero, suc, ◌<◌, ◌≤◌}
@@ -9,7 +8,7 @@ use borrow.Author.Tests.{ltb-true, ltb-false, not-false}
 use lib.Dec.{T, ltb}
 use lib.Ieee.{Float, eq, ne, le, is_nan, of_bits}
 use lib.Ieee.Bits.{is_true}
-use Rattle.scalar.specs.F32.{◌-f◌, ◌<f◌, ◌≤f◌, ◌>f◌, ◌≥f◌, ◌==f◌}
+use Rattle.scalar.specs.F32.{◌-f◌, ◌≤f◌, ◌≥f◌, ◌==f◌}
 use Rattle.scalar.specs.Literals.{f0}
 use Rattle.scalar.specs.Scalar.{max_of}
 use Rattle.scalar.proofs.Nan.{differs-is-nan}
@@ -19,7 +18,6 @@ use Rattle.layers.specs.declared.IonoState.{IonoState}
 use Rattle.shape_densities.specs.Density.{fnval_of, fne_of, fnd_of, fn1_of, fn2_of, candidates_of, largest_of, density_of}
 use Rattle.profile.specs.Lecden.{supplied_of, lecden_of}
 use Rattle.shape_densities.specs.declared.Curves.{Curves}
-use Rattle.shape_densities.specs.declared.Candidates.{Candidates}
 use Rattle.shapes.specs.Mark.{mark_number_of}
 use Rattle.shapes.specs.Marks.{first_of, mark_of, marks_of}
 use Rattle.shapes.specs.Meaning.{worked_out, shape_value, makes, FirstShape, Marked, MarkRule, SlotMarks}

@@ -1,5 +1,5 @@
 -- What the marks say, in the paper's words: of the shapes that `lecden` works out at a height, the first in the paper's order whose value is the density; gap just where the density is zero. And why there is always one: the density is a number, never below zero.
-use Rattle.std.specs.Prelude.{Bool, true, false, not, ◌&&◌, List, map, ◌⊎◌, ◌≡◌, ℕ, ◌<◌, Float}
+use Rattle.std.specs.Prelude.{Bool, true, false, not, ◌&&◌, map, ◌⊎◌, ◌≡◌, ℕ, ◌<◌, Float}
 use Rattle.std.specs.Float.Ieee.{is_nan}
 use Rattle.scalar.specs.F32.{◌-f◌, ◌<f◌, ◌≤f◌, ◌>f◌, ◌≥f◌, ◌==f◌}
 use Rattle.scalar.specs.Literals.{f0}

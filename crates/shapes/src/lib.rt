@@ -1,5 +1,7 @@
 // Which shape made each density of a slot's profile: of the five that `lecden` works out at a
 // height, the one whose value is the largest.
+#![tactic(auto)]
+
 ghost use Rattle.std.specs.Prelude.{◌≡◌, map, ◌<◌};
 ghost use Rattle.shape_densities.specs.Density.{fnd_of};
 ghost use Rattle.shapes.specs.Mark.{mark_number_of};
@@ -8,7 +10,7 @@ ghost use Rattle.shapes.specs.Marks.{first_of, mark_of, height_mark, unmarked, m
 use layers::IonoState;
 use shape_densities::{Candidates, Curves};
 
-#[derive(Drop)]
+#[derive(Clone, Copy)]
 pub enum Mark {
     // of a supplied profile, and beside a refusal
     None,
@@ -27,7 +29,7 @@ pub enum Mark {
 }
 
 // The mark of one height.
-#[derive(Drop)]
+#[derive(Clone, Copy)]
 pub struct HeightMark {
     pub mark: Mark,
 }
