@@ -1,4 +1,6 @@
 // What bending and delay in a parabolic layer come to.
+#![tactic(auto)]
+
 ghost use Rattle.std.specs.Prelude.{◌≡◌};
 ghost use Rattle.parabolas.specs.Bendy.{bendy_at, pen_at, bendy_answer, pen_answer};
 
@@ -6,7 +8,7 @@ use layers::IonoState;
 use refusal::Refusal;
 
 // A layer's number, or the refusal of a slot or layer number above 2.
-#[derive(Drop)]
+#[derive(Clone, Copy)]
 pub enum LayerNumber {
     Value(f32),
     Refused(Refusal),
