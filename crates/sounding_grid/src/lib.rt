@@ -1,5 +1,7 @@
 // The thirty sounding frequencies: 0 to 9 the D-E tail and the E nose, 10 the E-F cusp, 11 to 29 F1
 // and F2, or F2 alone.
+#![tactic(auto)]
+
 ghost use Rattle.std.specs.Prelude.{◌≡◌, ◌+◌, ◌<◌};
 ghost use Rattle.slot_curves.specs.Grid.{filled};
 ghost use Rattle.sounding_grid.specs.Grid.{e_grid, nose_grid, f_grid, fvert_of};
