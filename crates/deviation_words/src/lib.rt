@@ -1,5 +1,7 @@
 // `f2dis` on words, the deciles as they are lent: 0, or the number of its refusal, which leaves
 // every lent word as it was.
+#![tactic(auto)]
+
 ghost use Rattle.std.specs.Prelude.{◌≡◌, ◌≤◌, length};
 ghost use Rattle.deviation_words.specs.F2disWords.{deviation_into, f2dis_left};
 
