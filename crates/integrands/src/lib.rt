@@ -1,6 +1,8 @@
 // What the forty densities of the Gauss rule come to: each over the squared frequency, cut, and 1 over
 // the root of what it leaves of 1. Forty at a time, in loops that the compiler makes vector
 // instructions of.
+#![tactic(auto)]
+
 ghost use Rattle.std.specs.Prelude.{◌≡◌};
 ghost use Rattle.scalar.specs.F32.{◌-f◌, ◌/f◌, at};
 ghost use Rattle.scalar.specs.Literals.{f1};

@@ -1,9 +1,7 @@
 use mathlib.Core.Path.{refl}
-use Prim.Native.Nat.{◌-◌}
 use native.Mathlib.Nat.{le_antisymm}
 use native.Mathlib.Numerals.{add-one}
 use native.Mathlib.Omega.{arith}
-use Rattle.scalar.specs.F32.{at}
 use Rattle.roots.specs.Roots.{put_each}
 use Rattle.integrands.proofs.inverses.Goals as goal
 
