@@ -1,10 +1,9 @@
 -- Where n * 2 ^ i over d * 2 ^ j has 24 digits before the point, those, rounded, and the exponent k = 149 + j - i are the pattern of n / d rounded.
 use mathlib.Core.Path.{◌≡◌, refl, sym, ap, ◌∙◌, subst}
 use mathlib.Core.Bool.{Bool, true, false, cond}
-use Prim.Native.Nat.{ℕ, zero, suc, ◌+◌, ◌-◌, ◌*◌, ◌/◌, ◌%◌, ◌^◌, ◌≤◌, ◌<◌, compare, Ordering}
-use native.Mathlib.Nat.{le_trans, le_of_eq, lt_of_lt_of_le, lt_of_le_of_lt, zero-mul, zero-add, mul_assoc, mul-pos, mul-le-mul_right, mul-lt-mul_of_pos_right, le_of_mul-le-mul_right, lt_of_mul-lt-mul_right, le-div_iff_mul-le, div-lt_iff_lt-mul}
+use Prim.Native.Nat.{ℕ, suc, ◌+◌, ◌-◌, ◌*◌, ◌/◌, ◌%◌, ◌^◌, ◌≤◌, ◌<◌, compare, Ordering}
+use native.Mathlib.Nat.{le_trans, le_of_eq, lt_of_lt_of_le, lt_of_le_of_lt, mul_assoc, mul-pos, mul-le-mul_right, mul-lt-mul_of_pos_right, le_of_mul-le-mul_right, lt_of_mul-lt-mul_right, le-div_iff_mul-le, div-lt_iff_lt-mul}
 use native.Mathlib.Omega.{arith}
-use lib.Dec.{lit<}
 use lib.Pow.{pow-add, pow_pos, pow-lt}
 use lib.Ieee.{Float, fin, binary32, size, nearest, odd, units, round, to_bits}
 use lib.Ieee.Exact.{HasValue, units_val}
@@ -34,6 +33,8 @@ half a c h k = sym (by (a / c) (a % c) c (a / c + a / c % 2) (compare (a % c * 2
 -- ---- the pattern of a value in units
 value-bits : (v : Float) (s : Bool) (N : ℕ) → HasValue v s N (2 ^ 149) → to_bits binary32 v ≡ pattern_of binary32 s N
 value-bits (fin t m e) s N h = bits_of binary32 t m e N h.1 ∙ ap (λ (b : Bool). pattern_of binary32 b N) h.0
+value-bits lib.Ieee.nan s N h = elim h [ ]
+value-bits (lib.Ieee.inf _) s N h = elim h [ ]
 
 signed : (s : Bool) (N p : ℕ) → pattern_of binary32 false N ≡ p → pattern_of binary32 s N ≡ cond s (2 ^ 31) 0 + p
 signed true N p e = omega (arith, e)

@@ -1,4 +1,6 @@
 // A decimal as a person writes it, as the nearest f32: by whole numbers only.
+#![tactic(auto)]
+
 mod fraction;
 
 ghost use Rattle.std.specs.Prelude.{◌≡◌, true, ◌&&◌, leb, ◌+◌, ◌-◌, ◌*◌, ◌^◌, ◌≤◌, min, length};
