@@ -1,5 +1,7 @@
-// The scalars for C and Rust callers: `rt staticlib scalar_c` writes the archive that they link.
+// The scalars for C and Rust callers: `rt lib` writes the archive that they link.
 // A NaN that is returned has no particular sign or payload.
+#![tactic(auto)]
+
 ghost use Rattle.std.specs.Prelude.{◌≡◌};
 ghost use Rattle.scalar.specs.Scalar.{min_of, max_of, trunc_of};
 ghost use Rattle.scalar.specs.Root.{sqrt_of};
