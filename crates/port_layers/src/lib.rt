@@ -1,5 +1,7 @@
 // `from_layers`, `ionset`, `lecden` and whose profile a state has, for callers in any language: words in, words out.
 // Lengths are checked first; a refused call leaves every word.
+#![tactic(auto)]
+
 ghost use Rattle.std.specs.Prelude.{◌≡◌, ◌≤◌, length};
 ghost use Rattle.port_layers.specs.Exports.{ported_state_of, port_ionset, port_lecden, port_from_layers, owner_pair, port_owner};
 ghost use Rattle.port_state.specs.State.{state_words};
@@ -10,8 +12,8 @@ use refusal::Outcome;
 
 fn answer_into(a: StateAnswer, w: &mut [u32]) -> u32
     requires { state_words ≤ length w.old }
-    ensures fact_1 { result ≡ (ported_state_of a w.old).number }
-    ensures fact_2 { w.new ≡ (ported_state_of a w.old).words }
+    ensures number { result ≡ (ported_state_of a w.old).number }
+    ensures words { w.new ≡ (ported_state_of a w.old).words }
 {
     let o = a.outcome;
     match o {
@@ -24,10 +26,9 @@ fn answer_into(a: StateAnswer, w: &mut [u32]) -> u32
     }
 }
 
-#[unsafe(no_mangle)]
-pub extern "C" fn port_ionset(state: &mut [u32]) -> u32
-    ensures fact_1 { result ≡ (port_ionset state.old).number }
-    ensures fact_2 { state.new ≡ (port_ionset state.old).words }
+pub fn port_ionset(state: &mut [u32]) -> u32
+    ensures number { result ≡ (port_ionset state.old).number }
+    ensures words { state.new ≡ (port_ionset state.old).words }
 {
     if STATE_WORDS <= state.len() {
         let a = slots::ionset(state_of(state));
@@ -36,10 +37,9 @@ pub extern "C" fn port_ionset(state: &mut [u32]) -> u32
     1
 }
 
-#[unsafe(no_mangle)]
-pub extern "C" fn port_lecden(state: &mut [u32], k: u32) -> u32
-    ensures fact_1 { result ≡ (port_lecden state.old k).number }
-    ensures fact_2 { state.new ≡ (port_lecden state.old k).words }
+pub fn port_lecden(state: &mut [u32], k: u32) -> u32
+    ensures number { result ≡ (port_lecden state.old k).number }
+    ensures words { state.new ≡ (port_lecden state.old k).words }
 {
     if STATE_WORDS <= state.len() {
         let a = profile::lecden(state_of(state), port_state::wide(k));
@@ -48,10 +48,9 @@ pub extern "C" fn port_lecden(state: &mut [u32], k: u32) -> u32
     1
 }
 
-#[unsafe(no_mangle)]
-pub extern "C" fn port_from_layers(points: &[u32], state: &mut [u32]) -> u32
-    ensures fact_1 { result ≡ (port_from_layers points.now state.old).number }
-    ensures fact_2 { state.new ≡ (port_from_layers points.now state.old).words }
+pub fn port_from_layers(points: &[u32], state: &mut [u32]) -> u32
+    ensures number { result ≡ (port_from_layers points.now state.old).number }
+    ensures words { state.new ≡ (port_from_layers points.now state.old).words }
 {
     if STATE_WORDS <= state.len() {
         let len = points.len();
@@ -76,10 +75,9 @@ fn owner_pair(o: Owner, out: &mut [u32])
 }
 
 // Whose profile the state has; out: 0 for nobody's, 1 for a slot's, 2 for a supplied one; and the slot's number
-#[unsafe(no_mangle)]
-pub extern "C" fn port_owner(state: &[u32], out: &mut [u32]) -> u32
-    ensures fact_1 { result ≡ (port_owner state.now out.old).number }
-    ensures fact_2 { out.new ≡ (port_owner state.now out.old).words }
+pub fn port_owner(state: &[u32], out: &mut [u32]) -> u32
+    ensures number { result ≡ (port_owner state.now out.old).number }
+    ensures words { out.new ≡ (port_owner state.now out.old).words }
 {
     if STATE_WORDS <= state.len() {
         if 2 <= out.len() {
