@@ -1,7 +1,6 @@
 -- `nearest` is within half, even at the half, and the only such number; so it depends on the fraction alone. Assumes nothing.
-use Prim.Native.Nat.{ℕ, zero, suc, ◌+◌, ◌-◌, ◌*◌, ◌/◌, ◌%◌, ◌^◌, ◌≤◌, ◌<◌, min}
-use mathlib.Core.Path.{◌≡◌, refl, sym, ap, ap₂, ◌∙◌, subst}
-use mathlib.Core.Logic.{◌⊎◌, inl, inr}
+use Prim.Native.Nat.{ℕ, zero, suc, ◌+◌, ◌-◌, ◌*◌, ◌/◌, ◌%◌, ◌≤◌, ◌<◌}
+use mathlib.Core.Path.{◌≡◌, refl, sym, ap, ap₂, ◌∙◌}
 use mathlib.Core.Bool.{Bool, true, false, cond}
 use native.Mathlib.Nat.{mod-lt, div-add-mod', mul_right_comm, mul-le-mul_right, le_of_mul-le-mul_right, le_antisymm, mul_comm, mul-sub, add-mul, eq_of_mul-eq-mul_right, mul-le-mul_left, div-lt_iff_lt-mul}
 use native.Mathlib.Omega.{arith}

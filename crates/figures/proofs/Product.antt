@@ -1,10 +1,10 @@
 -- The product by the pattern: a value of the exponent's field x above 0 is d * 2 ^ (x - 150) for its 24 digits d, so k times it is the fraction d * k / 2 ^ (150 - x), or a whole number from x = 150 on. Assumes nothing.
 use Prim.Native.Nat.{ℕ, zero, suc, ◌+◌, ◌-◌, ◌*◌, ◌/◌, ◌%◌, ◌^◌, ◌≤◌, ◌<◌, min}
-use mathlib.Core.Path.{◌≡◌, refl, sym, ap, ap₂, ◌∙◌, subst}
-use mathlib.Core.Bool.{Bool, true, false, cond}
+use mathlib.Core.Path.{◌≡◌, refl, sym, ap, ◌∙◌}
+use mathlib.Core.Bool.{Bool, true, false}
 use native.Mathlib.Nat.{lt_of_lt_of_le, lt_of_le_of_lt, le_trans, le_of_eq, mul-le-mul, mul-le-mul_left}
 use native.Mathlib.Omega.{arith}
-use borrow.Author.Tests.{leb-true, leb-false, le-leb, lt-leb}
+use borrow.Author.Tests.{leb-true, leb-false, lt-leb}
 use lib.Dec.{T, leb, eqb-suc-zero}
 use lib.Pow.{pow-add, pow_pos, pow_mono, shl_lt}
 use lib.Ieee.{Float, nan, inf, fin, binary32, up, down, fits, of_fields, of_bits, to_bits}
@@ -21,6 +21,8 @@ use Rattle.figures.proofs.HalfToEven.{nearest-same, below_half, whole}
 
 times-at : (k : ℕ) (v : Float) (s : Bool) (n d : ℕ) → 0 < d → HasValue v s n d → times_of k v ≡ min (nearest (k * n) d) past
 unfolding times_of
+times-at k nan s n d p h = elim h [ ]
+times-at k (inf _) s n d p h = elim h [ ]
 times-at k (fin t m e) s n d p h = ap (λ (x : ℕ). min x past) (nearest-same (k * m * up e) (down e) (k * n) d (down_pos e) p (cross (up e) (down e) h.1))
   where
     cross : (u w : ℕ) → m * u * d ≡ n * w → k * m * u * d ≡ k * n * w
@@ -41,6 +43,8 @@ kept-signed s n = go (leb n past) refl
 
 pub figure-at : (v : Float) (s : Bool) (n d : ℕ) → HasValue v s n d → figure_of v ≡ signed_tenths s (times_of 10 v)
 unfolding figure_of times_of
+figure-at nan s n d h = elim h [ ]
+figure-at (inf _) s n d h = elim h [ ]
 figure-at (fin t m e) s n d h = ap (λ (x : Bool). signed_tenths x (nearest (10 * m * up e) (down e))) h.0 ∙ kept-signed s (nearest (10 * m * up e) (down e))
 
 -- ---- by the fields

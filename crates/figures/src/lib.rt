@@ -1,5 +1,7 @@
 // Numbers as they are printed: an exact product rounded to the nearest whole number, an exact half to
 // the even one, and the figure of a MUF in tenths.
+#![tactic(auto)]
+
 ghost use Rattle.std.specs.Prelude.{◌≡◌, true, false, ◌<◌, min};
 ghost use Rattle.figures.specs.Nearest.{nearest as nearestOf, past, times_of};
 ghost use Rattle.figures.specs.Figure.{signed_tenths, figure_of, figure_number, figure_tenths};
