@@ -1,4 +1,6 @@
 // The ionogram of a slot: its thirty rows, and the reflectrix.
+#![tactic(auto)]
+
 mod reflectrix;
 
 ghost use Rattle.std.specs.Prelude.{◌≡◌};
@@ -8,7 +10,7 @@ pub use reflectrix::fobby;
 use refusal::Outcome;
 
 // The thirty rows, by columns.
-#[derive(Drop)]
+#[derive(Clone, Copy)]
 pub struct Ionogram {
     // the frequency that is sounded, in MHz
     pub fvert: [f32; 30],
@@ -35,7 +37,7 @@ pub fn no_rows() -> Ionogram
     }
 }
 
-#[derive(Drop)]
+#[derive(Clone, Copy)]
 pub struct IonogramAnswer {
     pub outcome: Outcome,
     pub ion: Ionogram,
