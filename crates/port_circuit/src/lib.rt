@@ -1,5 +1,7 @@
 // The circuit file for callers in any language: words in, words out. Each function answers 0, or the number of its refusal, and then
 // leaves every lent word or byte as it was.
+#![tactic(auto)]
+
 ghost use Rattle.std.specs.Prelude.{◌≡◌, ◌+◌, ◌≤◌, length};
 ghost use Rattle.port_circuit.specs.Words.{words_from, words_into, circuit_of_words, head_words, circuit_into};
 ghost use Rattle.circuit_write.specs.Written.{write_number, length_in};
@@ -113,8 +115,8 @@ pub fn circuit_into(c: Circuit, w: &mut [u32])
 
 fn answer_into(a: ReadAnswer, out: &mut [u32]) -> u32
     requires { (657 ≤ length out.old) × (a.circuit.km ≤ 5) × (a.circuit.shape ≤ 1) }
-    ensures fact_1 { result ≡ (ported_read_of a out.old).number }
-    ensures fact_2 { out.new ≡ (ported_read_of a out.old).cells }
+    ensures value { result ≡ (ported_read_of a out.old).number }
+    ensures out_after { out.new ≡ (ported_read_of a out.old).cells }
 {
     let o = a.outcome;
     match o {
@@ -128,10 +130,9 @@ fn answer_into(a: ReadAnswer, out: &mut [u32]) -> u32
 }
 
 // The circuit of a file, into 657 words.
-#[unsafe(no_mangle)]
-pub extern "C" fn port_read(file: &[u8], out: &mut [u32]) -> u32
-    ensures fact_1 { result ≡ (port_read file.now out.old).number }
-    ensures fact_2 { out.new ≡ (port_read file.now out.old).cells }
+pub fn port_read(file: &[u8], out: &mut [u32]) -> u32
+    ensures value { result ≡ (port_read file.now out.old).number }
+    ensures out_after { out.new ≡ (port_read file.now out.old).cells }
 {
     if 657 <= out.len() {
         let a = circuit::read(file);
@@ -155,8 +156,7 @@ pub fn length_into(a: WriteAnswer, out: &mut [u32]) -> u32
 }
 
 // The file of the circuit that 657 words hold, and into `out` how many bytes it has.
-#[unsafe(no_mangle)]
-pub extern "C" fn port_write(words: &[u32], file: &mut [u8], out: &mut [u32]) -> u32
+pub fn port_write(words: &[u32], file: &mut [u8], out: &mut [u32]) -> u32
     ensures value { result ≡ (port_write words.now file.old out.old).number }
     ensures file_after { file.new ≡ (port_write words.now file.old out.old).cells }
     ensures out_after { out.new ≡ (port_write words.now file.old out.old).words }
