@@ -1,5 +1,5 @@
 -- The words that begin a line, and the names of fields with the places of their numbers.
-use Rattle.std.specs.Prelude.{ℕ, cond, ◌&&◌, List, [], ◌∷◌, eqb, ltb}
+use Rattle.std.specs.Prelude.{ℕ, cond, List, [], ◌∷◌, eqb, ltb}
 use Rattle.first_difference.specs.Difference.{same_bytes}
 
 -- `path` 1, `point` 2, `deciles` 3, as the kinds of the file's records are numbered; 0 for any other word

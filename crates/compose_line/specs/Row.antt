@@ -1,6 +1,6 @@
 -- What a line of a circuit's text says: its kind and its numbers, or what is wrong. What stands from a `#` on is not looked at. The first word is the
 -- line's kind; then names of fields, in any order, each followed by its numbers; a line of deciles has twelve numbers and no names.
-use Rattle.std.specs.Prelude.{ℕ, ◌+◌, ◌-◌, cond, List, [], ◌∷◌, eqb, leb, ltb, get_or, set, replicate}
+use Rattle.std.specs.Prelude.{ℕ, ◌+◌, ◌-◌, cond, List, [], ◌∷◌, eqb, ltb, get_or, set, replicate}
 use Rattle.records.specs.Record.{all_zero}
 use Rattle.words.specs.Words.{up_to, words_of}
 use Rattle.decimals.specs.declared.Decimal.{Decimal}

@@ -1,4 +1,6 @@
 // What a line of a circuit's text says: its kind and its numbers, or what is wrong.
+#![tactic(auto)]
+
 mod names;
 
 ghost use Rattle.std.specs.Prelude.{◌≡◌, ◌<◌};
@@ -21,7 +23,7 @@ pub const FIELD_MISSING: u32 = 6;
 
 // The kind is that of the file's record, 0 for a line without a word; `missing` has a 1 for each number that is still to come;
 // the next `left` numbers go to the places from `at` on. What is wrong is numbered, 0 for nothing.
-#[derive(Drop)]
+#[derive(Clone, Copy)]
 pub struct Row {
     pub kind: u32,
     pub values: [u32; 15],
