@@ -1,4 +1,6 @@
 // The five characters of a printed figure, put into lent bytes as the crate `lines` puts text.
+#![tactic(auto)]
+
 ghost use Rattle.std.specs.Prelude.{◌≡◌, ◌∷◌, ◌-◌, length};
 ghost use Rattle.lines.specs.Text.{Clipped};
 ghost use Rattle.figures.specs.Figure.{figure_of};
