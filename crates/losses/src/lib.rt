@@ -1,6 +1,8 @@
 // `alosfv`: a factor of deviative loss for each of an ionogram's thirty rows. A layer's own rows
 // have zero up to the true height at its MUF; the two rows of a cusp between layers have one at any
 // height.
+#![tactic(auto)]
+
 ghost use Rattle.std.specs.Prelude.{◌≡◌, ◌+◌, ◌<◌, ◌≤◌};
 ghost use Rattle.losses.specs.Alosfv.{decay_of, factor_of, e_loss, e_rows, cusp_loss, cusp_of, tail_loss, tail_rows, without_f1, with_f1, above_of, not_below_zero, not_below_zeros, with_afac, alosfv_of, alosfv_answer};
 
@@ -9,21 +11,21 @@ use reflectrix::{Ionogram, IonogramAnswer};
 use refusal::{Outcome, Refusal};
 
 // The factors so far, and the last constant worked out.
-#[derive(Drop)]
+#[derive(Clone, Copy)]
 pub struct Factors {
     pub cf: f32,
     pub afac: [f32; 30],
 }
 
 // One row's factor, and the last constant worked out up to it.
-#[derive(Drop)]
+#[derive(Clone, Copy)]
 pub struct Loss {
     pub cf: f32,
     pub a: f32,
 }
 
 // How the constant falls with the height: from the height hz, by the semi-thickness y.
-#[derive(Drop)]
+#[derive(Clone, Copy)]
 pub struct Decay {
     pub hz: f32,
     pub y: f32,
