@@ -1,4 +1,6 @@
 // Points in the frame of a panel. A unit is a tenth of a pixel.
+#![tactic(auto)]
+
 ghost use Rattle.std.specs.Prelude.{◌≡◌};
 ghost use Rattle.svg_points.specs.Points.{units_of, point_drawn_of};
 
