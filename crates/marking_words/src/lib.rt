@@ -1,4 +1,6 @@
 // A marking as a word.
+#![tactic(auto)]
+
 ghost use Rattle.std.specs.Prelude.{◌≡◌, ◌≤◌, length};
 ghost use Rattle.marking_answer.specs.Answer.{marking_number};
 ghost use Rattle.marking_words.specs.Words.{SmallLine, marking_into};
