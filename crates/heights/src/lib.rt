@@ -1,4 +1,6 @@
 // Heights of a vertical frequency off the profile, by a Gauss rule or the exact one: `gethp`.
+#![tactic(auto)]
+
 ghost use Rattle.std.specs.Prelude.{false, ◌&&◌, ◌≡◌};
 ghost use Rattle.scalar.specs.F32.{◌>f◌};
 ghost use Rattle.scalar.specs.Literals.{f0};

@@ -3,7 +3,6 @@ use mathlib.Core.Bool.{Bool, true, false, ◌&&◌}
 use mathlib.Core.Path.{◌≡◌, ap, sym, subst, ◌∙◌}
 use mathlib.Core.List.{List}
 use lib.Ieee.{Float}
-use borrow.Author.Rules.{rules}
 use lib.Dec.{T}
 use lib.Ieee.Fits.{and_r}
 use Rattle.scalar.specs.F32.{◌+f◌, ◌-f◌, ◌*f◌, ◌≤f◌, ◌>f◌, at}
@@ -15,8 +14,7 @@ use Rattle.forty_reads.specs.Walk.{ysq_read_by, cursor_read_by}
 use Rattle.heights.specs.Gethp.{heights_by}
 use Rattle.heights.specs.Walk.{gethp_read_of}
 use Rattle.heights.specs.declared.Heights.{Heights}
-use Rattle.heights.proofs.gethp_read.Statement.{statement}
-use Rattle.heights.proofs.gethp_read.Tie as tie
+use Rattle.heights.proofs.gethp_read.Goals as goal
 
 -- the heights by the rule, and by the densities, of what the search found
 module _ (exact rises used : Bool) (htr fnsq : List Float) (fxx : Float) (found : Found) (past : (fxx *f fxx -f at fnsq 0 ≤f f0) ≡ false)
@@ -33,30 +31,24 @@ module _ (exact rises used : Bool) (htr fnsq : List Float) (fxx : Float) (found 
     unfolding gethp_read_of
     summed r u e = rw (past, e, is, ← ap (λ (f : Found). exact && (f.value -f at htr 0 >f f0)) is, ← asked, u)
 
-returns : tie.Need-returns
+pub returns-then-fr-fnsq : goal.returns-then-fr-fnsq
 unfolding gethp_read_of
-returns c = rw c.if1.true
+returns-then-fr-fnsq c = rw c.if-fr-fnsq.true
 
-virtual-height-exact-requires : tie.Need-virtual-height-exact-requires
-virtual-height-exact-requires c κs =
-    let a = c.before.before.before.before.before.before.args in
-    let found = c.before.before.profile-interpolate.result in
-    and_r a.exact (found.value -f at a.htr.now 0 >f f0) (subst (λ (b : Bool). T b) (sym c.if2.true ∙ c.before.rule-used.ensures) tt)
+pub virtual_height_exact-rise-requires : goal.virtual_height_exact-rise-requires
+virtual_height_exact-rise-requires c =
+    let a = c.args in
+    let found = c.profile_interpolate-found.result in
+    and_r a.exact (found.value -f at a.htr.now 0 >f f0) (subst (λ (b : Bool). T b) (sym c.if-rule_used.true ∙ c.rule_used.ensures) tt)
 
-returns-2 : tie.Need-returns-2
-returns-2 c =
-    let a = c.before.before.before.before.before.before.before.args in
-    let p = c.before.before.before.profile-interpolate in
-    ruled a.exact a.rises c.before.before.rule-used.result a.htr.now a.fnsq.now a.fxx p.result c.before.before.before.before.if1.false p.ensures c.before.before.rule-used.ensures c.virtual-height-exact.result c.before.if2.true c.virtual-height-exact.ensures
+pub returns-then-rule_used : goal.returns-then-rule_used
+returns-then-rule_used c =
+    let a = c.args in
+    let p = c.profile_interpolate-found in
+    ruled a.exact a.rises c.rule_used.result a.htr.now a.fnsq.now a.fxx p.result c.if-fr-fnsq.false p.ensures c.rule_used.ensures c.virtual_height_exact-rise.result c.if-rule_used.true c.virtual_height_exact-rise.ensures
 
-returns-3 : tie.Need-returns-3
-returns-3 c =
-    let a = c.before.before.before.before.before.before.before.args in
-    let p = c.before.before.before.profile-interpolate in
-    summed a.exact a.rises c.before.before.rule-used.result a.htr.now a.fnsq.now a.fxx p.result c.before.before.before.before.if1.false p.ensures c.before.before.rule-used.ensures c.by-densities.result c.before.if2.false c.by-densities.ensures
-
-pub gethp-read-spec : {M : Type 1} → statement M
-gethp-read-spec =
-    tie.close
-    (tie.spec (λ c. search rules) (λ c. search rules) returns (λ c κs. search rules) (λ c κs. search rules) virtual-height-exact-requires
-    returns-2 (λ c κs. search rules) returns-3)
+pub returns : goal.returns
+returns c =
+    let a = c.args in
+    let p = c.profile_interpolate-found in
+    summed a.exact a.rises c.rule_used.result a.htr.now a.fnsq.now a.fxx p.result c.if-fr-fnsq.false p.ensures c.rule_used.ensures c.by_densities.result c.if-rule_used.false c.by_densities.ensures
