@@ -1,5 +1,7 @@
 // What a call costs: the relay stations charge by band. A tariff is a list of tops, in tenths of a MHz, and a list of
 // rates, in cents a minute; the band of a call is the first whose top is not below the printed figure of its MUF.
+#![tactic(auto)]
+
 ghost use Rattle.std.specs.Prelude.{◌≡◌, true};
 ghost use Rattle.tariff.specs.Price.{within, rising, tariff_good, first_band, rounded_up, figure_price, price_of};
 
