@@ -1,5 +1,7 @@
 // The circuit file that carries F2M3, for callers in any language: words in, words out. Each function answers 0, or the number
 // of its refusal, and then leaves every lent word or byte as it was.
+#![tactic(auto)]
+
 ghost use Rattle.std.specs.Prelude.{◌≡◌, ◌+◌, ◌≤◌, length};
 ghost use Rattle.port_circuit.specs.Words.{words_from, words_into};
 ghost use Rattle.port_wide.specs.Exports.{wide_into, ported_wide_of, port_read128, port_write128};
@@ -35,8 +37,8 @@ fn wide_into(a: WideAnswer, w: &mut [u32])
 
 fn answer_into(a: WideAnswer, out: &mut [u32]) -> u32
     requires { (662 ≤ length out.old) × (a.circuit.km ≤ 5) × (a.circuit.shape ≤ 1) }
-    ensures fact_1 { result ≡ (ported_wide_of a out.old).number }
-    ensures fact_2 { out.new ≡ (ported_wide_of a out.old).cells }
+    ensures value { result ≡ (ported_wide_of a out.old).number }
+    ensures out_after { out.new ≡ (ported_wide_of a out.old).cells }
 {
     let o = a.outcome;
     match o {
@@ -49,10 +51,9 @@ fn answer_into(a: WideAnswer, out: &mut [u32]) -> u32
 }
 
 // The circuit of a file into 657 words, and its F2M3 into five more.
-#[unsafe(no_mangle)]
-pub extern "C" fn port_read128(file: &[u8], out: &mut [u32]) -> u32
-    ensures fact_1 { result ≡ (port_read128 file.now out.old).number }
-    ensures fact_2 { out.new ≡ (port_read128 file.now out.old).cells }
+pub fn port_read128(file: &[u8], out: &mut [u32]) -> u32
+    ensures value { result ≡ (port_read128 file.now out.old).number }
+    ensures out_after { out.new ≡ (port_read128 file.now out.old).cells }
 {
     if 662 <= out.len() {
         let a = wide_circuit::read(file);
@@ -62,8 +63,7 @@ pub extern "C" fn port_read128(file: &[u8], out: &mut [u32]) -> u32
 }
 
 // The file of the circuit and the F2M3 that 662 words hold, and into `out` how many bytes it has.
-#[unsafe(no_mangle)]
-pub extern "C" fn port_write128(words: &[u32], file: &mut [u8], out: &mut [u32]) -> u32
+pub fn port_write128(words: &[u32], file: &mut [u8], out: &mut [u32]) -> u32
     ensures value { result ≡ (port_write128 words.now file.old out.old).number }
     ensures file_after { file.new ≡ (port_write128 words.now file.old out.old).cells }
     ensures out_after { out.new ≡ (port_write128 words.now file.old out.old).words }
