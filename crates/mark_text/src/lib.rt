@@ -1,4 +1,6 @@
 // What `sheet` prints of a slot's marks, put into lent bytes as the crate `lines` puts text.
+#![tactic(auto)]
+
 ghost use Rattle.std.specs.Prelude.{◌<◌};
 ghost use Rattle.lines.specs.Text.{Clipped};
 ghost use Rattle.shapes.specs.Mark.{name_of};
