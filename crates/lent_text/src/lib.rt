@@ -1,4 +1,6 @@
 // A text into bytes that a caller lends, and its length into a word.
+#![tactic(auto)]
+
 ghost use Rattle.std.specs.Prelude.{◌≡◌, ◌≤◌, ◌<◌, length};
 ghost use Rattle.lent_text.specs.Left.{left_by};
 
