@@ -1,5 +1,5 @@
 -- The price of a call by a tariff: tops in tenths of a MHz, rates in cents a minute, one of each for every band.
-use Rattle.std.specs.Prelude.{Bool, true, false, cond, ◌&&◌, List, [], ◌∷◌, ℕ, suc, ◌+◌, ◌*◌, ◌/◌, ◌%◌, eqb, leb, ltb, Float, length, get_or}
+use Rattle.std.specs.Prelude.{Bool, true, cond, ◌&&◌, List, [], ◌∷◌, ℕ, suc, ◌+◌, ◌*◌, ◌/◌, ◌%◌, eqb, leb, ltb, Float, length, get_or}
 use Rattle.figures.specs.Figure.{figure_of}
 use Rattle.figures.specs.declared.Printed.{Printed}
 use Rattle.refusal.specs.declared.Refusal.{Refusal}

@@ -1,5 +1,4 @@
 use mathlib.Core.Path.{sym}
-use Prim.Native.Nat.{◌-◌}
 use native.Mathlib.Omega.{arith}
 use Rattle.tariff.proofs.Meaning.{rising-only, rising-fails, rising-more}
 use Rattle.tariff.proofs.rises.Goals as goal
