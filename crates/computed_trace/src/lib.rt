@@ -1,4 +1,6 @@
 // A computed ionogram's rows as a trace.
+#![tactic(auto)]
+
 ghost use Rattle.std.specs.Prelude.{◌≡◌, true, false, [], map, length};
 ghost use Rattle.figures.specs.Nearest.{times_of};
 ghost use Rattle.computed_trace.specs.Computed.{all_fit, trace_by, trace_of};
