@@ -1,4 +1,6 @@
 // Rows and marks as words.
+#![tactic(auto)]
+
 ghost use Rattle.std.specs.Prelude.{◌≡◌, map, ◌+◌, ◌≤◌, length};
 ghost use Rattle.port_circuit.specs.Words.{words_from, words_into};
 ghost use Rattle.port_state.specs.Words.{floats_of, floats_into};
