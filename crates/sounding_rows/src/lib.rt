@@ -1,6 +1,8 @@
 // The heights of the thirty rows, and the segments of the true ones. With a negative `iedp` all are `gethp`'s. Otherwise the ten E
 // rows are a table's; the others have true heights by `xlin`, and virtual ones by parabolas, or by
 // `gethp` if there is an F1.
+#![tactic(auto)]
+
 ghost use Rattle.std.specs.Prelude.{◌≡◌, ◌<◌, true, false, replicate};
 ghost use Rattle.scalar.specs.Literals.{f0};
 ghost use Rattle.heights.specs.Gethp.{gethp_of};
@@ -23,7 +25,7 @@ const HPE: [f32; 30] = [
 ];
 
 // The two columns of heights, and that of the segments.
-#[derive(Drop)]
+#[derive(Clone, Copy)]
 pub struct Columns {
     pub hprim: [f32; 30],
     pub htrue: [f32; 30],
@@ -65,7 +67,7 @@ fn true_by_profile(s: IonoState, f: f32) -> Found
 }
 
 // The column of true heights and that of their segments.
-#[derive(Drop)]
+#[derive(Clone, Copy)]
 pub struct TrueColumns {
     pub htrue: [f32; 30],
     pub segment: [u32; 30],
