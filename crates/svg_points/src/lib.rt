@@ -5,7 +5,7 @@ ghost use Rattle.std.specs.Prelude.{◌≡◌};
 ghost use Rattle.svg_points.specs.Points.{units_of, point_drawn_of};
 
 // A point of the frame, by its units from the left and from the top of the panel, or none.
-#[derive(Drop)]
+#[derive(Clone, Copy)]
 pub enum Drawn {
     At(u64, u64),
     Nowhere,
