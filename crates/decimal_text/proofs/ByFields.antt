@@ -4,7 +4,7 @@ use mathlib.Core.Path.{◌≡◌, refl, ap, sym}
 use mathlib.Core.Bool.{Bool}
 use native.Mathlib.Omega.{arith}
 use lib.Dec.{eqb-suc-zero}
-use lib.Ieee.{Float, nan, inf, fin, binary32, of_fields}
+use lib.Ieee.{Float, binary32, fin, inf, nan, of_fields}
 use lib.Ieee.Exact.{HasValue}
 use Rattle.scalar.proofs.Patterns.{fields-low, fields-mid}
 use Rattle.decimal_text.specs.declared.Kind.{Kind}
@@ -13,6 +13,8 @@ use Rattle.decimal_text.specs.Number.{finite_kind, infinite_kind, number_kind_of
 kind_at : (v : Float) (s : Bool) (n d : ℕ) → HasValue v s n d → finite_kind s ≡ number_kind_of v
 unfolding number_kind_of
 kind_at (fin t m e) s n d h = ap finite_kind (sym h.0)
+kind_at nan s n d h = elim h [ ]
+kind_at (inf _) s n d h = elim h [ ]
 
 pub finite : (s : Bool) (x t : ℕ) → x < 255 → finite_kind s ≡ number_kind_of (of_fields binary32 s x t)
 finite s zero t l = kind_at _ s _ _ (fields-low s t)

@@ -1,0 +1,20 @@
+-- What was put into the bytes of its own is read back.
+use mathlib.Core.Bool.{false}
+use native.Mathlib.Omega.{arith}
+use Rattle.lines.proofs.Placing.{fits, put-taken}
+use Rattle.decimal_text.specs.Number.{signed_text}
+use Rattle.decimal_text.proofs.Widths.{signed-most}
+use Rattle.decimal_text.proofs.put_plus_units.Goals as goal
+
+pub slice_bounds-put_right-end : goal.slice_bounds-put_right-end
+unfolding signed_text
+slice_bounds-put_right-end c =
+    let a = c.args in
+    (fits c.put_placed-k.ensures (omega (arith, (signed-most false a.places a.n c.requires).most))).1.1
+
+pub returns : goal.returns
+unfolding signed_text
+returns c =
+    let a = c.args in
+    let p = fits c.put_placed-k.ensures (omega (arith, (signed-most false a.places a.n c.requires).most)) in
+    rw (← put-taken p.0 p.1.0) c.put_right.ensures
