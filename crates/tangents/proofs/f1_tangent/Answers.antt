@@ -4,8 +4,8 @@ use Rattle.tangents.proofs.f1_tangent.Goals as goal
 
 pub returns-then-l : goal.returns-then-l
 unfolding fx1_of
-returns-then-l c = rw (c.struct_known-1.given.1, c.if-l.true, ← c.tangent_ratio-xt1.ensures, c.struct_known-then-l-1.given.1)
+returns-then-l c = rw (c.if-l.true, ← c.tangent_ratio-xt1.ensures)
 
 pub returns : goal.returns
 unfolding fx1_of
-returns c = rw (c.struct_known-1.given.1, c.if-l.false)
+returns c = rw (c.if-l.false)

@@ -4,8 +4,8 @@ use Rattle.tangents.proofs.f2_tangent.Goals as goal
 
 pub returns-then-gcdkm : goal.returns-then-gcdkm
 unfolding f2_tangent_of
-returns-then-gcdkm c = rw (← c.tangent_ratio-xt2.ensures, c.struct_known-1.given.1, c.if-gcdkm.true, ← c.short_path-beta.ensures)
+returns-then-gcdkm c = rw (← c.tangent_ratio-xt2.ensures, c.if-gcdkm.true, ← c.short_path-beta.ensures)
 
 pub returns : goal.returns
 unfolding f2_tangent_of
-returns c = rw (← c.tangent_ratio-xt2.ensures, c.struct_known-1.given.1, c.if-gcdkm.false)
+returns c = rw (← c.tangent_ratio-xt2.ensures, c.if-gcdkm.false)

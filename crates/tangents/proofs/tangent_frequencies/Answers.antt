@@ -4,4 +4,4 @@ use Rattle.tangents.proofs.tangent_frequencies.Goals as goal
 
 pub returns : goal.returns
 unfolding tangents_of
-returns c = rw (← c.tangent_ratio-xte.ensures, ← c.f1_tangent-fx1.ensures, ← c.f2_tangent-f2.ensures, c.struct_known-1.given.1)
+returns c = rw (← c.tangent_ratio-xte.ensures, ← c.f1_tangent-fx1.ensures, ← c.f2_tangent-f2.ensures)
