@@ -1,4 +1,6 @@
 // The circuit that a text says, line by line, or the first line with something wrong.
+#![tactic(auto)]
+
 mod given;
 
 ghost use Rattle.std.specs.Prelude.{◌≡◌, ◌||◌, ◌+◌, ◌≤◌, ◌<◌, min, eqb, length, drop};
