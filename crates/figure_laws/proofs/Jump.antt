@@ -1,18 +1,18 @@
 -- The nearest whole number is at most a half away, so two of them are at most one further apart than their fractions; and it does not fall where the fraction does not. A number with a minus that prints 0.0 has a size whose nearest number of tenths is 0.
 use mathlib.Core.Bool.{Bool, true, false, cond}
-use mathlib.Core.Path.{◌≡◌, refl, sym, ap, ◌∙◌}
-use Prim.Native.Nat.{ℕ, zero, suc, ◌+◌, ◌-◌, ◌*◌, ◌^◌, ◌≤◌, ◌<◌}
+use mathlib.Core.Path.{◌≡◌, refl}
+use Prim.Native.Nat.{ℕ, zero, suc, ◌+◌, ◌*◌, ◌≤◌, ◌<◌}
 use native.Mathlib.Nat.{mul-le-mul_right, le_of_mul-le-mul_right, le_antisymm, mul-pos}
 use native.Mathlib.Omega.{arith}
 use borrow.Author.Tests.{ltb-true, ltb-false}
 use lib.Dec.{leb, ltb, leb→le}
-use lib.IntN.{ℤ, pos, negsuc}
-use lib.Ieee.{Float, nan, inf, fin, up, down, binary32, of_bits}
+use lib.IntN.{ℤ}
+use lib.Ieee.{nan, inf, fin, up, down, of_bits}
 use lib.Ieee.Fits.{down_pos}
 use Rattle.rounding.specs.TiesToEven.{gap}
 use Rattle.figures.specs.declared.Printed.{Printed}
 use Rattle.figures.specs.Figure.{signed_tenths, figure_of}
-use Rattle.figures.specs.Nearest.{nearest, HalfToEven}
+use Rattle.figures.specs.Nearest.{nearest}
 use Rattle.figures.proofs.HalfToEven.{nearest-is, nearest-same, below_half}
 use Rattle.figure_laws.specs.Jump.{Within, NotAbove, Jump, Keeps, Reached}
 

@@ -1,15 +1,11 @@
 -- By the least whole number of cents: what reaches a product with one second more reaches the product, and the cents of the one and of the rate together reach the other.
-use mathlib.Core.List.{List}
-use mathlib.Core.Path.{◌≡◌}
 use Prim.Native.Nat.{ℕ, ◌+◌, ◌*◌, ◌≤◌}
 use native.Mathlib.Omega.{arith}
-use lib.Ieee.{Float}
 use lib.ListN.{get_or}
-use Rattle.tariff.specs.declared.Charge.{Charge}
-use Rattle.tariff.specs.Price.{price_of, rounded_up}
+use Rattle.tariff.specs.Price.{rounded_up}
 use Rattle.tariff.specs.Meaning.{LeastCents}
 use Rattle.tariff.proofs.Meaning.{price-rule, cents-rule}
-use Rattle.figure_laws.specs.Second.{OneMore, OneSecondMore}
+use Rattle.figure_laws.specs.Second.{OneSecondMore}
 
 less : (r s c more : ℕ) → LeastCents (r * s) c → LeastCents (r * (s + 1)) more → c ≤ more
 less r s c more p q = p.least more (let h = q.reaches in omega arith)

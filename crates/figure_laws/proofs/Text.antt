@@ -5,7 +5,7 @@ use mathlib.Core.Path.{◌≡◌, refl, sym, ap, ◌∙◌}
 use Prim.Native.Nat.{ℕ, zero, suc, ◌+◌, ◌-◌, ◌*◌, ◌/◌, ◌%◌, ◌^◌, ◌≤◌, ◌<◌}
 use native.Mathlib.Nat.{pow-succ'}
 use native.Mathlib.Omega.{arith}
-use borrow.Author.Tests.{leb-true, lt-ltb, le-ltb, ltb-true, ltb-false}
+use borrow.Author.Tests.{leb-true, lt-ltb, le-ltb, ltb-true}
 use lib.Dec.{leb, ltb}
 use lib.Ieee.{Float, nan, inf, fin, up, down}
 use lib.ListN.{length}
@@ -14,7 +14,7 @@ use Rattle.lines.specs.Text.{space, tens_by, decimal_in, decimal_of, joined}
 use Rattle.figures.specs.Figure.{signed_tenths, figure_of}
 use Rattle.figures.specs.Nearest.{nearest}
 use Rattle.figures.specs.declared.Printed.{Printed}
-use Rattle.figure_text.specs.FigureText.{point, spaces, padded_to_five, tenths_text, figure_text}
+use Rattle.figure_text.specs.FigureText.{point, spaces, tenths_text, figure_text}
 use Rattle.figure_laws.specs.Text.{Texts}
 
 value : ℕ → List ℕ → ℕ
