@@ -8,7 +8,7 @@ ghost use Rattle.scan_angles.specs.Angles.{ANG as Angles-as-ANG, NANGX as Angles
 use refusal::Refusal;
 
 // How many of the scan's angles apply to a path.
-#[derive(Drop)]
+#[derive(Clone, Copy)]
 pub enum Scan {
     Angles(usize),
     Refused(Refusal),
