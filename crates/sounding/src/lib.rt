@@ -1,4 +1,6 @@
 // `genion`: a slot's thirty sounding frequencies, and the virtual and the true height of each.
+#![tactic(auto)]
+
 ghost use Rattle.std.specs.Prelude.{◌≡◌, ◌<◌};
 ghost use Rattle.sounding.specs.Genion.{fvert_at, genion_of, refused_rows, genion_answer};
 
