@@ -1,5 +1,7 @@
 // Circuit files turned from the paper's form into the one that carries F2M3, F2M3 then being +0, and back. What is written is
 // in chain order, without the records off the chain, and without deciles that are all +0.
+#![tactic(auto)]
+
 ghost use Rattle.std.specs.Prelude.{◌≤◌, ◌≡◌, true, [], length, replicate};
 ghost use Rattle.io.specs.Counts.{IsPrefixLen};
 ghost use Rattle.lines.specs.Text.{Clipped, Put};
