@@ -1,4 +1,6 @@
 // Heights, a number found on a grid, a reading and a layer's number as words.
+#![tactic(auto)]
+
 ghost use Rattle.std.specs.Prelude.{◌≡◌, ◌≤◌, length};
 ghost use Rattle.port_state.specs.Words.{floats_into};
 ghost use Rattle.parabolas.specs.Bendy.{layer_number_of, layer_values_of};
