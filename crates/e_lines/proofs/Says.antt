@@ -16,6 +16,6 @@ e-by : (g : Geometry) (h : HeightPair) (fxe : Float) → LineIs (e_line_by g h f
 e-by (Geometry.Found g) h fxe = (refl, refl)
 e-by (Geometry.Refused r) h fxe = (refl, rw (no_answer r))
 
-pub e-says : (r : LineAnswer) (t : IonoState) (fxe gcdkm amind : Float) → r ≡ e_line_of t fxe gcdkm amind → (r ≡ e_line_of t fxe gcdkm amind) × ESays r t fxe gcdkm amind
+pub e-says : (r : LineAnswer) (t : IonoState) (fxe gcdkm amind : Float) → r ≡ e_line_of t fxe gcdkm amind → ESays r t fxe gcdkm amind
 unfolding e_line_with ESays
-e-says r t fxe gcdkm amind e = let h = e_heights_with gethp_of t fxe in (e, rw e (e-by (geometry_of gcdkm amind h.hp h.ht true) h fxe))
+e-says r t fxe gcdkm amind e = let h = e_heights_with gethp_of t fxe in rw e (e-by (geometry_of gcdkm amind h.hp h.ht true) h fxe)

@@ -10,7 +10,7 @@ use layers::{IonoState, LayerMuf};
 use refusal::Refusal;
 
 // Virtual and true height.
-#[derive(Drop)]
+#[derive(Clone, Copy)]
 pub struct HeightPair {
     pub hp: f32,
     pub ht: f32,

@@ -1,0 +1,11 @@
+-- Each path is the clause that its tests choose; each call is what its contract says.
+use Rattle.e_lines.specs.Lines.{e_heights_with}
+use Rattle.e_lines.proofs.e_heights.Goals as goal
+
+pub returns-then-profile_only : goal.returns-then-profile_only
+unfolding e_heights_with
+returns-then-profile_only c = rw (← c.profile_only.ensures, c.if-profile_only.true, ← c.gethp-h.ensures)
+
+pub returns : goal.returns
+unfolding e_heights_with
+returns c = rw (← c.profile_only.ensures, c.if-profile_only.false)
