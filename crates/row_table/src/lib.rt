@@ -1,4 +1,6 @@
 // A slot's rows for the eye: numbers in decimals, in columns.
+#![tactic(auto)]
+
 ghost use Rattle.std.specs.Prelude.{◌≤◌, ◌<◌};
 ghost use Rattle.lines.specs.Text.{Clipped};
 ghost use Rattle.aligned.specs.Aligned.{right};
