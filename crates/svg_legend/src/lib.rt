@@ -1,4 +1,6 @@
 // The legend of the picture, as SVG in lent bytes.
+#![tactic(auto)]
+
 ghost use Rattle.lines.specs.Text.{Clipped};
 ghost use Rattle.svg_legend.specs.Legend.{shapes_text, lines_text};
 
