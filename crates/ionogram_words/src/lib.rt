@@ -1,4 +1,6 @@
 // The angle count as a word, and rows with their marks as words.
+#![tactic(auto)]
+
 ghost use Rattle.std.specs.Prelude.{◌≡◌, ◌≤◌, length};
 ghost use Rattle.scan_angles.specs.Angles.{scan_value};
 ghost use Rattle.port_layouts.specs.Layouts.{ionogram_into, marks_into};
