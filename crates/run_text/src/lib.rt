@@ -1,4 +1,6 @@
 // A slot's marks for the eye: heights that follow one another with one mark are a run, and a run is a line.
+#![tactic(auto)]
+
 ghost use Rattle.std.specs.Prelude.{◌≡◌, not, ◌<◌};
 ghost use Rattle.lines.specs.Text.{Clipped};
 ghost use Rattle.run_text.specs.RunText.{mark_at, same_mark, begins_at, ends_at, start_text, end_text, run_text, runs_text};
