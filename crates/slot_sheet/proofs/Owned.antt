@@ -5,7 +5,6 @@ use mathlib.Core.Path.{◌≡◌, refl, ap}
 use Prim.Native.Nat.{ℕ}
 use native.Mathlib.Omega.{arith}
 use lib.Dec.{leb}
-use lib.IntN.{ℤ}
 use Rattle.refusal.specs.Number.{outcome_number}
 use Rattle.refusal.specs.declared.Refusal.{Refusal}
 use Rattle.refusal.specs.declared.Outcome.{Outcome}
@@ -13,7 +12,6 @@ use Rattle.layers.specs.Owners.{owner_by, owner_of}
 use Rattle.layers.specs.declared.IonoState.{IonoState}
 use Rattle.layers.specs.declared.LayerMuf.{LayerMuf}
 use Rattle.layers.specs.declared.Owner.{Owner}
-use Rattle.profile.specs.Lecden.{lecden_of}
 use Rattle.profile.proofs.Owns.{lecden-owner}
 use Rattle.heights.specs.Gethp.{gethp_of}
 use Rattle.reflectrix.specs.Fobby.{room_for}

@@ -1,5 +1,7 @@
 // The slot sheet: a slot's profile, its ionogram, its reflectrix and its loss factors in one call,
 // and which shape made each density of the profile.
+#![tactic(auto)]
+
 ghost use Rattle.std.specs.Prelude.{◌≡◌};
 ghost use Rattle.slot_sheet.specs.Sheet.{refused_sheet, slot_sheet_of, sheet_cells_of};
 
@@ -11,7 +13,7 @@ use shapes::HeightMark;
 // The ionogram of a slot, the marks of its fifty heights, and the state as `lecden` of the slot left
 // it. Beside a refusal every number of the ionogram is +0, no height is marked, and the state is as
 // it came.
-#[derive(Drop)]
+#[derive(Clone, Copy)]
 pub struct SlotSheet {
     pub outcome: Outcome,
     pub state: IonoState,
