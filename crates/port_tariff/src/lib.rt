@@ -1,4 +1,6 @@
 // The price of a call for callers in any language: words in, words out. The function answers 0, or the number of its refusal, and then leaves every lent word as it was.
+#![tactic(auto)]
+
 ghost use Rattle.std.specs.Prelude.{◌≡◌, ◌≤◌, length};
 ghost use Rattle.tariff.specs.Price.{charge_number};
 ghost use Rattle.port_tariff.specs.Exports.{charge_into, price_left};
@@ -19,14 +21,7 @@ fn charge_into(a: Charge, out: &mut [u32]) -> u32
 }
 
 // muf: its bits; tops in tenths of a MHz, rates in cents a minute; out: the cents
-#[unsafe(no_mangle)]
-pub extern "C" fn port_price(
-    muf: u32,
-    tops: &[u32],
-    rates: &[u32],
-    seconds: u32,
-    out: &mut [u32],
-) -> u32
+pub fn port_price(muf: u32, tops: &[u32], rates: &[u32], seconds: u32, out: &mut [u32]) -> u32
     ensures { (result ≡ (price_left muf tops.now rates.now seconds out.old).number) × (out.new ≡ (price_left muf tops.now rates.now seconds out.old).words) }
 {
     if out.len() < 1 {
