@@ -7,7 +7,6 @@ use Rattle.circuit.specs.declared.Circuit.{Circuit}
 use Rattle.circuit.specs.Read.{read_of}
 use Rattle.circuit_write.specs.declared.WriteAnswer.{WriteAnswer}
 use Rattle.circuit_write.specs.Written.{size_of, write_answer_of, left_of}
-use Rattle.compose_text.specs.declared.Draft.{Draft}
 use Rattle.compose_text.specs.Draft.{composed_of}
 
 -- of every text without a wrong line, and cells lent with room for the longest file: 54 records of 64 bytes, one of the path, five
