@@ -1,12 +1,13 @@
 // Heights for callers in any language: words in, words out. Each function answers 0, or the number of its refusal, and then leaves every lent word as it was.
+#![tactic(auto)]
+
 ghost use Rattle.std.specs.Prelude.{◌≡◌};
 ghost use Rattle.port_heights.specs.Exports.{gethp_left, gethp_scan_left, reading_left, bendy_left, pen_left, xlin_left};
 
 use port_state::STATE_WORDS;
 
 // state STATE_WORDS words; out: hp, ht, cursor, segment
-#[unsafe(no_mangle)]
-pub extern "C" fn port_gethp(state: &[u32], fxx: u32, out: &mut [u32]) -> u32
+pub fn port_gethp(state: &[u32], fxx: u32, out: &mut [u32]) -> u32
     ensures { (result ≡ (gethp_left state.now fxx out.old).number) × (out.new ≡ (gethp_left state.now fxx out.old).words) }
 {
     if state.len() < STATE_WORDS {
@@ -23,8 +24,7 @@ pub extern "C" fn port_gethp(state: &[u32], fxx: u32, out: &mut [u32]) -> u32
 }
 
 // the same by forty scans on every profile
-#[unsafe(no_mangle)]
-pub extern "C" fn port_gethp_scan(state: &[u32], fxx: u32, out: &mut [u32]) -> u32
+pub fn port_gethp_scan(state: &[u32], fxx: u32, out: &mut [u32]) -> u32
     ensures { (result ≡ (gethp_scan_left state.now fxx out.old).number) × (out.new ≡ (gethp_scan_left state.now fxx out.old).words) }
 {
     if state.len() < STATE_WORDS {
@@ -41,8 +41,7 @@ pub extern "C" fn port_gethp_scan(state: &[u32], fxx: u32, out: &mut [u32]) -> u
 }
 
 // the density at the height zi, by a scan; out: the kind (floor 0, segment 1, top 2), the density, the segment
-#[unsafe(no_mangle)]
-pub extern "C" fn port_reading(state: &[u32], zi: u32, out: &mut [u32]) -> u32
+pub fn port_reading(state: &[u32], zi: u32, out: &mut [u32]) -> u32
     ensures { (result ≡ (reading_left state.now zi out.old).number) × (out.new ≡ (reading_left state.now zi out.old).words) }
 {
     if state.len() < STATE_WORDS {
@@ -61,8 +60,7 @@ pub extern "C" fn port_reading(state: &[u32], zi: u32, out: &mut [u32]) -> u32
 }
 
 // layer i of slot k; out: the value
-#[unsafe(no_mangle)]
-pub extern "C" fn port_bendy(state: &[u32], i: u32, k: u32, f: u32, out: &mut [u32]) -> u32
+pub fn port_bendy(state: &[u32], i: u32, k: u32, f: u32, out: &mut [u32]) -> u32
     ensures { (result ≡ (bendy_left state.now i k f out.old).number) × (out.new ≡ (bendy_left state.now i k f out.old).words) }
 {
     if state.len() < STATE_WORDS {
@@ -77,8 +75,7 @@ pub extern "C" fn port_bendy(state: &[u32], i: u32, k: u32, f: u32, out: &mut [u
     height_words::layer_into(a, out)
 }
 
-#[unsafe(no_mangle)]
-pub extern "C" fn port_pen(state: &[u32], i: u32, k: u32, f: u32, out: &mut [u32]) -> u32
+pub fn port_pen(state: &[u32], i: u32, k: u32, f: u32, out: &mut [u32]) -> u32
     ensures { (result ≡ (pen_left state.now i k f out.old).number) × (out.new ≡ (pen_left state.now i k f out.old).words) }
 {
     if state.len() < STATE_WORDS {
@@ -94,8 +91,7 @@ pub extern "C" fn port_pen(state: &[u32], i: u32, k: u32, f: u32, out: &mut [u32
 }
 
 // xn and yn 50 words each; out: the value, the segment
-#[unsafe(no_mangle)]
-pub extern "C" fn port_xlin(x: u32, xn: &[u32], yn: &[u32], out: &mut [u32]) -> u32
+pub fn port_xlin(x: u32, xn: &[u32], yn: &[u32], out: &mut [u32]) -> u32
     ensures { (result ≡ (xlin_left x xn.now yn.now out.old).number) × (out.new ≡ (xlin_left x xn.now yn.now out.old).words) }
 {
     if xn.len() < 50 {
