@@ -1,5 +1,5 @@
 -- `gethp_read` is told whether to walk, and promises the walk's numbers for whatever fifty heights are lent, rising or not: each of the forty reads goes on from the cursor that the one before left (`walk_read`). Where the heights rise these are the numbers of forty scans, with the cursor counted by the paper's rule, so there no promise about numbers can tell which way they were found. Where they do not rise they are not: code that scans, or that counts the cursor, does not meet the promise.
-use Rattle.std.specs.Prelude.{true, false, List, ◌≡◌, ℕ, length, Float}
+use Rattle.std.specs.Prelude.{true, false, List, ◌≡◌, length, Float}
 use Rattle.scalar.specs.F32.{◌-f◌, ◌*f◌, ◌≤f◌, at}
 use Rattle.scalar.specs.Literals.{f0}
 use Rattle.readings.specs.Cursor.{count_of}
