@@ -1,9 +1,8 @@
 -- What `compose` prints of a text: the file of its circuit, or the number of the first wrong line and what is wrong.
-use Rattle.std.specs.Prelude.{ℕ, min, Bool, true, false, cond, List, [], ◌∷◌, eqb, ltb, length}
+use Rattle.std.specs.Prelude.{ℕ, min, cond, List, [], ◌∷◌, eqb, ltb, length}
 use Rattle.std.proofs.lemmas.List.Edits.{sets}
 use Rattle.fault_text.specs.FaultText.{wrong_text}
 use Rattle.records.specs.Record.{form64}
-use Rattle.circuit.specs.declared.Circuit.{Circuit}
 use Rattle.circuit_write.specs.Written.{write_answer_of, left_of, length_in}
 use Rattle.compose_text.specs.declared.Draft.{Draft}
 use Rattle.compose_text.specs.Draft.{composed_of}

@@ -1,4 +1,6 @@
 // What `compose` prints of a text: the file of its circuit, or the number of the first wrong line and what is wrong.
+#![tactic(auto)]
+
 ghost use Rattle.std.specs.Prelude.{◌≡◌, ◌≤◌, length};
 ghost use Rattle.circuit_write.specs.Written.{length_in};
 ghost use Rattle.io.specs.Counts.{IsPrefixLen};
