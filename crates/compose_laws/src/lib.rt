@@ -1,3 +1,5 @@
 #![tactic(auto)]
 
 // The laws of composed texts, over their definitions: no code.
+
+#![tactic(auto)]
