@@ -1,4 +1,6 @@
 // The line of a layer in a MUF hour, and the E line.
+#![tactic(auto)]
+
 ghost use Rattle.std.specs.Prelude.{◌≡◌};
 ghost use Rattle.heights.specs.Gethp.{gethp_of};
 ghost use Rattle.e_lines.specs.Lines.{tenth_of, layer_line_of, zero_line, e_heights_with, e_found_of, e_line_of};
