@@ -1,5 +1,7 @@
 // What every picture begins with, put into lent bytes: its size, the forms and colours, the frame with its
 // axes, the circuit MUF and the legend.
+#![tactic(auto)]
+
 ghost use Rattle.std.specs.Prelude.{◌≤◌};
 ghost use Rattle.lines.specs.Text.{Clipped};
 ghost use Rattle.svg_frame.specs.Frame.{size_text, style_text, dots_text, forms_text, call_text, defined_text, head_text};
