@@ -1,4 +1,6 @@
 // Turns the circuit file with 128-byte records on standard input into one with 64-byte records.
+#![tactic(auto)]
+
 fn main() {
     let mut file = [0u8; circuit_turn::NEW_INPUT];
     let n = io::read_full(0, &mut file);
