@@ -25,7 +25,7 @@ def prototype(name, arguments, answer):
 exports = {}
 for path in sorted((ROOT / "crates").glob("*/src/**/*.rt")):
     text = path.read_text()
-    for m in re.finditer(r'#\[no_mangle\]\s*pub extern "C" fn (\w+)\(([^)]*)\)\s*->\s*(\w+)', text):
+    for m in re.finditer(r'#\[unsafe\(no_mangle\)\]\s*pub extern "C" fn (\w+)\(([^)]*)\)\s*->\s*(\w+)', text):
         exports[m[1]] = prototype(*m.groups())
 header = {}
 text = re.sub(r"/\*.*?\*/", "", (ROOT / "include/frequency_sheet.h").read_text(), flags=re.S)
