@@ -32,9 +32,9 @@ both_by_lem (Deviation.Value l) (Deviation.Value u) = (refl, refl, refl)
 both_by_lem (Deviation.Value l) (Deviation.Refused r) = (refl, rw (no_answer r), rw (no_answer r))
 both_by_lem (Deviation.Refused r) u = (rw (no_answer r), rw (no_answer r, no_answer r), rw (no_answer r, no_answer r))
 
-pub deviations-say : (r : Deviations) (f2d : List Float) (f2muf ssn clat clck : Float) → r ≡ deviations_of f2d f2muf ssn clat clck → (r ≡ deviations_of f2d f2muf ssn clat clck) × DeviationsSay r f2d f2muf ssn clat clck
+pub deviations-say : (r : Deviations) (f2d : List Float) (f2muf ssn clat clck : Float) → r ≡ deviations_of f2d f2muf ssn clat clck → DeviationsSay r f2d f2muf ssn clat clck
 unfolding deviations_of DeviationsSay
-deviations-say r f2d f2muf ssn clat clck e = (e, rw e (both_by_lem (f2dis_of f2d f2muf ssn clat (f0_9 *f f2muf) clck) (f2dis_of f2d f2muf ssn clat (f1_1 *f f2muf) clck)))
+deviations-say r f2d f2muf ssn clat clck e = rw e (both_by_lem (f2dis_of f2d f2muf ssn clat (f0_9 *f f2muf) clck) (f2dis_of f2d f2muf ssn clat (f1_1 *f f2muf) clck))
 
 bent-by : (sig : Deviations) (b : Round) (ht fx2 xhops : Float) → LineIs (f2_bent_by sig b ht fx2 xhops) (deviations_number sig) (layer_line_of (lower_value sig) (upper_value sig) b.del b.hp ht fx2 xhops b.fob)
 bent-by (Deviations.Both l u) b ht fx2 xhops = (refl, refl)
@@ -45,9 +45,9 @@ unfolding f2_bent_of
 f2-by (Geometry.Found g) l h x f2d clat clck c = let b = bent_of l.fi2 x.fx2 h g in bent-by (deviations_of f2d b.fob c.ssn clat clck) b h.ht x.fx2 g.xhops
 f2-by (Geometry.Refused r) l h x f2d clat clck c = (rw (no_answer r), rw (no_answer r, no_answer r))
 
-pub f2-says : (r : LineAnswer) (t : IonoState) (l : Slot) (x : Tangents) (f2d : List Float) (clat clck : Float) (c : PathNumbers) → r ≡ f2_line_of t l x f2d clat clck c → (r ≡ f2_line_of t l x f2d clat clck c) × F2Says r t l x f2d clat clck c
+pub f2-says : (r : LineAnswer) (t : IonoState) (l : Slot) (x : Tangents) (f2d : List Float) (clat clck : Float) (c : PathNumbers) → r ≡ f2_line_of t l x f2d clat clck c → F2Says r t l x f2d clat clck c
 unfolding f2_line_with F2Says
-f2-says r t l x f2d clat clck c e = let h = f2_heights_with gethp_of t l x in (e, rw e (f2-by (geometry_of c.gcdkm c.amind h.hp h.ht false) l h x f2d clat clck c))
+f2-says r t l x f2d clat clck c e = let h = f2_heights_with gethp_of t l x in rw e (f2-by (geometry_of c.gcdkm c.amind h.hp h.ht false) l h x f2d clat clck c)
 
 own-by : (g : Geometry) (h : HeightPair) (fc fx1 : Float) → LineIs (f1_own_by g h fc fx1) (geometry_number g) (f1_found_of (geometry_value g) h fc fx1)
 own-by (Geometry.Found g) h fc fx1 = (refl, refl)
@@ -58,6 +58,6 @@ unfolding f1_own_with
 f1-by true t l fx1 e gcdkm amind = (refl, refl)
 f1-by false t l fx1 e gcdkm amind = let h = read_with gethp_of t fx1 in own-by (geometry_of gcdkm amind h.hp h.ht true) h l.fi1 fx1
 
-pub f1-says : (r : LineAnswer) (t : IonoState) (l : Slot) (fx1 : Float) (m : LayerMuf) (gcdkm amind : Float) → r ≡ f1_line_of t l fx1 m gcdkm amind → (r ≡ f1_line_of t l fx1 m gcdkm amind) × F1Says r t l fx1 m gcdkm amind
+pub f1-says : (r : LineAnswer) (t : IonoState) (l : Slot) (fx1 : Float) (m : LayerMuf) (gcdkm amind : Float) → r ≡ f1_line_of t l fx1 m gcdkm amind → F1Says r t l fx1 m gcdkm amind
 unfolding f1_line_with F1Says
-f1-says r t l fx1 m gcdkm amind e = (e, rw e (f1-by (l.fi1 ≤f f0) t l fx1 m gcdkm amind))
+f1-says r t l fx1 m gcdkm amind e = rw e (f1-by (l.fi1 ≤f f0) t l fx1 m gcdkm amind)

@@ -1,4 +1,6 @@
 // The F2 and F1 lines of a MUF hour.
+#![tactic(auto)]
+
 ghost use Rattle.std.specs.Prelude.{◌≡◌};
 ghost use Rattle.heights.specs.Gethp.{gethp_of};
 ghost use Rattle.layer_mufs.specs.Lines.{parabolic_of, f2_heights_with, bent_of, deviations_of, f2_bent_of, f2_line_of, f1_found_of, f1_own_with, f1_line_of};
@@ -14,7 +16,7 @@ use tangents::Tangents;
 
 // The numbers of a circuit: path length in radians and in kilometres, least takeoff angle in
 // degrees, sunspot number.
-#[derive(Drop)]
+#[derive(Clone, Copy)]
 pub struct PathNumbers {
     pub gcd: f32,
     pub gcdkm: f32,
