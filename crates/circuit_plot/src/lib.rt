@@ -6,7 +6,7 @@ use circuit_sheet::Sheet;
 use layers::IonoState;
 
 // Fifty heights in km, and at each the square of the plasma frequency, in MHz².
-#[derive(Drop)]
+#[derive(Clone, Copy)]
 pub struct Profile {
     pub htr: [f32; 50],
     pub fnsq: [f32; 50],

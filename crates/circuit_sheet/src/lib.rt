@@ -10,7 +10,7 @@ use scan_angles::Scan;
 use shapes::HeightMark;
 
 // What the sheet has of a slot: its ionogram, and the marks of its fifty heights.
-#[derive(Drop)]
+#[derive(Clone, Copy)]
 pub struct SlotRows {
     pub ion: Ionogram,
     pub marks: [HeightMark; 50],
@@ -18,7 +18,7 @@ pub struct SlotRows {
 
 // Beside a refusal there is no slot, and every number is +0; so are the rows of a slot that is not there,
 // and it has no marks.
-#[derive(Drop)]
+#[derive(Clone, Copy)]
 pub struct Sheet {
     pub outcome: Outcome,
     pub hour: MufHour,

@@ -34,7 +34,7 @@ pub struct Mode {
     pub modmuf: i32,
 }
 
-#[derive(Drop)]
+#[derive(Clone, Copy)]
 pub struct MufHour {
     pub emuf: f32,
     pub f1muf: f32,
