@@ -1,4 +1,6 @@
 // What a MUF is worked out of: numbers in their domain, lists that reach, and how many Es rows.
+#![tactic(auto)]
+
 ghost use Rattle.std.specs.Prelude.{◌≡◌};
 ghost use Rattle.muf_domain.specs.Domain.{within_of, in_domain, lists_reach, taken_rows, row_count_of};
 
