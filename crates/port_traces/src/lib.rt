@@ -1,5 +1,7 @@
 // Two traces held against one another, for callers in any language: words in, words out. Each function answers 0, or the number
 // of its refusal, and then leaves everything lent as it was.
+#![tactic(auto)]
+
 ghost use Rattle.std.specs.Prelude.{◌≡◌, ◌++◌, ◌+◌, ◌≤◌, length, drop};
 ghost use Rattle.port_state.specs.Words.{floats_of};
 ghost use Rattle.traces.specs.Lines.{comparison_number, count_in};
@@ -23,8 +25,7 @@ fn count_into(c: Comparison, out: &mut [u32]) -> u32
 }
 
 // The kHz and heights of the first trace, a and ah, and of the second, b and bh; the lines into three lists; out: their count.
-#[unsafe(no_mangle)]
-pub extern "C" fn port_compare(
+pub fn port_compare(
     a: &[u32],
     ah: &[u32],
     b: &[u32],
@@ -95,8 +96,7 @@ fn trace_into(t: TraceAnswer, khz: &mut [u32], height: &mut [u32]) -> u32
 }
 
 // rows: fvert and hprim of thirty rows, 60 words, with which an ionogram's 150 begin; khz and height: 30 words each.
-#[unsafe(no_mangle)]
-pub extern "C" fn port_trace(rows: &[u32], khz: &mut [u32], height: &mut [u32]) -> u32
+pub fn port_trace(rows: &[u32], khz: &mut [u32], height: &mut [u32]) -> u32
     ensures value { result ≡ (port_trace rows.now khz.old height.old).number }
     ensures khz_after { khz.new ≡ (port_trace rows.now khz.old height.old).khz }
     ensures height_after { height.new ≡ (port_trace rows.now khz.old height.old).height }

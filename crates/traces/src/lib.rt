@@ -8,7 +8,7 @@ ghost use Rattle.traces.specs.Lines.{column, ready as readyOf, compared_of, comp
 
 use refusal::Refusal;
 
-#[derive(Drop)]
+#[derive(Clone, Copy)]
 pub enum Comparison {
     // how many
     Lines(usize),
