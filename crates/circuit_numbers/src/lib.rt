@@ -1,4 +1,6 @@
 // The numbers that the words of a circuit stand for.
+#![tactic(auto)]
+
 ghost use Rattle.std.specs.Prelude.{◌≡◌, ◌+◌, ◌<◌};
 ghost use Rattle.circuit_numbers.specs.Numbers.{three_at, layers_at, params_of, es_of, column_of, shaped_of, path_of};
 
