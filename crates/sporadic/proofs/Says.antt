@@ -2,7 +2,6 @@
 use mathlib.Core.Bool.{Bool, true, false, cond}
 use mathlib.Core.Path.{◌≡◌, refl}
 use Prim.Native.Nat.{ℕ, zero, suc, ◌+◌}
-use lib.Dec.{eqb}
 use Rattle.scalar.specs.F32.{◌≤f◌}
 use Rattle.scalar.specs.Literals.{f0}
 use Rattle.refusal.proofs.Numbers.{no_answer}
@@ -24,9 +23,9 @@ row-by : (passed : Bool) (a : EsSearch) (k : ℕ) (row : EsRow) (c : PathNumbers
 row-by true a k row c = (refl, refl)
 row-by false a k row c = hop-by (hops_of c.gcdkm c.amind row.hs) a k row c
 
-pub row-says : (r : EsStep) (a : EsSearch) (k : ℕ) (row : EsRow) (c : PathNumbers) → r ≡ es_row_of a k row c → (r ≡ es_row_of a k row c) × RowSays r a k row c
+pub row-says : (r : EsStep) (a : EsSearch) (k : ℕ) (row : EsRow) (c : PathNumbers) → r ≡ es_row_of a k row c → RowSays r a k row c
 unfolding es_row_of RowSays
-row-says r a k row c e = (e, rw e (row-by (row.fs1 ≤f f0) a k row c))
+row-says r a k row c e = rw e (row-by (row.fs1 ≤f f0) a k row c)
 
 next-by : (r : EsStep) (rest : EsSearch → EsStep) (number : EsSearch → ℕ) (value : EsSearch → EsSearch) → ((b : EsSearch) → StepIs (rest b) (number b) (value b)) → StepIs (next_by r rest) (first_refusal_number (es_step_number r) (number (step_value r))) (value (step_value r))
 next-by (EsStep.Next b) rest number value h = h b
@@ -37,6 +36,6 @@ unfolding es_from rows_number rows_value
 all-rows row c zero k a = (refl, refl)
 all-rows row c (suc n) k a = next-by (es_row_of a k (row k) c) (λ b. es_from row c n (k + 1) b) (λ b. rows_number row c n (k + 1) b) (λ b. rows_value row c n (k + 1) b) (λ b. all-rows row c n (k + 1) b)
 
-pub rows-say : (r : EsStep) (row : ℕ → EsRow) (c : PathNumbers) (n k : ℕ) (a : EsSearch) → r ≡ es_from row c n k a → (r ≡ es_from row c n k a) × RowsSay r row c n k a
+pub rows-say : (r : EsStep) (row : ℕ → EsRow) (c : PathNumbers) (n k : ℕ) (a : EsSearch) → r ≡ es_from row c n k a → RowsSay r row c n k a
 unfolding RowsSay
-rows-say r row c n k a e = (e, rw e (all-rows row c n k a))
+rows-say r row c n k a e = rw e (all-rows row c n k a)

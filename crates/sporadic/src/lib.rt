@@ -1,4 +1,6 @@
 // Sporadic E: the row with the lowest MUF, of flat rows of four numbers or one at a time, and its line.
+#![tactic(auto)]
+
 ghost use Rattle.std.specs.Prelude.{◌≡◌, ◌+◌, ◌*◌, ◌<◌, ◌≤◌, length};
 ghost use Rattle.sporadic.specs.Sporadic.{ray_of, taken_of, es_row_of, start_of, row_at, es_from, sigl4_of, es_found_of, es_line_of};
 ghost use Rattle.sporadic.specs.Says.{RowSays, RowsSay};
@@ -10,7 +12,7 @@ use layers::LayerMuf;
 use refusal::Refusal;
 
 // One Es row: the three frequencies of an `EsParams`, in its order, and the height.
-#[derive(Drop)]
+#[derive(Clone, Copy)]
 pub struct EsRow {
     pub fs0: f32,
     pub fs1: f32,
@@ -19,7 +21,7 @@ pub struct EsRow {
 }
 
 // A row's ray: the tangent of its takeoff angle, and the secant at the layer.
-#[derive(Drop)]
+#[derive(Clone, Copy)]
 pub struct EsRay {
     pub tdel: f32,
     pub secp: f32,
@@ -27,7 +29,7 @@ pub struct EsRay {
 
 // The row with the lowest MUF so far: its MUF, place, ray and numbers; and the hops of the last row
 // worked out, whether it is this one or not.
-#[derive(Drop)]
+#[derive(Clone, Copy)]
 pub struct EsSearch {
     pub esmuf: f32,
     pub ksx: usize,
