@@ -1,3 +1,5 @@
+#![tactic(auto)]
+
 // Prints the circuit file of the text on standard input, or the number of the first wrong line and what is wrong.
 fn main() {
     let mut text = [0u8; composing::INPUT];
