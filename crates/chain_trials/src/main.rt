@@ -1,5 +1,7 @@
 // What `chain` prints of files of every refusal that it gives, and of unusual chains. The stored output has the
 // paper's answers.
+#![tactic(auto)]
+
 ghost use Rattle.std.specs.Prelude.{◌≤◌};
 
 use chain_text::ROOM;

@@ -13,7 +13,7 @@ pub enum Form {
     New,
 }
 
-#[derive(Drop)]
+#[derive(Clone, Copy)]
 pub struct File {
     form: Form,
     pub bytes: [u8; ROOM],

@@ -1,5 +1,7 @@
 // What `narrow` makes of files of every refusal that it gives, and of unusual chains: the chain of the old file, or the
 // refusal. Then old files, widened and narrowed again. The stored output has the paper's answers.
+#![tactic(auto)]
+
 ghost use Rattle.std.specs.Prelude.{◌≤◌};
 
 use chain_text::ROOM;
