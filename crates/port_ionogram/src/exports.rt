@@ -8,16 +8,14 @@ use reflectrix::IonogramAnswer;
 use refusal::Outcome;
 
 // out: the angle count
-#[unsafe(no_mangle)]
-pub extern "C" fn port_sang(gcdkm: u32, amind: u32, out: &mut [u32]) -> u32
+pub fn port_sang(gcdkm: u32, amind: u32, out: &mut [u32]) -> u32
     ensures { (result ≡ (sang_words gcdkm amind out.old).number) × (out.new ≡ (sang_words gcdkm amind out.old).words) }
 {
     ionogram_words::sang(gcdkm, amind, out)
 }
 
 // state STATE_WORDS words; out: the slot
-#[unsafe(no_mangle)]
-pub extern "C" fn port_selmod(state: &[u32], out: &mut [u32]) -> u32
+pub fn port_selmod(state: &[u32], out: &mut [u32]) -> u32
     ensures { (result ≡ (port_selmod state.now out.old).number) × (out.new ≡ (port_selmod state.now out.old).words) }
 {
     if state.len() < STATE_WORDS {
@@ -48,8 +46,7 @@ fn rows_into(a: IonogramAnswer, w: &mut [u32]) -> u32
 }
 
 // state STATE_WORDS words; out 150: fvert, hprim, htrue, afac, segment
-#[unsafe(no_mangle)]
-pub extern "C" fn port_genion(state: &[u32], k: u32, out: &mut [u32]) -> u32
+pub fn port_genion(state: &[u32], k: u32, out: &mut [u32]) -> u32
     ensures { (result ≡ (port_genion state.now k out.old).number) × (out.new ≡ (port_genion state.now k out.old).words) }
 {
     if state.len() < STATE_WORDS {
@@ -64,8 +61,7 @@ pub extern "C" fn port_genion(state: &[u32], k: u32, out: &mut [u32]) -> u32
 }
 
 // state STATE_WORDS words, ion 150 as `port_genion` leaves them, layers 44
-#[unsafe(no_mangle)]
-pub extern "C" fn port_alosfv(state: &[u32], k: u32, ion: &mut [u32], layers: &[u32]) -> u32
+pub fn port_alosfv(state: &[u32], k: u32, ion: &mut [u32], layers: &[u32]) -> u32
     ensures { (result ≡ (port_alosfv state.now k ion.old layers.now).number) × (ion.new ≡ (port_alosfv state.now k ion.old layers.now).words) }
 {
     if state.len() < STATE_WORDS {
@@ -85,8 +81,7 @@ pub extern "C" fn port_alosfv(state: &[u32], k: u32, ion: &mut [u32], layers: &[
 }
 
 // ion 150 words; cells: thirty an angle
-#[unsafe(no_mangle)]
-pub extern "C" fn port_fobby(ion: &[u32], nang: u32, cells: &mut [i32]) -> u32
+pub fn port_fobby(ion: &[u32], nang: u32, cells: &mut [i32]) -> u32
     ensures { (result ≡ (port_fobby ion.now nang cells.old).number) × (cells.new ≡ (port_fobby ion.now nang cells.old).cells) }
 {
     if ion.len() < 150 {
@@ -99,8 +94,7 @@ pub extern "C" fn port_fobby(ion: &[u32], nang: u32, cells: &mut [i32]) -> u32
 
 // state STATE_WORDS words, layers 44; cells: thirty an angle; out 200: fvert, hprim, htrue, afac,
 // segment, the marks' numbers
-#[unsafe(no_mangle)]
-pub extern "C" fn port_sheet(
+pub fn port_sheet(
     state: &mut [u32],
     k: u32,
     nang: u32,
