@@ -39,19 +39,17 @@ then_by : (a : LineAnswer) (next : LayerMuf → RegularAnswer) (number : LayerMu
 then_by (LineAnswer.Found m) next number value h = h m
 then_by (LineAnswer.Refused r) next number value h = (rw (no_answer r), rw (no_answer r, no_answer r))
 
-pub regular-says : (r : RegularAnswer) (t : IonoState) (l : Slot) (f2d : List Float) (clat clck : Float) (c : PathNumbers) → r ≡ regular_with gethp_of t l f2d clat clck c → (r ≡ regular_with gethp_of t l f2d clat clck c) × RegularSays r t l f2d clat clck c
+pub regular-says : (r : RegularAnswer) (t : IonoState) (l : Slot) (f2d : List Float) (clat clck : Float) (c : PathNumbers) → r ≡ regular_with gethp_of t l f2d clat clck c → RegularSays r t l f2d clat clck c
 unfolding regular_with RegularSays
 regular-says r t l f2d clat clck c e =
     let x = tangents_of l c.gcdkm in
     let f2 = f2_line_of t l x f2d clat clck c in
     let f1 : LayerMuf → LineAnswer = λ m. f1_line_of t l x.fx1 m c.gcdkm c.amind in
     let last : LayerMuf → LayerMuf → RegularAnswer = λ m n. found_then (f1 m) (λ k. RegularAnswer.Found (record { e = m; f1 = k; f2 = n })) in
-    let lines : LayerMuf → LayerMuf → RegularLines = λ m n. record { e = m; f1 = line_value (f1 m); f2 = n } in (
-      e,
-      rw e
-          (then_by (e_line_of t x.fxe c.gcdkm c.amind) (λ m. found_then f2 (last m)) (λ m. first_refusal_number (line_number f2) (line_number (f1 m))) (λ m. lines m (line_value f2))
-          (λ m. then_by f2 (last m) (λ n. line_number (f1 m)) (lines m) (λ n. last-by (f1 m) m n))),
-    )
+    let lines : LayerMuf → LayerMuf → RegularLines = λ m n. record { e = m; f1 = line_value (f1 m); f2 = n } in
+    rw e
+    (then_by (e_line_of t x.fxe c.gcdkm c.amind) (λ m. found_then f2 (last m)) (λ m. first_refusal_number (line_number f2) (line_number (f1 m))) (λ m. lines m (line_value f2))
+    (λ m. then_by f2 (last m) (λ n. line_number (f1 m)) (lines m) (λ n. last-by (f1 m) m n)))
 
 es-by : (step : EsStep) (s t : IonoState) (fe : Float) (m : RegularLines) (ks : ℕ) → outcome_number (es_by step s t fe m ks).answer.outcome ≡ es_step_number step
 unfolding refused_rows_kept refused_muf
@@ -63,9 +61,9 @@ unfolding refused_rows_kept refused_muf
 slot-by (RegularAnswer.Found m) s t l ks step = es-by step s t l.fi0 m ks
 slot-by (RegularAnswer.Refused r) s t l ks step = rw (no_answer r)
 
-pub slot-says : (r : AnswerAndRow) (s : IonoState) (ks : ℕ) (step : EsStep) (f2d : List Float) (clat clck : Float) (c : PathNumbers) → r ≡ muf_at_slot_of s ks step f2d clat clck c → (r ≡ muf_at_slot_of s ks step f2d clat clck c) × SlotSays r s ks step f2d clat clck c
+pub slot-says : (r : AnswerAndRow) (s : IonoState) (ks : ℕ) (step : EsStep) (f2d : List Float) (clat clck : Float) (c : PathNumbers) → r ≡ muf_at_slot_of s ks step f2d clat clck c → SlotSays r s ks step f2d clat clck c
 unfolding muf_at_slot_with SlotSays
 slot-says r s ks step f2d clat clck c e =
     let t = lecden_of s ks in
     let l = slot_at t ks in
-    (e, rw e (slot-by (regular_with gethp_of t l f2d clat clck c) s t l ks step))
+    rw e (slot-by (regular_with gethp_of t l f2d clat clck c) s t l ks step)

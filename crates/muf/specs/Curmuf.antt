@@ -16,7 +16,6 @@ use Rattle.tangents.specs.Tangents.{tangents_of}
 use Rattle.e_lines.specs.Lines.{zero_line, e_line_with}
 use Rattle.layer_mufs.specs.Lines.{f2_line_with, f1_line_with}
 use Rattle.layer_mufs.specs.declared.PathNumbers.{PathNumbers}
-use Rattle.tangents.specs.declared.Tangents.{Tangents}
 use Rattle.e_lines.specs.declared.LineAnswer.{LineAnswer}
 use Rattle.sporadic.specs.Sporadic.{start_of, row_at, es_from, es_line_of}
 use Rattle.muf.specs.Hour.{hour_of, refused_muf}

@@ -1,5 +1,7 @@
 // The circuit MUF of an hour: what is refused, the three regular layers, and the hour put together
 // with the Es line.
+#![tactic(auto)]
+
 ghost use Rattle.std.specs.Prelude.{◌≡◌, ◌+◌, ◌*◌, ◌<◌, ◌≤◌, length};
 ghost use Rattle.heights.specs.Gethp.{gethp_of};
 ghost use Rattle.muf.specs.Hour.{mode_of, hour_of, zero_hour, refused_muf};
@@ -14,7 +16,7 @@ use slot_curves::Slot;
 use sporadic::EsStep;
 
 // The lines of the regular layers.
-#[derive(Drop)]
+#[derive(Clone, Copy)]
 pub struct RegularLines {
     pub e: LayerMuf,
     pub f1: LayerMuf,
@@ -28,7 +30,7 @@ pub enum RegularAnswer {
 }
 
 // The layer whose MUF is the circuit's, 1 to 3 for E, F1 and F2, and the takeoff angle of its line.
-#[derive(Drop)]
+#[derive(Clone, Copy)]
 pub struct Mode {
     pub angmuf: f32,
     pub modmuf: i32,
