@@ -1,4 +1,6 @@
 // The MUFs for the eye: a line for each layer, and the circuit's with what sets it.
+#![tactic(auto)]
+
 ghost use Rattle.lines.specs.Text.{Clipped};
 ghost use Rattle.muf_table.specs.MufTable.{muf_table_line, layer_of, circuit_line, mufs_text};
 
