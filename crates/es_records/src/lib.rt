@@ -1,4 +1,6 @@
 // The lower decile of the controlling Es record rewritten, in a lent list of records.
+#![tactic(auto)]
+
 ghost use Rattle.std.specs.Prelude.{◌≡◌, ◌<◌, true, length};
 ghost use Rattle.es_records.specs.Records.{lower_rewritten, records_by};
 
