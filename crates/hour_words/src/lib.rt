@@ -1,4 +1,6 @@
 // A MUF's answer as words: the hour, and the word of an Es row that is rewritten.
+#![tactic(auto)]
+
 ghost use Rattle.std.specs.Prelude.{◌≡◌, true, ◌+◌, ◌*◌, ◌<◌, ◌≤◌, length};
 ghost use Rattle.port_state.specs.Words.{floats_into};
 ghost use Rattle.hour_words.specs.HourWords.{ten_into, line_into, head_into, hour_into, words_by};
