@@ -1,6 +1,6 @@
-// The circuit MUF over a lent list of Es records. The functions that hold a reference to records
-// (`search`, `curmuf_records`, and `rewrite` of es_records) are proved by walks of their MIR, and
-// are kept short for it; what they do with values is in the others.
+// The circuit MUF over a lent list of Es records.
+#![tactic(auto)]
+
 ghost use Rattle.std.specs.Prelude.{◌≡◌, length};
 ghost use Rattle.sporadic.specs.Sporadic.{start_of, es_from};
 ghost use Rattle.muf_domain.specs.Domain.{taken_rows};
