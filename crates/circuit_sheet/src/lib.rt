@@ -1,4 +1,6 @@
 // The sheet of a circuit file: the hour's MUF, and the thirty rows and fifty marks of each slot.
+#![tactic(auto)]
+
 ghost use Rattle.std.specs.Prelude.{◌≡◌, ◌≤◌};
 ghost use Rattle.circuit_sheet.specs.CircuitSheet.{slots_of, muf_of, no_slot, slot_rows_of, refused_circuit_sheet, answered_of, scanned_of, circuit_sheet_of, sheet_of};
 
