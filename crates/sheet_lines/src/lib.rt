@@ -1,4 +1,5 @@
 // The lines of an answered sheet, as bytes.
+#![tactic(auto)]
 
 ghost use Rattle.std.specs.Prelude.{◌≤◌, ◌≡◌};
 ghost use Rattle.lines.specs.Text.{joined, Clipped};

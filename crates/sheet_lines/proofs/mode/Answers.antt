@@ -12,8 +12,7 @@ use mir.Facts.{to_z-of_z}
 use borrow.Author.Rules.{rules}
 use borrow.Author.Tests.{ltb-true}
 use Rattle.sheet_lines.specs.SheetLines.{natural}
-use Rattle.sheet_lines.proofs.mode.Statement.{statement}
-use Rattle.sheet_lines.proofs.mode.Tie as tie
+use Rattle.sheet_lines.proofs.mode.Goals as goal
 
 below : (z : ℤ) → lt_z z (pos 0) ≡ true → 0 ≡ natural z
 below (pos n) e = let l : n < 0 = ltb-true n 0 e in omega arith
@@ -27,23 +26,20 @@ castable : (z : ℤ) → mag z < 0x8000_0000 → lt_z z (pos 0) ≡ false → T 
 castable (pos n) m e = (tt, record { fits = omega arith })
 castable (negsuc n) m e = let f : ◌≡◌ {A = ℕ} 0 1 = cc in absurd (omega arith)
 
-returns : tie.Need-returns
+pub returns-then-m-lt0 : goal.returns-then-m-lt0
+returns-then-m-lt0 c =
+    let z = c.args.h.modmuf in
+    let m : mag z < 0x8000_0000 = search rules in
+    below z (rw (to_z-of_z {z = z} (record { sfits = m })) at c.if-m-lt0.true)
+
+pub overflow_cast-result : goal.overflow_cast-result
+overflow_cast-result c =
+    let z = c.args.h.modmuf in
+    let m : mag z < 0x8000_0000 = search rules in
+    rw (to_z-of_z {z = z} (record { sfits = m })) (castable z m (rw (to_z-of_z {z = z} (record { sfits = m })) at c.if-m-lt0.false))
+
+pub returns : goal.returns
 returns c =
-    let z = c.before.before.args.h.modmuf in
+    let z = c.args.h.modmuf in
     let m : mag z < 0x8000_0000 = search rules in
-    below z (rw (to_z-of_z {z = z} (record { sfits = m })) at c.if1.true)
-
-cast-result : tie.Need-overflow-cast-result
-cast-result c =
-    let z = c.before.before.args.h.modmuf in
-    let m : mag z < 0x8000_0000 = search rules in
-    rw (to_z-of_z {z = z} (record { sfits = m })) (castable z m (rw (to_z-of_z {z = z} (record { sfits = m })) at c.if1.false))
-
-returns-2 : tie.Need-returns-2
-returns-2 c =
-    let z = c.before.before.args.h.modmuf in
-    let m : mag z < 0x8000_0000 = search rules in
-    rw (to_z-of_z {z = z} (record { sfits = m })) (own z (rw (to_z-of_z {z = z} (record { sfits = m })) at c.if1.false))
-
-pub mode-spec : {M : Type 1} → statement M
-mode-spec = tie.close (tie.spec returns cast-result returns-2)
+    rw (to_z-of_z {z = z} (record { sfits = m })) (own z (rw (to_z-of_z {z = z} (record { sfits = m })) at c.if-m-lt0.false))
