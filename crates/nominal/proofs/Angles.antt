@@ -15,13 +15,13 @@ use lib.Ieee.Positive.{positive}
 use lib.Ieee.Scale.{overflow, finite}
 use Rattle.scalar.specs.F32.{◌+f◌, ◌*f◌, ◌/f◌}
 use Rattle.scalar.specs.Literals.{f0, f0_5, f1, f6_3, f40100}
-use Rattle.scalar.specs.Root.{sqrt_of, CorrectRoot}
+use Rattle.scalar.specs.Root.{sqrt_of}
 use Rattle.scalar.proofs.CorrectRoot.{sqrt-correct}
 use Rattle.order.specs.Units.{mag, key, total}
 use Rattle.order.proofs.Keys.{mag-val, mag-inf, overflow-pos}
 use Rattle.order.proofs.Sums.{add-key, total_mono}
 use Rattle.muf_domain.specs.Domain.{within_of}
-use Rattle.angles.proofs.Keys.{UpTo, From, Above, key-size, none-size, div-key, mul-key}
+use Rattle.angles.proofs.Keys.{UpTo, Above, key-size, none-size, div-key, mul-key}
 use Rattle.angles.specs.Angles.{Small}
 use Rattle.angles.proofs.Angles.{sin-answers, cos-answers, and_both, zero-key, f0-fits, f0-finite, hop-constants, half-path, over-hops, gcd-up-to, gcdkm-up-to}
 use Rattle.nominal_factors.specs.Coefficients.{f225}

@@ -1,6 +1,6 @@
 -- Where the counts agree there are at most five points, and an F2M3 for each.
-use mathlib.Core.Bool.{Bool, true, false, ◌&&◌}
-use mathlib.Core.Path.{◌≡◌, sym}
+use mathlib.Core.Bool.{true}
+use mathlib.Core.Path.{◌≡◌}
 use Prim.Native.Nat.{ℕ, ◌≤◌}
 use native.Mathlib.Omega.{arith}
 use lib.Dec.{eqb}

@@ -1,5 +1,7 @@
 // The nominal MUF: `nommuf` of the Rust, the MUF by the map's F2M3 where no profile is at hand. It
 // takes the control points and their Es rows, no state and no slot.
+#![tactic(auto)]
+
 ghost use Rattle.std.specs.Prelude.{◌≡◌, ◌≤◌, length};
 ghost use Rattle.nominal.specs.Nommuf.{ec_of, f2muf_of, hop_of, es_step, esmuf_of, nominal_of, path_taken, refused_nominal, nommuf_of};
 

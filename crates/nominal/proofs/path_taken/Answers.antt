@@ -2,13 +2,10 @@
 use mathlib.Core.Path.{◌≡◌, refl, ◌∙◌}
 use mathlib.Core.Bool.{Bool, true, false, ◌&&◌}
 use lib.Ieee.{Float, of_bits, lt}
-use borrow.Author.Rules.{rules}
 use Rattle.scalar.specs.Literals.{f0, f6_3, f40100}
-use Rattle.layer_mufs.specs.declared.PathNumbers.{PathNumbers}
 use Rattle.muf_domain.specs.Domain.{within_of, in_domain}
 use Rattle.nominal.specs.Nommuf.{path_taken}
-use Rattle.nominal.proofs.path_taken.Statement.{statement}
-use Rattle.nominal.proofs.path_taken.Tie as tie
+use Rattle.nominal.proofs.path_taken.Goals as goal
 
 both-then : (a b : Bool) → (a && b && true) ≡ (a && b)
 both-then true true = refl
@@ -19,8 +16,5 @@ level : (gcd gcdkm : Float) → in_domain (record { gcd = gcd; gcdkm = gcdkm; am
 unfolding in_domain path_taken of_bits lt
 level gcd gcdkm = both-then (within_of gcdkm f40100) (within_of gcd f6_3)
 
-returns : tie.Need-returns
-returns c = c.in-domain.ensures ∙ level c.before.args.gcd c.before.args.gcdkm
-
-pub path-taken-spec : {M : Type 1} → statement M
-path-taken-spec = tie.close (tie.spec (λ c κs. search rules) returns)
+pub returns : goal.returns
+returns c = c.in_domain.ensures ∙ level c.args.gcd c.args.gcdkm
