@@ -1,4 +1,6 @@
 // Circuit MUFs over lent Es records; the stored output is what the paper and the Rust say.
+#![tactic(auto)]
+
 use layer_mufs::PathNumbers;
 use layers::{EsParams, IonoState, LayerParams};
 use muf::MufAnswer;
