@@ -1,4 +1,6 @@
 // What is drawn of a circuit file: its sheet, and of each slot the profile that its rows were taken off.
+#![tactic(auto)]
+
 ghost use Rattle.std.specs.Prelude.{◌≡◌, ◌<◌};
 ghost use Rattle.circuit_plot.specs.CircuitPlot.{profile_of, profiles_of, plot_of};
 
