@@ -10,9 +10,7 @@ use lib.Dec.{T, leb, ltb, eqb}
 use lib.IntN.{ℤ}
 use lib.ListN.{length}
 use lib.Ieee.{Float}
-use Rattle.scalar.specs.F32.{◌-f◌, ◌≤f◌, ◌<f◌, at}
-use Rattle.scalar.specs.Literals.{f0, f0_01}
-use Rattle.scalar.specs.Scalar.{abs_of}
+use Rattle.scalar.specs.F32.{at}
 use Rattle.refusal.specs.declared.Refusal.{Refusal}
 use Rattle.refusal.specs.declared.Outcome.{Outcome}
 use Rattle.layers.specs.declared.IonoState.{IonoState}

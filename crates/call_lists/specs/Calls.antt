@@ -17,7 +17,6 @@ use Rattle.muf_records.specs.Records.{records_answer_with, records_by}
 use Rattle.shapes.specs.declared.HeightMark.{HeightMark}
 use Rattle.slot_sheet.specs.Sheet.{slot_sheet_with, sheet_cells_with}
 use Rattle.nominal.specs.Nommuf.{nommuf_of}
-use Rattle.nominal.specs.declared.NominalAnswer.{NominalAnswer}
 
 -- ---- the Es rows lent to a circuit MUF: flat, four numbers a row, or records
 

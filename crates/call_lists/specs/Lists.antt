@@ -12,7 +12,6 @@ use Rattle.profile.specs.Lecden.{slot_at, lecden_of}
 use Rattle.profile.specs.Rising.{rises_of}
 use Rattle.walk.specs.Walk.{EachF32}
 use Rattle.heights.specs.Gethp.{Finder, gethp_of, gethp_scan_of}
-use Rattle.heights.specs.declared.Heights.{Heights}
 use Rattle.heights.specs.Walk.{gethp_walk_of}
 use Rattle.heights.specs.Reads.{FortyReads}
 use Rattle.call_lists.specs.Calls.{Call, Answer, answer_of, after_of, answer_with, after_with, prepares, picked_slot}

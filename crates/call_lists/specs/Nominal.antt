@@ -5,7 +5,6 @@ use Rattle.layers.specs.declared.LayerParams.{LayerParams}
 use Rattle.layers.specs.declared.EsParams.{EsParams}
 use Rattle.heights.specs.Gethp.{Finder}
 use Rattle.nominal.specs.Nommuf.{nommuf_of}
-use Rattle.nominal.specs.declared.NominalAnswer.{NominalAnswer}
 use Rattle.call_lists.specs.Calls.{Call, a_nominal, of_nominal}
 use Rattle.call_lists.specs.Lists.{run_with, answers_with}
 

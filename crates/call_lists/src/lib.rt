@@ -1,4 +1,6 @@
 // The theorem on lists of calls needs no code. One function says of the states that code holds what the theorem asks of a first state where it speaks of walks.
+#![tactic(auto)]
+
 ghost use Rattle.std.specs.Prelude.{◌≡◌};
 ghost use Rattle.call_lists.specs.Lists.{HeldState};
 
