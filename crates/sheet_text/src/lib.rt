@@ -1,4 +1,5 @@
 // What `sheet` prints of a circuit file, as bytes.
+#![tactic(auto)]
 
 ghost use Rattle.std.specs.Prelude.{◌≡◌};
 ghost use Rattle.io.specs.Counts.{IsPrefixLen};
