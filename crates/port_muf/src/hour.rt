@@ -111,8 +111,7 @@ fn done_into(d: AnswerAndRow, state: &mut [u32], es: &mut [u32], out: &mut [u32]
 
 // state STATE_WORDS words; es 4 words a row: fs 3, hs; deciles 576; numbers: gcd, gcdkm, amind, ssn;
 // out 54: the hour's numbers, its mode and controlling slot, four lines of eleven words
-#[unsafe(no_mangle)]
-pub extern "C" fn port_curmuf(
+pub fn port_curmuf(
     state: &mut [u32],
     es: &mut [u32],
     deciles: &[f32],
