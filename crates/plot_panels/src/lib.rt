@@ -1,4 +1,6 @@
 // The picture of a circuit's slots, in SVG, with a panel for each.
+#![tactic(auto)]
+
 ghost use Rattle.std.specs.Prelude.{◌≤◌, ◌<◌};
 ghost use Rattle.lines.specs.Text.{joined, Clipped};
 ghost use Rattle.plot_panels.specs.Panels.{named_text, top_text, ionogram_paths, height_text, profile_text, panel_text, panel_at, picture_text};
