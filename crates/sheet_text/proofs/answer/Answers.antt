@@ -8,8 +8,8 @@ use Rattle.sheet_lines.proofs.Lengths.{answered-most}
 use Rattle.sheet_text.proofs.SlotCount.{three-slots}
 use Rattle.sheet_text.proofs.answer.Goals as goal
 
-pub put_sheet-requires : goal.put_sheet-requires
-put_sheet-requires c = rw c.of_file-s.ensures (three-slots _)
+pub put_sheet-length-requires : goal.put_sheet-length-requires
+put_sheet-length-requires c = rw c.of_file-s.ensures (three-slots _)
 
 pub returns-in-Answered : goal.returns-in-Answered
 unfolding sheet_text answered_text
