@@ -1,4 +1,6 @@
 // What `plot` prints of a circuit file, as bytes: a picture, in SVG, with a panel for each slot.
+#![tactic(auto)]
+
 ghost use Rattle.io.specs.Counts.{IsPrefixLen};
 ghost use Rattle.lines.specs.Text.{Put};
 ghost use Rattle.plot_text.specs.PlotText.{plot_text};
