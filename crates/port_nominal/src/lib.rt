@@ -1,5 +1,7 @@
 // The nominal MUF for callers in any language: words in, words out. It answers 0, or the number of
 // its refusal, and then leaves every lent word as it was.
+#![tactic(auto)]
+
 ghost use Rattle.std.specs.Prelude.{◌≡◌, ◌+◌, ◌*◌, ◌/◌, ◌≤◌, length, take};
 ghost use Rattle.nominal.specs.Nommuf.{nommuf_of};
 ghost use Rattle.port_nominal.specs.Exports.{word_row, zero_row, word_rows, five_of, nominal_into, nominal_words, words_reach, five_at_most, nominal_left};
@@ -129,8 +131,7 @@ fn five_at_most(points: usize, f2m3: usize) -> bool
 
 // points 9 words each: fi, yi, hi; f2m3 a word a point; es 4 words a row: fs 3, hs; numbers: gcd,
 // gcdkm; out 54: the hour, as `port_curmuf` writes it
-#[unsafe(no_mangle)]
-pub extern "C" fn port_nommuf(
+pub fn port_nommuf(
     points: &[u32],
     f2m3: &[u32],
     es: &[u32],
