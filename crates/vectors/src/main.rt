@@ -1,12 +1,14 @@
 // Replays stored hours: circuit files, and what the sheet of each is by the paper and the Rust. The list on
 // standard input is written by the oracle's program `wrong` (oracle/README.md), again whenever an elementary
 // function changes its answers. An hour is two lengths of two bytes, of the file and of the text, then both.
+#![tactic(auto)]
+
 ghost use Rattle.std.specs.Prelude.{◌≤◌};
 
 use sheet_text::{INPUT, ROOM};
 
 // What became of an hour.
-#[derive(Drop)]
+#[derive(Clone, Copy)]
 pub enum Replay {
     Same,
     Different,
