@@ -1,4 +1,6 @@
 // The page of a sheet for the eye, in decimals and words, and that of a refusal.
+#![tactic(auto)]
+
 ghost use Rattle.std.specs.Prelude.{◌≤◌};
 ghost use Rattle.lines.specs.Text.{joined, Clipped};
 ghost use Rattle.show_page.specs.Page.{slot_page, slot_page_at, page_text, refusal_text};
