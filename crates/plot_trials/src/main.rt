@@ -1,6 +1,8 @@
 // What `plot` prints of stored files: circuits with and without F1, with NaN, infinite and huge numbers, a MUF
 // outside the frame and one of 0, and files that are refused. The files stand on standard input, each after its
 // length, two bytes, the lower first. The stored output is what the description and the Rust say.
+#![tactic(auto)]
+
 ghost use Rattle.std.specs.Prelude.{◌≤◌};
 
 use plot_text::ROOM;
