@@ -1,4 +1,6 @@
 // What `show` prints of a circuit file: the sheet for the eye, in decimals and words.
+#![tactic(auto)]
+
 ghost use Rattle.io.specs.Counts.{IsPrefixLen};
 ghost use Rattle.lines.specs.Text.{Put};
 ghost use Rattle.show_text.specs.ShowText.{show_text};
