@@ -1,5 +1,7 @@
 // Sheets that other programs made, marked: the input holds a circuit file, with its length in four bytes before it, and then
 // such a sheet. The sheet is what `sheet` prints of that file, or differs from some line on.
+#![tactic(auto)]
+
 ghost use Rattle.std.specs.Prelude.{◌≡◌};
 ghost use Rattle.io.specs.Counts.{IsPrefixLen};
 ghost use Rattle.lines.specs.Text.{Put};
