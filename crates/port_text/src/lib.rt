@@ -1,10 +1,11 @@
 // The sheet of a circuit file for callers in any language: the file's bytes in, the text that `sheet` prints out. The function answers 0, or the number of its refusal, and then leaves every lent byte and word as it was.
+#![tactic(auto)]
+
 ghost use Rattle.std.specs.Prelude.{◌≡◌};
 ghost use Rattle.port_text.specs.Exports.{sheet_left};
 
 // file: a circuit file; out: room for 8,192 bytes, into which the text is put; length: a word for the text's length
-#[unsafe(no_mangle)]
-pub extern "C" fn port_sheet_text(file: &[u8], out: &mut [u8], length: &mut [u32]) -> u32
+pub fn port_sheet_text(file: &[u8], out: &mut [u8], length: &mut [u32]) -> u32
     ensures { (result ≡ (sheet_left file.now out.old length.old).number) × ((out.new ≡ (sheet_left file.now out.old length.old).bytes) × (length.new ≡ (sheet_left file.now out.old length.old).words)) }
 {
     if out.len() < sheet_text::ROOM {
