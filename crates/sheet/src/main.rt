@@ -1,4 +1,6 @@
 // Prints the sheet of the circuit file on standard input.
+#![tactic(auto)]
+
 fn main() {
     let mut file = [0u8; sheet_text::INPUT];
     let n = io::read_full(0, &mut file);
