@@ -1,4 +1,6 @@
 // What `compose` prints of a text with each thing that can be wrong. The stored output has the texts of the definition.
+#![tactic(auto)]
+
 use lines::put_word;
 
 fn print(text: &[u8]) {
