@@ -1,6 +1,8 @@
 // What `show` prints of stored circuit files: short and long paths, with and without F1, two points, NaN, numbers
 // too wide for their columns, and a file for every refusal. Standard input has the files, each after its length in
 // two bytes; the oracle writes it, and the stored output (oracle/README.md).
+#![tactic(auto)]
+
 ghost use Rattle.std.specs.Prelude.{◌≤◌};
 
 use sheet_text::INPUT;
