@@ -1,6 +1,8 @@
 // What `mark` prints of inputs that are too short or refused, of our own sheet, and of sheets that differ from it in one place. The
 // stored output has the paper's answers: the sheet of this circuit has a line of `muf`, one of `call`, one of `slot`, thirty rows and
 // fifty marks.
+#![tactic(auto)]
+
 ghost use Rattle.std.specs.Prelude.{◌≤◌, length};
 ghost use Rattle.io.specs.Counts.{IsPrefixLen};
 
