@@ -4,9 +4,8 @@ use mathlib.Core.Path.{◌≡◌, refl, ap, ap₂}
 use Prim.Native.Nat.{ℕ}
 use lib.Ieee.{Float}
 use Rattle.scalar.specs.F32.{at}
-use Rattle.same.specs.Same.{AllF32, Same, SameAll}
+use Rattle.same.specs.Same.{AllF32, SameAll}
 use Rattle.same.proofs.Same.{same-is-equal}
-use Rattle.refusal.specs.declared.Outcome.{Outcome}
 use Rattle.layers.specs.declared.IonoState.{IonoState}
 use Rattle.layers.specs.declared.LayerMuf.{LayerMuf}
 use Rattle.layers.specs.declared.EsParams.{EsParams}

@@ -1,10 +1,8 @@
 -- Each theorem at the end of its range.
-use mathlib.Core.List.{List}
-use mathlib.Core.Path.{◌≡◌, refl, sym}
-use Prim.Native.Nat.{ℕ, ◌+◌, ◌*◌, ◌≤◌}
+use mathlib.Core.Path.{refl, sym}
+use Prim.Native.Nat.{◌+◌, ◌*◌}
 use native.Mathlib.Nat.{le_of_eq, le_refl}
 use native.Mathlib.Omega.{arith}
-use lib.ListN.{length}
 use Rattle.compose_laws.proofs.Written.{text-written}
 use Rattle.compose_laws.proofs.ReadBack.{text-read-back}
 use Rattle.marking.proofs.Laws.{marking-laws}
