@@ -1,5 +1,7 @@
 // What `sheet` prints of files of one to five points and of both shapes, of every refusal that a file can
 // meet, of NaN, and at the edges of the `call` field. The stored output is what the paper and the Rust say.
+#![tactic(auto)]
+
 ghost use Rattle.std.specs.Prelude.{◌+◌, ◌<◌, ◌≤◌};
 
 use sheet_text::{INPUT, ROOM};
