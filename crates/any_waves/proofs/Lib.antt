@@ -1,2 +1,0 @@
--- Definition by definition, over any two functions that are ours where they are met.
-pub mod AnyWaves

@@ -1,3 +1,0 @@
--- The circuit MUF over any sine and any cosine.
-pub mod Over
-pub mod AnyWaves

@@ -1,2 +1,0 @@
-// No function: that the circuit MUF meets sine and cosine only where they answer.
-#![tactic(auto)]

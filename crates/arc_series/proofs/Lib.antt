@@ -1,2 +1,0 @@
--- The two bounds of the arc tangent's own series.
-pub mod OwnSeries

@@ -1,2 +1,0 @@
--- The arc tangent's own series.
-pub mod OwnSeries

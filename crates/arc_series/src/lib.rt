@@ -1,3 +1,0 @@
-#![tactic(auto)]
-
-// The arc tangent's own power series: a theorem, no code.

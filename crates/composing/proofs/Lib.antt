@@ -1,2 +1,0 @@
--- What is said, and that it has room.
-mod Answered

@@ -1,2 +1,0 @@
--- What `compose` prints.
-pub mod Composing

@@ -1,2 +1,0 @@
--- The numbers of a column, and an answer is a trace.
-pub mod Computed

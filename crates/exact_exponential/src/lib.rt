@@ -1,3 +1,0 @@
-#![tactic(auto)]
-
-// exp and ln are near the exact values: theorems, no code.

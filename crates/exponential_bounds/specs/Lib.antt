@@ -1,2 +1,0 @@
--- The own series of the logarithm.
-pub mod OwnSeries

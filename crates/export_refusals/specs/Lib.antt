@@ -1,2 +1,0 @@
--- Which numbers each export can answer, and no other.
-pub mod Exports

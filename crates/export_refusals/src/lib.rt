@@ -1,3 +1,0 @@
-#![tactic(auto)]
-
-// No function: which numbers each export can answer.

@@ -1,2 +1,0 @@
--- How long the table is.
-pub mod Lengths

@@ -1,2 +1,0 @@
--- How long a picture is.
-pub mod Lengths

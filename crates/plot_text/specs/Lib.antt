@@ -1,2 +1,0 @@
--- What `plot` prints.
-pub mod PlotText

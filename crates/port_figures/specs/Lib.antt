@@ -1,2 +1,0 @@
--- The printed figure for callers in any language.
-pub mod Exports

@@ -1,2 +1,0 @@
--- The exports of the heights.
-pub mod Exports

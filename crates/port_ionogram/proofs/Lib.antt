@@ -1,2 +1,0 @@
--- The slot sheet through words.
-pub mod Sheets

@@ -1,2 +1,0 @@
--- What each call answers and leaves.
-pub mod Exports

@@ -1,1 +1,0 @@
--- Rows and marks as words: nothing that another crate cites.

@@ -1,2 +1,0 @@
--- The number of a line fits a word.
-mod Small

@@ -1,2 +1,0 @@
--- The marking of a sheet for callers in any language.
-pub mod Exports

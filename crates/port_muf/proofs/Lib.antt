@@ -1,2 +1,0 @@
--- Words as floats.
-mod Floats

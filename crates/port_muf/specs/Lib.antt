@@ -1,2 +1,0 @@
--- The exports of the MUF and of `f2dis`.
-pub mod Exports

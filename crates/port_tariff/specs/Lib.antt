@@ -1,2 +1,0 @@
--- The price for callers in any language.
-pub mod Exports

@@ -1,2 +1,0 @@
--- A text is not longer than its room.
-mod Fits

@@ -1,2 +1,0 @@
--- What the export answers and leaves.
-pub mod Exports

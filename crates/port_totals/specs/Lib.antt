@@ -1,2 +1,0 @@
--- The day's total for callers in any language.
-pub mod Exports

@@ -1,2 +1,0 @@
--- Bounds of a circuit that was read.
-mod Small

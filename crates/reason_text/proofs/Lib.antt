@@ -1,2 +1,0 @@
--- How long a reason is.
-pub mod Lengths

@@ -1,2 +1,0 @@
--- How long the runs are.
-pub mod Lengths

@@ -1,2 +1,0 @@
--- Which refusals `chain` and `sheet` answer, and no other.
-pub mod Refusals

@@ -1,2 +1,0 @@
--- Lengths of text.
-pub mod Lengths

@@ -1,2 +1,0 @@
--- What `show` prints.
-pub mod ShowText

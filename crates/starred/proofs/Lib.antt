@@ -1,2 +1,0 @@
--- The marked trials hold.
-pub mod Starred

@@ -1,3 +1,0 @@
--- Owners read back, and whole states.
-mod Owners
-pub mod ReadBack

@@ -1,2 +1,0 @@
--- How long the axes are.
-pub mod Lengths

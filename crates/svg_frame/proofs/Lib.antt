@@ -1,2 +1,0 @@
--- How long the beginning is.
-pub mod Lengths

@@ -1,2 +1,0 @@
--- How long the legend is.
-pub mod Lengths

@@ -1,2 +1,0 @@
--- A point that is drawn is in the frame.
-pub mod Frame

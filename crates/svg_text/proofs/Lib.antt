@@ -1,2 +1,0 @@
--- How long the pieces are.
-pub mod Lengths

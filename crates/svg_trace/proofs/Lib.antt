@@ -1,2 +1,0 @@
--- How long the line's data is.
-pub mod Lengths

@@ -1,2 +1,0 @@
--- A profile that tells them apart.
-pub mod Apart
