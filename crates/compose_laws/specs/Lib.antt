@@ -1,0 +1,2 @@
+-- What the laws of composed texts say.
+pub mod Laws

@@ -1,0 +1,3 @@
+#![tactic(auto)]
+
+// The laws of composed texts, over their definitions: no code.

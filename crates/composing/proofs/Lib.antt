@@ -1,0 +1,2 @@
+-- What is said, and that it has room.
+mod Answered

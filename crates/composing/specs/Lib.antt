@@ -1,0 +1,2 @@
+-- What `compose` prints.
+pub mod Composing

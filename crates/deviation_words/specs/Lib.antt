@@ -1,0 +1,3 @@
+-- Words as floats, and `f2dis` on words.
+pub mod Floats
+pub mod F2disWords

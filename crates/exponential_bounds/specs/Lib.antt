@@ -1,0 +1,2 @@
+-- The own series of the logarithm.
+pub mod OwnSeries

@@ -1,0 +1,4 @@
+-- Figures that jump, texts that differ, and one second more.
+pub mod Jump
+pub mod Text
+pub mod Second

@@ -1,0 +1,2 @@
+-- Answers about heights as words.
+pub mod Words

@@ -1,0 +1,55 @@
+// Heights, a number found on a grid, a reading and a layer's number as words.
+#![tactic(auto)]
+
+ghost use Rattle.std.specs.Prelude.{◌≡◌, ◌≤◌, length};
+ghost use Rattle.port_state.specs.Words.{floats_into};
+ghost use Rattle.parabolas.specs.Bendy.{layer_number_of, layer_values_of};
+ghost use Rattle.height_words.specs.Words.{heights_into, found_into, reading_into};
+
+use heights::Heights;
+use parabolas::LayerNumber;
+use readings::{Found, Reading};
+
+pub fn heights_into(h: Heights, out: &mut [u32])
+    requires { (4 ≤ length out.old) × (h.cursor ≤ 49) }
+    ensures { out.new ≡ heights_into h out.old }
+{
+    let x = [h.hp, h.ht];
+    port_state::floats_into(&x, out, 0);
+    let c = h.cursor;
+    out[2] = c as u32;
+    out[3] = h.segment;
+}
+
+pub fn found_into(f: Found, out: &mut [u32])
+    requires { 2 ≤ length out.old }
+    ensures { out.new ≡ found_into f out.old }
+{
+    let x = [f.value];
+    port_state::floats_into(&x, out, 0);
+    out[1] = f.segment;
+}
+
+pub fn reading_into(r: Reading, out: &mut [u32])
+    requires { 3 ≤ length out.old }
+    ensures { out.new ≡ reading_into r out.old }
+{
+    let x = [readings::value(r)];
+    port_state::floats_into(&x, out, 1);
+    out[0] = readings::kind(r);
+    out[2] = readings::segment_number(r);
+}
+
+pub fn layer_into(a: LayerNumber, out: &mut [u32]) -> u32
+    requires { 1 ≤ length out.old }
+    ensures { (result ≡ layer_number_of a) × (out.new ≡ floats_into out.old 0 (layer_values_of a)) }
+{
+    match a {
+        LayerNumber::Value(v) => {
+            let x = [v];
+            port_state::floats_into(&x, out, 0);
+            0
+        }
+        LayerNumber::Refused(r) => refusal::number(r),
+    }
+}

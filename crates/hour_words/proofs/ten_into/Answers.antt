@@ -1,0 +1,7 @@
+-- Two runs of floats.
+use Rattle.hour_words.specs.HourWords.{ten_into}
+use Rattle.hour_words.proofs.ten_into.Goals as goal
+
+pub returns : goal.returns
+unfolding ten_into
+returns c = rw (← c.seven_into.ensures, ← c.three_into.ensures)

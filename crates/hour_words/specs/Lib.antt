@@ -1,0 +1,2 @@
+-- An hour as words.
+pub mod HourWords

@@ -1,0 +1,87 @@
+// A MUF's answer as words: the hour, and the word of an Es row that is rewritten.
+#![tactic(auto)]
+
+ghost use Rattle.std.specs.Prelude.{◌≡◌, true, ◌+◌, ◌*◌, ◌<◌, ◌≤◌, length};
+ghost use Rattle.port_state.specs.Words.{floats_into};
+ghost use Rattle.hour_words.specs.HourWords.{ten_into, line_into, head_into, hour_into, words_by};
+
+use layers::LayerMuf;
+use muf::MufHour;
+
+fn seven_into(x: [f32; 7], out: &mut [u32], from: usize)
+    requires { from + 7 ≤ length out.old }
+    ensures { out.new ≡ floats_into out.old from x }
+{
+    port_state::floats_into(&x, out, from);
+}
+
+fn three_into(x: [f32; 3], out: &mut [u32], from: usize)
+    requires { from + 3 ≤ length out.old }
+    ensures { out.new ≡ floats_into out.old from x }
+{
+    port_state::floats_into(&x, out, from);
+}
+
+// All of a line but its hop count, which stands at word 7.
+fn ten_into(l: LayerMuf, out: &mut [u32], from: usize)
+    requires { from + 11 ≤ length out.old }
+    ensures { out.new ≡ ten_into l from out.old }
+{
+    let x = [l.sigl, l.sigu, l.delmuf, l.hpmuf, l.htmuf, l.fvmuf, l.afmuf];
+    let y = [l.yfot, l.ymuf, l.yhpf];
+    let deciles = from + 8;
+    seven_into(x, out, from);
+    three_into(y, out, deciles);
+}
+
+fn line_into(l: LayerMuf, out: &mut [u32], from: usize)
+    requires { from + 11 ≤ length out.old }
+    ensures { out.new ≡ line_into l from out.old }
+{
+    let hops = from + 7;
+    let nhopmf = l.nhopmf;
+    ten_into(l, out, from);
+    out[hops] = port_state::word(nhopmf);
+}
+
+fn head_into(h: MufHour, out: &mut [u32])
+    requires { 10 ≤ length out.old }
+    ensures { out.new ≡ head_into h out.old }
+{
+    let x = [
+        h.emuf, h.f1muf, h.f2muf, h.esmuf, h.allmuf, h.fot, h.hpf, h.angmuf,
+    ];
+    let modmuf = h.modmuf;
+    let ks = h.ks;
+    port_state::floats_into(&x, out, 0);
+    out[8] = port_state::word(modmuf);
+    out[9] = (ks % 0x1_0000_0000) as u32;
+}
+
+pub fn hour_into(h: MufHour, out: &mut [u32])
+    requires { 54 ≤ length out.old }
+    ensures { out.new ≡ hour_into h out.old }
+{
+    let layers = h.layers;
+    let e = layers[0];
+    let f1 = layers[1];
+    let f2 = layers[2];
+    let es = layers[3];
+    head_into(h, out);
+    line_into(e, out, 10);
+    line_into(f1, out, 21);
+    line_into(f2, out, 32);
+    line_into(es, out, 43);
+}
+
+// The row that is rewritten is there.
+pub fn es_into(rewrites: bool, ksx: usize, lower: f32, es: &mut [u32])
+    requires { rewrites ≡ true → 4 * ksx < length es.old }
+    ensures { es.new ≡ words_by rewrites es.old ksx lower }
+{
+    if rewrites {
+        let at = 4 * ksx;
+        es[at] = scalar::bits(lower);
+        return;
+    }
+}

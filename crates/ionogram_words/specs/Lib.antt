@@ -1,0 +1,2 @@
+-- The angle count on words.
+pub mod Sang

@@ -1,0 +1,46 @@
+// The angle count as a word, and rows with their marks as words.
+#![tactic(auto)]
+
+ghost use Rattle.std.specs.Prelude.{◌≡◌, ◌≤◌, length};
+ghost use Rattle.scan_angles.specs.Angles.{scan_value};
+ghost use Rattle.port_layouts.specs.Layouts.{ionogram_into, marks_into};
+ghost use Rattle.ionogram_words.specs.Sang.{scan_into, sang_words};
+
+use reflectrix::Ionogram;
+use scan_angles::Scan;
+use shapes::HeightMark;
+
+fn scan_into(a: Scan, out: &mut [u32]) -> u32
+    requires { (1 ≤ length out.old) × (scan_value a ≤ 40) }
+    ensures { (result ≡ (scan_into a out.old).number) × (out.new ≡ (scan_into a out.old).words) }
+{
+    let number = scan_angles::scan_number(a);
+    if number == 0 {
+        let n = scan_angles::scan_value(a);
+        out[0] = n as u32;
+        return number;
+    }
+    number
+}
+
+// out: the angle count
+pub fn sang(gcdkm: u32, amind: u32, out: &mut [u32]) -> u32
+    ensures { (result ≡ (sang_words gcdkm amind out.old).number) × (out.new ≡ (sang_words gcdkm amind out.old).words) }
+{
+    if out.len() < 1 {
+        return 1;
+    }
+    let km = scalar::number(gcdkm);
+    let least = scalar::number(amind);
+    let a = scan_angles::sang(km, least);
+    scan_into(a, out)
+}
+
+// 150 words of rows, then the numbers of the fifty marks.
+pub fn marked_into(ion: Ionogram, marks: [HeightMark; 50], out: &mut [u32])
+    requires { 200 ≤ length out.old }
+    ensures { out.new ≡ marks_into marks (ionogram_into ion out.old) 150 }
+{
+    port_layouts::ionogram_into(ion, out);
+    port_layouts::marks_into(marks, out, 150);
+}

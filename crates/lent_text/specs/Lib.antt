@@ -1,0 +1,2 @@
+-- What a call that answers with a text leaves.
+pub mod Left

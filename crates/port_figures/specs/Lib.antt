@@ -1,0 +1,2 @@
+-- The printed figure for callers in any language.
+pub mod Exports

@@ -1,0 +1,2 @@
+-- The exports of the heights.
+pub mod Exports

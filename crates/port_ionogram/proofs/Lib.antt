@@ -1,0 +1,2 @@
+-- The slot sheet through words.
+pub mod Sheets

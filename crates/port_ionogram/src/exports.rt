@@ -1,0 +1,136 @@
+// The exported calls. Lengths are checked first; a refused call leaves every word.
+ghost use Rattle.std.specs.Prelude.{◌≡◌, ◌≤◌, length};
+ghost use Rattle.ionogram_words.specs.Sang.{sang_words};
+ghost use Rattle.port_ionogram.specs.Exports.{rows_into, port_selmod, port_genion, port_fobby, port_alosfv, port_sheet};
+
+use port_state::STATE_WORDS;
+use reflectrix::IonogramAnswer;
+use refusal::Outcome;
+
+// out: the angle count
+pub fn port_sang(gcdkm: u32, amind: u32, out: &mut [u32]) -> u32
+    ensures { (result ≡ (sang_words gcdkm amind out.old).number) × (out.new ≡ (sang_words gcdkm amind out.old).words) }
+{
+    ionogram_words::sang(gcdkm, amind, out)
+}
+
+// state STATE_WORDS words; out: the slot
+pub fn port_selmod(state: &[u32], out: &mut [u32]) -> u32
+    ensures { (result ≡ (port_selmod state.now out.old).number) × (out.new ≡ (port_selmod state.now out.old).words) }
+{
+    if state.len() < STATE_WORDS {
+        return 1;
+    }
+    if out.len() < 1 {
+        return 1;
+    }
+    let s = port_state::state_of(state);
+    let k = selmod::selmod(s);
+    out[0] = k as u32;
+    0
+}
+
+fn rows_into(a: IonogramAnswer, w: &mut [u32]) -> u32
+    requires { 150 ≤ length w.old }
+    ensures { (result ≡ (rows_into a w.old).number) × (w.new ≡ (rows_into a w.old).words) }
+{
+    let o = a.outcome;
+    match o {
+        Outcome::Answered => {
+            let ion = a.ion;
+            port_layouts::ionogram_into(ion, w);
+            0
+        }
+        Outcome::Refused(r) => refusal::number(r),
+    }
+}
+
+// state STATE_WORDS words; out 150: fvert, hprim, htrue, afac, segment
+pub fn port_genion(state: &[u32], k: u32, out: &mut [u32]) -> u32
+    ensures { (result ≡ (port_genion state.now k out.old).number) × (out.new ≡ (port_genion state.now k out.old).words) }
+{
+    if state.len() < STATE_WORDS {
+        return 1;
+    }
+    if out.len() < 150 {
+        return 1;
+    }
+    let s = port_state::state_of(state);
+    let a = sounding::genion(s, port_state::wide(k));
+    rows_into(a, out)
+}
+
+// state STATE_WORDS words, ion 150 as `port_genion` leaves them, layers 44
+pub fn port_alosfv(state: &[u32], k: u32, ion: &mut [u32], layers: &[u32]) -> u32
+    ensures { (result ≡ (port_alosfv state.now k ion.old layers.now).number) × (ion.new ≡ (port_alosfv state.now k ion.old layers.now).words) }
+{
+    if state.len() < STATE_WORDS {
+        return 1;
+    }
+    if ion.len() < 150 {
+        return 1;
+    }
+    if layers.len() < 44 {
+        return 1;
+    }
+    let s = port_state::state_of(state);
+    let rows = port_layouts::ionogram_of(ion);
+    let lines = line_words::lines_of(layers);
+    let a = losses::alosfv(s, port_state::wide(k), rows, lines);
+    rows_into(a, ion)
+}
+
+// ion 150 words; cells: thirty an angle
+pub fn port_fobby(ion: &[u32], nang: u32, cells: &mut [i32]) -> u32
+    ensures { (result ≡ (port_fobby ion.now nang cells.old).number) × (cells.new ≡ (port_fobby ion.now nang cells.old).cells) }
+{
+    if ion.len() < 150 {
+        return 1;
+    }
+    let rows = port_layouts::ionogram_of(ion);
+    let o = reflectrix::fobby(rows, port_state::wide(nang), cells);
+    refusal::outcome_number(o)
+}
+
+// state STATE_WORDS words, layers 44; cells: thirty an angle; out 200: fvert, hprim, htrue, afac,
+// segment, the marks' numbers
+pub fn port_sheet(
+    state: &mut [u32],
+    k: u32,
+    nang: u32,
+    layers: &[u32],
+    cells: &mut [i32],
+    out: &mut [u32],
+) -> u32
+    ensures { (result ≡ (port_sheet state.old k nang layers.now cells.old out.old).number)
+        × (state.new ≡ (port_sheet state.old k nang layers.now cells.old out.old).state)
+        × (cells.new ≡ (port_sheet state.old k nang layers.now cells.old out.old).cells)
+        × (out.new ≡ (port_sheet state.old k nang layers.now cells.old out.old).out) }
+{
+    if state.len() < STATE_WORDS {
+        return 1;
+    }
+    if layers.len() < 44 {
+        return 1;
+    }
+    if out.len() < 200 {
+        return 1;
+    }
+    let s = port_state::state_of(state);
+    let lines = line_words::lines_of(layers);
+    let slot = port_state::wide(k);
+    let n = port_state::wide(nang);
+    let a = slot_sheet::slot_sheet(s, slot, n, lines, cells);
+    let o = a.outcome;
+    match o {
+        Outcome::Answered => {
+            let t = a.state;
+            let ion = a.ion;
+            let marks = a.marks;
+            port_state::state_into(t, state);
+            ionogram_words::marked_into(ion, marks, out);
+            0
+        }
+        Outcome::Refused(r) => refusal::number(r),
+    }
+}

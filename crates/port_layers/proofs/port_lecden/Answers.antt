@@ -1,0 +1,14 @@
+-- Refused for want of room, or what the answer leaves.
+use Rattle.port_layers.specs.Exports.{port_lecden}
+use mathlib.Core.Path.{refl}
+use borrow.Author.Tests.{le-leb, lt-leb}
+use Rattle.port_layers.proofs.port_lecden.Goals as goal
+
+pub returns-then-state-ge-STATE_WORDS : goal.returns-then-state-ge-STATE_WORDS
+unfolding port_lecden
+returns-then-state-ge-STATE_WORDS c = rw (le-leb _ _ c.if-state-ge-STATE_WORDS.true, ← c.state_of.ensures, ← c.wide.ensures, ← c.lecden-a.ensures) c.answer_into.ensures
+
+pub returns : goal.returns
+unfolding port_lecden
+returns c =
+    rw (lt-leb _ _ c.if-state-ge-STATE_WORDS.false) (record { number = refl; words = refl })

@@ -1,0 +1,2 @@
+-- What each call answers and leaves.
+pub mod Exports

@@ -1,0 +1,1 @@
+-- Rows and marks as words: nothing that another crate cites.

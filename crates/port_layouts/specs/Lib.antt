@@ -1,0 +1,2 @@
+-- Rows and marks as words.
+pub mod Layouts

@@ -1,0 +1,2 @@
+-- Words as floats.
+mod Floats

@@ -1,0 +1,57 @@
+-- What the export answers, and the words that it leaves. A slice that is shorter than its layout is refused with 1, before all
+-- else; nothing is written where a call is refused.
+use Rattle.std.specs.Prelude.{Bool, cond, ◌&&◌, List, [], ◌∷◌, ℕ, zero, suc, ◌+◌, ◌*◌, ◌/◌, ◌%◌, leb, eqb, length, replicate, set, Float}
+use Rattle.scalar.specs.Literals.{f0}
+use Rattle.refusal.specs.declared.Refusal.{Refusal}
+use Rattle.refusal.specs.declared.Outcome.{Outcome}
+use Rattle.layers.specs.declared.EsParams.{EsParams}
+use Rattle.muf.specs.declared.MufHour.{MufHour}
+use Rattle.port_state.specs.Ports.{Ported, refused_with, points_of}
+use Rattle.deviation_words.specs.Floats.{number, floats}
+use Rattle.hour_words.specs.HourWords.{hour_into}
+use Rattle.nominal.specs.Nommuf.{nommuf_of}
+use Rattle.nominal.specs.declared.NominalAnswer.{NominalAnswer}
+
+-- Es row k: four words, fs, hs
+unfoldable pub word_row : List ℕ → ℕ → EsParams
+word_row es k = record { fs = number es (4 * k) ∷ number es (4 * k + 1) ∷ number es (4 * k + 2) ∷ []; hs = number es (4 * k + 3) }
+
+abbrev pub zero_row : EsParams
+zero_row = record { fs = replicate 3 f0; hs = f0 }
+
+-- the first n rows, the rest zero
+unfoldable pub word_rows : List ℕ → ℕ → List EsParams
+word_rows es zero = replicate 5 zero_row
+word_rows es (suc n) = set (word_rows es n) n (word_row es n)
+
+-- the first n F2M3s, the rest zero
+unfoldable pub five_of : List ℕ → ℕ → List Float
+five_of f2m3 zero = replicate 5 f0
+five_of f2m3 (suc n) = set (five_of f2m3 n) n (number f2m3 n)
+
+abbrev pub nominal_by : Outcome → MufHour → List ℕ → Ported
+nominal_by Outcome.Answered hour out = record { number = 0; words = hour_into hour out }
+nominal_by (Outcome.Refused r) hour out = refused_with r out
+
+unfoldable pub nominal_into : NominalAnswer → List ℕ → Ported
+nominal_into a out = nominal_by a.outcome a.hour out
+
+-- n points and rows, and every F2M3 there is
+unfoldable pub nominal_words : List ℕ → List ℕ → List ℕ → List ℕ → ℕ → NominalAnswer
+nominal_words points f2m3 es numbers n = nommuf_of (points_of points n) (floats f2m3) (word_rows es n) n (number numbers 0) (number numbers 1)
+
+-- the room for the hour, the two numbers, and four words of Es for each point; the lists by their lengths
+unfoldable pub words_reach : ℕ → ℕ → ℕ → ℕ → Bool
+words_reach points es numbers out = leb 54 out && leb 2 numbers && leb (4 * (points / 9)) es
+
+-- whole points, and five at most, as of the F2M3s
+unfoldable pub five_at_most : ℕ → ℕ → Bool
+five_at_most points f2m3 = eqb (points % 9) 0 && leb points 45 && leb f2m3 5
+
+unfoldable pub nominal_left : List ℕ → List ℕ → List ℕ → List ℕ → List ℕ → Ported
+nominal_left points f2m3 es numbers out =
+    cond (words_reach (length points) (length es) (length numbers) (length out))
+    (cond (five_at_most (length points) (length f2m3))
+    (nominal_into (nominal_words points f2m3 es numbers (length points / 9)) out)
+    (refused_with Refusal.PointCount out))
+    (refused_with Refusal.Length out)

@@ -1,0 +1,2 @@
+-- The nominal MUF on words.
+pub mod Exports

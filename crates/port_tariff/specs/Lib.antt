@@ -1,0 +1,2 @@
+-- The price for callers in any language.
+pub mod Exports

@@ -1,0 +1,2 @@
+-- The day's total for callers in any language.
+pub mod Exports

@@ -1,0 +1,2 @@
+-- Bounds of a circuit that was read.
+mod Small

@@ -1,0 +1,2 @@
+-- Which refusals `chain` and `sheet` answer, and no other.
+pub mod Refusals

@@ -1,0 +1,2 @@
+-- The marked trials hold.
+pub mod Starred

@@ -1,0 +1,2 @@
+-- The paper's marked trials, as rows of one table.
+pub mod Starred

@@ -1,0 +1,3 @@
+-- Owners read back, and whole states.
+mod Owners
+pub mod ReadBack

@@ -1,0 +1,2 @@
+-- A state is read back from its words.
+pub mod ReadBack

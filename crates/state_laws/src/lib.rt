@@ -1,0 +1,3 @@
+#![tactic(auto)]
+
+// No function: a state put into words is read back.

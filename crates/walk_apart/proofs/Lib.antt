@@ -1,0 +1,2 @@
+-- A profile that tells them apart.
+pub mod Apart
