@@ -1,0 +1,2 @@
+-- What is drawn of a circuit file.
+pub mod CircuitPlot

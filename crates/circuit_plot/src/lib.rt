@@ -1,0 +1,52 @@
+// What is drawn of a circuit file: its sheet, and of each slot the profile that its rows were taken off.
+#![tactic(auto)]
+
+ghost use Rattle.std.specs.Prelude.{◌≡◌, ◌<◌};
+ghost use Rattle.circuit_plot.specs.CircuitPlot.{profile_of, profiles_of, plot_of};
+
+use circuit_sheet::Sheet;
+use layers::IonoState;
+
+// Fifty heights in km, and at each the square of the plasma frequency, in MHz².
+#[derive(Clone, Copy)]
+pub struct Profile {
+    pub htr: [f32; 50],
+    pub fnsq: [f32; 50],
+}
+
+// Of a refused file, and of a slot that is not there, nothing is drawn, whatever the profile is.
+#[derive(Drop)]
+pub struct Plot {
+    pub sheet: Sheet,
+    pub profiles: [Profile; 3],
+}
+
+fn profile_at(s: IonoState, k: usize) -> Profile
+    requires { k < 3 }
+    ensures { result ≡ profile_of s k }
+{
+    let t = profile::lecden_slot(s, k);
+    let htr = t.htr;
+    let fnsq = t.fnsq;
+    Profile { htr, fnsq }
+}
+
+fn profiles(s: IonoState) -> [Profile; 3]
+    ensures { result ≡ profiles_of s }
+{
+    let p0 = profile_at(s, 0);
+    let p1 = profile_at(s, 1);
+    let p2 = profile_at(s, 2);
+    [p0, p1, p2]
+}
+
+pub fn of_file(file: &[u8]) -> Plot
+    ensures { result ≡ plot_of file.now }
+{
+    let sheet = circuit_sheet::of_file(file);
+    let a = circuit::read(file);
+    let c = a.circuit;
+    let s = circuit_sheet::slots(c);
+    let profiles = profiles(s);
+    Plot { sheet, profiles }
+}

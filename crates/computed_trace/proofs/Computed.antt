@@ -1,0 +1,114 @@
+-- The numbers of a column, one after the other: the test of what is left, and the cells written so far. An answer is a trace.
+use Prim.Native.Nat.{ℕ, zero, suc, ◌+◌, ◌≤◌, ◌<◌}
+use mathlib.Core.Path.{◌≡◌, refl, ap, ◌∙◌, sym}
+use mathlib.Core.Bool.{Bool, true, false, ◌&&◌}
+use mathlib.Core.List.{List, [], ◌∷◌, ◌++◌, map, append-nil}
+use native.Mathlib.Omega.{arith}
+use native.Mathlib.Numerals.{add-one}
+use lib.Ieee.{Float, nan}
+use lib.ListN.{length, get_or, drop, set, length-map, drop_of_length-le}
+use borrow.Author.Tests.{lt-ltb, le-ltb, eq-eqb, le-leb}
+use Rattle.refusal.specs.declared.Outcome.{Outcome}
+use Rattle.scalar.specs.F32.{◌<f◌}
+use Rattle.scalar.specs.Literals.{f0}
+use Rattle.figures.specs.Nearest.{past, times_of}
+use Rattle.trace_lines.specs.Trace.{rises, fit}
+use Rattle.computed_trace.specs.Computed.{fit_number, all_fit, khz_rows, height_rows, trace_by, trace_of, TraceFits}
+use Rattle.computed_trace.specs.declared.TraceAnswer.{TraceAnswer}
+use Rattle.trace_lines.proofs.Places.{both}
+use Rattle.traces.proofs.Cells.{sofar, sofar-more, sofar-all, sofar-length}
+
+module _ (k : ℕ) where
+  step : (x : List Float) (i : ℕ) → i < length x
+      → all_fit k (drop i x) ≡ (fit_number k (get_or x i nan) && all_fit k (drop (suc i) x))
+  unfolding all_fit
+  step [] i h = absurd (omega arith)
+  step (v ∷ x) zero h = refl
+  step (v ∷ x) (suc i) h = step x i (omega arith)
+
+  pub fit-below : (x : List Float) (i : ℕ) → i < length x → (get_or x i nan <f f0) ≡ true → all_fit k (drop i x) ≡ false
+  fit-below x i h e = step x i h ∙ rw e
+
+  pub fit-past : (x : List Float) (i n : ℕ) → i < length x → (get_or x i nan <f f0) ≡ false → n ≡ times_of k (get_or x i nan)
+      → 0x1_0000_0000 ≤ n → all_fit k (drop i x) ≡ false
+  fit-past x i n h e p q =
+      let m : past ≤ times_of k (get_or x i nan) = omega arith in
+      step x i h ∙ rw (e, le-ltb (times_of k (get_or x i nan)) past m)
+
+  pub fit_on : (x : List Float) (i n : ℕ) → i < length x → (get_or x i nan <f f0) ≡ false → n ≡ times_of k (get_or x i nan)
+      → n < 0x1_0000_0000 → all_fit k (drop i x) ≡ all_fit k (drop (i + 1) x)
+  fit_on x i n h e p q =
+      let m : times_of k (get_or x i nan) < past = omega arith in
+      step x i h ∙ rw (e, lt-ltb (times_of k (get_or x i nan)) past m, add-one i)
+
+  pub stored : (x : List Float) (out₀ out : List ℕ) (i n : ℕ) → i < length x → length out₀ ≡ length x
+      → out ≡ sofar (times_of k) x i out₀ → n ≡ times_of k (get_or x i nan) → set out i n ≡ sofar (times_of k) x (i + 1) out₀
+  stored x out₀ out i n h e p q =
+      ap (λ (l : List ℕ). set l i n) p
+      ∙ ap (λ (m : ℕ). set (sofar (times_of k) x i out₀) i m) q
+      ∙ sofar-more (times_of k) x i out₀ (get_or x i nan) nan h (omega arith) refl
+      ∙ ap (λ (m : ℕ). sofar (times_of k) x m out₀) (sym (add-one i))
+
+  pub fit-end : (x : List Float) (i : ℕ) → length x ≤ i → all_fit k (drop i x) ≡ true
+  unfolding all_fit
+  fit-end x i h = ap (all_fit k) (drop_of_length-le x {i = i} h)
+
+  pub all-stored : (x : List Float) (out₀ out : List ℕ) (i : ℕ) → i ≡ length x → length out₀ ≡ length x
+      → out ≡ sofar (times_of k) x i out₀ → out ≡ map (times_of k) x
+  all-stored x out₀ out i e p q =
+      q
+      ∙ sofar-all (times_of k) x i out₀ e
+      ∙ ap (λ (l : List ℕ). map (times_of k) x ++ l) (drop_of_length-le out₀ {i = length x} (omega arith))
+      ∙ append-nil (map (times_of k) x)
+
+  pub same-room : (x : List Float) (out₀ out : List ℕ) (i : ℕ) → i ≤ length x → length out₀ ≡ length x
+      → out ≡ sofar (times_of k) x i out₀ → length out ≡ length out₀
+  same-room x out₀ out i h e p = ap length p ∙ sofar-length (times_of k) x i out₀ h (omega arith)
+
+-- ---- an answer is a trace
+
+rows_fit : (khz height : List ℕ) → length khz ≡ 30 → length height ≡ 30 → rises khz ≡ true → fit khz height ≡ true
+rows_fit khz height p q r =
+    rw (eq-eqb (length khz) (length height) (omega arith), le-leb (length khz) 512 (omega arith)) r
+
+by_fits : (fvert hprim : List Float) → length fvert ≡ 30 → length hprim ≡ 30 → (t : Bool)
+    → (t ≡ true → rises (khz_rows fvert) ≡ true) → (trace_by t (khz_rows fvert) (height_rows hprim)).outcome ≡ Outcome.Answered
+    → fit (trace_by t (khz_rows fvert) (height_rows hprim)).khz (trace_by t (khz_rows fvert) (height_rows hprim)).height ≡ true
+by_fits fvert hprim p q true r e =
+    rows_fit (khz_rows fvert) (height_rows hprim) (length-map fvert (times_of 1000) ∙ p) (length-map hprim (times_of 10) ∙ q) (r refl)
+by_fits fvert hprim p q false r e = let z : ◌≡◌ {A = ℕ} 0 1 = cc in absurd (omega arith)
+
+pub trace-fits : TraceFits
+unfolding trace_of
+trace-fits fvert hprim p q e =
+    by_fits fvert hprim p q (all_fit 1000 fvert && (all_fit 10 hprim && rises (khz_rows fvert)))
+    (λ t.
+    (both (all_fit 10 hprim) (rises (khz_rows fvert))
+    (both (all_fit 1000 fvert) (all_fit 10 hprim && rises (khz_rows fvert)) t).1).1) e
+
+-- ---- what the tests of a whole ionogram come to
+
+module _ (fvert hprim : List Float) where
+  pub fvert-unfit : (r : TraceAnswer) → all_fit 1000 fvert ≡ false → r ≡ trace_by false [] [] → r ≡ trace_of fvert hprim
+  unfolding trace_of
+  fvert-unfit r p e = rw p e
+
+  pub hprim-unfit : (r : TraceAnswer) → all_fit 1000 fvert ≡ true → all_fit 10 hprim ≡ false → r ≡ trace_by false [] []
+      → r ≡ trace_of fvert hprim
+  unfolding trace_of
+  hprim-unfit r p q e = rw (p, q) e
+
+  pub khz-unfit : (r : TraceAnswer) (khz : List ℕ) → all_fit 1000 fvert ≡ true → all_fit 10 hprim ≡ true → rises khz ≡ false
+      → khz ≡ khz_rows fvert → r ≡ trace_by false [] [] → r ≡ trace_of fvert hprim
+  unfolding trace_of
+  khz-unfit r khz p q s k e = let s' : rises (khz_rows fvert) ≡ false = sym (ap rises k) ∙ s in rw (p, q, s') e
+
+  pub answered : (khz height : List ℕ) → all_fit 1000 fvert ≡ true → all_fit 10 hprim ≡ true → rises khz ≡ true
+      → khz ≡ khz_rows fvert → height ≡ height_rows hprim
+      → record { outcome = Outcome.Answered; khz = khz; height = height } ≡ trace_of fvert hprim
+  unfolding trace_of
+  answered khz height p q s k h =
+      let s' : rises (khz_rows fvert) ≡ true = sym (ap rises k) ∙ s in
+      rw (p, q, s')
+      (ap (λ (l : List ℕ). record { outcome = Outcome.Answered; khz = l; height = height }) k
+      ∙ ap (λ (l : List ℕ). record { outcome = Outcome.Answered; khz = khz_rows fvert; height = l }) h)

@@ -1,0 +1,2 @@
+-- The numbers of a column, and an answer is a trace.
+pub mod Computed

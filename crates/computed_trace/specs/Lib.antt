@@ -1,0 +1,2 @@
+-- A computed ionogram as a trace.
+pub mod Computed

@@ -1,0 +1,2 @@
+-- A marking as words.
+pub mod Words

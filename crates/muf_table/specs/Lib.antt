@@ -1,0 +1,2 @@
+-- The MUFs as a table.
+pub mod MufTable

@@ -1,0 +1,2 @@
+-- How long a picture is.
+pub mod Lengths

@@ -1,0 +1,2 @@
+-- The picture of a circuit's slots.
+pub mod Panels

@@ -1,0 +1,2 @@
+-- What `plot` prints.
+pub mod PlotText

@@ -1,0 +1,2 @@
+-- The number of a line fits a word.
+mod Small

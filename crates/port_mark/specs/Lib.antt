@@ -1,0 +1,2 @@
+-- The marking of a sheet for callers in any language.
+pub mod Exports

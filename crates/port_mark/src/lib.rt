@@ -1,0 +1,16 @@
+// The marking of a sheet for callers in any language: bytes in, a word out. The function answers 0, or the number of its refusal, and then leaves every lent word as it was.
+#![tactic(auto)]
+
+ghost use Rattle.std.specs.Prelude.{◌≡◌};
+ghost use Rattle.port_mark.specs.Exports.{mark_left};
+
+// input: the file's length in four bytes, the file, the sheet; out: the number of the first line that is not ours, 0 where the sheet is the same
+pub fn port_mark(input: &[u8], out: &mut [u32]) -> u32
+    ensures { (result ≡ (mark_left input.now out.old).number) × (out.new ≡ (mark_left input.now out.old).words) }
+{
+    if out.len() < 1 {
+        return 1;
+    }
+    let m = marking::mark(input);
+    marking_words::marking_into(m, out)
+}

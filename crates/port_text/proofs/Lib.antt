@@ -1,0 +1,2 @@
+-- A text is not longer than its room.
+mod Fits

@@ -1,0 +1,2 @@
+-- What the export answers and leaves.
+pub mod Exports

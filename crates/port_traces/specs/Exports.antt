@@ -1,0 +1,80 @@
+-- What each export answers, 0 or the refusal's number, and the lists lent, afterwards. A list that is shorter than its layout
+-- is refused with 1, before all else; a refused call leaves everything.
+use Rattle.std.specs.Prelude.{Bool, true, false, ◌||◌, List, ◌++◌, ℕ, ltb, eqb, ℤ, length, set, drop}
+use Rattle.refusal.specs.Number.{number_of}
+use Rattle.refusal.specs.declared.Refusal.{Refusal}
+use Rattle.refusal.specs.declared.Outcome.{Outcome}
+use Rattle.port_state.specs.Words.{floats_of}
+use Rattle.traces.specs.Lines.{Compared, compared_of, comparison_number, count_in}
+use Rattle.computed_trace.specs.Computed.{trace_of}
+use Rattle.traces.specs.declared.Comparison.{Comparison}
+use Rattle.computed_trace.specs.declared.TraceAnswer.{TraceAnswer}
+
+-- has the list fewer words than its layout
+abbrev pub short : List ℕ → ℕ → Bool
+short w n = ltb (length w) n
+
+-- ---- the lines of two traces
+
+pub record PortedLines : Type 0 where
+  pub number : ℕ
+  pub khz : List ℕ
+  pub which : List ℕ
+  pub difference : List ℤ
+  pub out : List ℕ
+
+-- answered: the count is written
+abbrev pub count_by : Bool → ℕ → List ℕ → List ℕ
+count_by true n out = set out 0 n
+count_by false n out = out
+
+abbrev pub count_into : Comparison → List ℕ → List ℕ
+count_into c out = count_by (eqb (comparison_number c) 0) (count_in c) out
+
+abbrev pub lines_into : Compared → List ℕ → PortedLines
+lines_into c out =
+    record {
+      number = comparison_number c.answer;
+      khz = c.khz;
+      which = c.which;
+      difference = c.difference;
+      out = count_into c.answer out;
+    }
+
+abbrev pub lines_unless : Bool → Compared → List ℕ → List ℕ → List ℤ → List ℕ → PortedLines
+lines_unless true c khz which difference out =
+    record { number = number_of Refusal.Length; khz = khz; which = which; difference = difference; out = out }
+lines_unless false c khz which difference out = lines_into c out
+
+unfoldable pub port_compare : List ℕ → List ℕ → List ℕ → List ℕ → List ℕ → List ℕ → List ℤ → List ℕ → PortedLines
+port_compare a ah b bh khz which difference out =
+    lines_unless (short out 1) (compared_of a ah b bh khz which difference) khz which difference out
+
+-- ---- an ionogram's rows as a trace: 30 words fvert, then 30 words hprim
+
+pub record PortedTrace : Type 0 where
+  pub number : ℕ
+  pub khz : List ℕ
+  pub height : List ℕ
+
+abbrev pub refused_trace : Refusal → List ℕ → List ℕ → PortedTrace
+refused_trace r khz height = record { number = number_of r; khz = khz; height = height }
+
+-- the words of x, and those past them as they were
+abbrev pub words_at_start : List ℕ → List ℕ → List ℕ
+words_at_start x w = x ++ drop (length x) w
+
+abbrev pub trace_into_by : Outcome → List ℕ → List ℕ → List ℕ → List ℕ → PortedTrace
+trace_into_by Outcome.Answered k h khz height = record { number = 0; khz = words_at_start k khz; height = words_at_start h height }
+trace_into_by (Outcome.Refused r) k h khz height = refused_trace r khz height
+
+unfoldable pub trace_into : TraceAnswer → List ℕ → List ℕ → PortedTrace
+trace_into t khz height = trace_into_by t.outcome t.khz t.height khz height
+
+abbrev pub trace_unless : Bool → TraceAnswer → List ℕ → List ℕ → PortedTrace
+trace_unless true t khz height = refused_trace Refusal.Length khz height
+trace_unless false t khz height = trace_into t khz height
+
+unfoldable pub port_trace : List ℕ → List ℕ → List ℕ → PortedTrace
+port_trace rows khz height =
+    trace_unless (short rows 60 || (short khz 30 || short height 30)) (trace_of (floats_of rows 0 30) (floats_of rows 30 30)) khz height

@@ -1,0 +1,117 @@
+// Two traces held against one another, for callers in any language: words in, words out. Each function answers 0, or the number
+// of its refusal, and then leaves everything lent as it was.
+#![tactic(auto)]
+
+ghost use Rattle.std.specs.Prelude.{◌≡◌, ◌++◌, ◌+◌, ◌≤◌, length, drop};
+ghost use Rattle.port_state.specs.Words.{floats_of};
+ghost use Rattle.traces.specs.Lines.{comparison_number, count_in};
+ghost use Rattle.port_traces.specs.Exports.{count_into, port_compare, words_at_start, trace_into, port_trace};
+
+use computed_trace::TraceAnswer;
+use refusal::Outcome;
+use traces::Comparison;
+
+fn count_into(c: Comparison, out: &mut [u32]) -> u32
+    requires { (1 ≤ length out.old) × (count_in c ≤ 1024) }
+    ensures { (result ≡ comparison_number c) × (out.new ≡ count_into c out.old) }
+{
+    let number = traces::number(c);
+    if number == 0 {
+        let n = traces::count(c);
+        out[0] = n as u32;
+        return number;
+    }
+    number
+}
+
+// The kHz and heights of the first trace, a and ah, and of the second, b and bh; the lines into three lists; out: their count.
+pub fn port_compare(
+    a: &[u32],
+    ah: &[u32],
+    b: &[u32],
+    bh: &[u32],
+    khz: &mut [u32],
+    which: &mut [u32],
+    difference: &mut [i64],
+    out: &mut [u32],
+) -> u32
+    ensures value { result ≡ (port_compare a.now ah.now b.now bh.now khz.old which.old difference.old out.old).number }
+    ensures khz_after { khz.new ≡ (port_compare a.now ah.now b.now bh.now khz.old which.old difference.old out.old).khz }
+    ensures which_after { which.new ≡ (port_compare a.now ah.now b.now bh.now khz.old which.old difference.old out.old).which }
+    ensures difference_after { difference.new ≡ (port_compare a.now ah.now b.now bh.now khz.old which.old difference.old out.old).difference }
+    ensures out_after { out.new ≡ (port_compare a.now ah.now b.now bh.now khz.old which.old difference.old out.old).out }
+{
+    if out.len() < 1 {
+        return 1;
+    }
+    let c = traces::compare(a, ah, b, bh, khz, which, difference);
+    count_into(c, out)
+}
+
+fn floats_30(w: &[u32], from: usize) -> [f32; 30]
+    requires { from + 30 ≤ length w.now }
+    ensures { result ≡ floats_of w.now from 30 }
+{
+    let mut x = [0.0; 30];
+    port_state::floats_of(w, from, &mut x);
+    x
+}
+
+fn words_into(x: &[u32], w: &mut [u32])
+    requires { length x.now ≤ length w.old }
+    ensures { w.new ≡ words_at_start x.now w.old }
+{
+    let mut i: usize = 0;
+    while i < x.len() {
+        let v = x[i];
+        w[i] = v;
+        i += 1;
+    }
+}
+
+fn words_30_into(x: [u32; 30], w: &mut [u32])
+    requires { 30 ≤ length w.old }
+    ensures { w.new ≡ words_at_start x w.old }
+{
+    words_into(&x, w);
+}
+
+fn trace_into(t: TraceAnswer, khz: &mut [u32], height: &mut [u32]) -> u32
+    requires { (30 ≤ length khz.old) × (30 ≤ length height.old) }
+    ensures value { result ≡ (trace_into t khz.old height.old).number }
+    ensures khz_after { khz.new ≡ (trace_into t khz.old height.old).khz }
+    ensures height_after { height.new ≡ (trace_into t khz.old height.old).height }
+{
+    let o = t.outcome;
+    match o {
+        Outcome::Answered => {
+            let k = t.khz;
+            let h = t.height;
+            words_30_into(k, khz);
+            words_30_into(h, height);
+            0
+        }
+        Outcome::Refused(r) => refusal::number(r),
+    }
+}
+
+// rows: fvert and hprim of thirty rows, 60 words, with which an ionogram's 150 begin; khz and height: 30 words each.
+pub fn port_trace(rows: &[u32], khz: &mut [u32], height: &mut [u32]) -> u32
+    ensures value { result ≡ (port_trace rows.now khz.old height.old).number }
+    ensures khz_after { khz.new ≡ (port_trace rows.now khz.old height.old).khz }
+    ensures height_after { height.new ≡ (port_trace rows.now khz.old height.old).height }
+{
+    if rows.len() < 60 {
+        return 1;
+    }
+    if khz.len() < 30 {
+        return 1;
+    }
+    if height.len() < 30 {
+        return 1;
+    }
+    let fvert = floats_30(rows, 0);
+    let hprim = floats_30(rows, 30);
+    let t = computed_trace::trace_of(fvert, hprim);
+    trace_into(t, khz, height)
+}

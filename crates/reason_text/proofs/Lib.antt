@@ -1,0 +1,2 @@
+-- How long a reason is.
+pub mod Lengths

@@ -1,0 +1,2 @@
+-- Refusals in words.
+pub mod ReasonText

@@ -1,0 +1,2 @@
+-- How long the table is.
+pub mod Lengths

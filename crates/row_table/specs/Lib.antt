@@ -1,0 +1,2 @@
+-- A slot's rows as a table.
+pub mod RowTable

@@ -1,0 +1,2 @@
+-- How long the runs are.
+pub mod Lengths

@@ -1,0 +1,2 @@
+-- A slot's marks as runs.
+pub mod RunText

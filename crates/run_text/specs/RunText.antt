@@ -1,0 +1,35 @@
+-- A slot's marks for the eye. Heights that follow one another with one mark are a run, and a run is a line: its first and its last height, numbered from 1, and the name of the shape, as in `15 to 20  valley line`. A run begins at the lowest height and where the height below has another mark; it ends at the highest one and where the height above has another.
+use Rattle.std.specs.Prelude.{Bool, true, false, cond, not, List, [], ◌∷◌, ◌++◌, ℕ, ◌+◌, ◌-◌, eqb, get_or}
+use Rattle.lines.specs.Text.{line_feed, decimal_of, joined}
+use Rattle.aligned.specs.Ascii.{ascii}
+use Rattle.aligned.specs.Aligned.{right}
+use Rattle.shapes.specs.Mark.{mark_number_of, name_of}
+use Rattle.shapes.specs.declared.Mark.{Mark}
+use Rattle.shapes.specs.declared.HeightMark.{HeightMark}
+use Rattle.mark_text.specs.MarkText.{no_mark}
+
+unfoldable pub mark_at : List HeightMark → ℕ → Mark
+mark_at marks i = (get_or marks i no_mark).mark
+
+abbrev pub same_mark : Mark → Mark → Bool
+same_mark m n = eqb (mark_number_of m) (mark_number_of n)
+
+unfoldable pub begins_at : List HeightMark → ℕ → Bool
+begins_at marks i = cond (eqb i 0) true (not (same_mark (mark_at marks (i - 1)) (mark_at marks i)))
+
+unfoldable pub ends_at : List HeightMark → ℕ → Bool
+ends_at marks i = cond (eqb i 49) true (not (same_mark (mark_at marks i) (mark_at marks (i + 1))))
+
+unfoldable pub start_text : Bool → ℕ → List ℕ
+start_text true i = right 2 (decimal_of (i + 1)) ++ ascii " to "
+start_text false i = []
+
+unfoldable pub end_text : Bool → ℕ → Mark → List ℕ
+end_text true i m = right 2 (decimal_of (i + 1)) ++ (ascii "  " ++ (name_of m ++ (line_feed ∷ [])))
+end_text false i m = []
+
+unfoldable pub run_text : List HeightMark → ℕ → List ℕ
+run_text marks i = start_text (begins_at marks i) i ++ end_text (ends_at marks i) i (mark_at marks i)
+
+unfoldable pub runs_text : List HeightMark → List ℕ
+runs_text marks = joined (run_text marks) 50

@@ -1,0 +1,2 @@
+-- Lengths of text.
+pub mod Lengths

@@ -1,0 +1,2 @@
+-- The page of a sheet, and of a refusal.
+pub mod Page

@@ -1,0 +1,2 @@
+-- What `show` prints.
+pub mod ShowText

@@ -1,0 +1,2 @@
+-- How long the axes are.
+pub mod Lengths

@@ -1,0 +1,2 @@
+-- The frame with its axes.
+pub mod Axes

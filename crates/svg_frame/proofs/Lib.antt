@@ -1,0 +1,2 @@
+-- How long the beginning is.
+pub mod Lengths

@@ -1,0 +1,2 @@
+-- What every picture begins with.
+pub mod Frame

@@ -1,0 +1,2 @@
+-- How long the legend is.
+pub mod Lengths

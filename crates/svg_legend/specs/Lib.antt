@@ -1,0 +1,2 @@
+-- The legend.
+pub mod Legend

@@ -1,0 +1,2 @@
+-- A point that is drawn is in the frame.
+pub mod Frame

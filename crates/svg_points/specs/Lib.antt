@@ -1,0 +1,2 @@
+-- Where a number stands in the frame.
+pub mod Points

@@ -1,0 +1,2 @@
+-- How long the pieces are.
+pub mod Lengths

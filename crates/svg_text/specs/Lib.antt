@@ -1,0 +1,2 @@
+-- Marks and the MUF's line.
+pub mod Pieces

@@ -1,0 +1,2 @@
+-- How long the line's data is.
+pub mod Lengths

@@ -1,0 +1,2 @@
+-- The line through the rows.
+pub mod Trace

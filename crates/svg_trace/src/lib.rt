@@ -1,0 +1,51 @@
+// The line through an ionogram's rows, as the data of an SVG path in lent bytes.
+#![tactic(auto)]
+
+ghost use Rattle.std.specs.Prelude.{◌≡◌};
+ghost use Rattle.lines.specs.Text.{Clipped};
+ghost use Rattle.svg_trace.specs.Trace.{pen_text, pair_text, step_text, trace_text};
+
+use svg_points::Drawn;
+
+// Whether the line is drawn on from the point before, or starts here.
+fn put_pen(out: &mut [u8], at: usize, last: Drawn) -> usize
+    ensures { Clipped (pen_text last) out.old at out.new result }
+{
+    match last {
+        Drawn::At(_, _) => lines::put_byte(out, at, b'L'),
+        Drawn::Nowhere => lines::put_byte(out, at, b'M'),
+    }
+}
+
+fn put_pair(out: &mut [u8], at: usize, x: u64, y: u64) -> usize
+    ensures { Clipped (pair_text x y) out.old at out.new result }
+{
+    let a = lines::put_decimal(out, at, x);
+    lines::put_field(out, a, y)
+}
+
+fn put_step(out: &mut [u8], at: usize, last: Drawn, here: Drawn) -> usize
+    ensures { Clipped (step_text last here) out.old at out.new result }
+{
+    match here {
+        Drawn::At(x, y) => {
+            let a = put_pen(out, at, last);
+            put_pair(out, a, x, y)
+        }
+        Drawn::Nowhere => at,
+    }
+}
+
+// The line through thirty rows, broken where a row has no point.
+pub fn put_trace(out: &mut [u8], at: usize, f: [f32; 30], h: [f32; 30]) -> usize
+    ensures { Clipped (trace_text f h) out.old at out.new result }
+{
+    let mut e = at;
+    let mut last = Drawn::Nowhere;
+    for i in 0..30 {
+        let here = svg_points::point(f[i], h[i]);
+        e = put_step(out, e, last, here);
+        last = here;
+    }
+    e
+}
