@@ -1,4 +1,6 @@
 // A number in decimals, rounded by its exact value and put into a field of a given width.
+#![tactic(auto)]
+
 ghost use Rattle.std.specs.Prelude.{◌≡◌, true, false, ◌/◌, ◌%◌, ◌^◌, ◌≤◌};
 ghost use Rattle.io.specs.Digits.{hex_digit_ascii, last_digits};
 ghost use Rattle.lines.specs.Text.{decimal_of, Clipped};

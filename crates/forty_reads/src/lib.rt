@@ -1,4 +1,6 @@
 // The forty densities of the sum of `gethp`: the nodes' heights, a density read at each by one walk or by forty scans, and cut.
+#![tactic(auto)]
+
 ghost use Rattle.std.specs.Prelude.{◌≡◌, ◌<◌, eqb, replicate};
 ghost use Rattle.scalar.specs.Literals.{f0};
 ghost use Rattle.forty_reads.specs.Nodes.{xt, zg_by, height_of, ig_at, ib_at};

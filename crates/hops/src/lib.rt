@@ -9,7 +9,7 @@ use constants::{D2R, PIO2, RZ};
 use refusal::Refusal;
 
 // The number of hops, as the float that the geometry takes.
-#[derive(Drop)]
+#[derive(Clone, Copy)]
 pub enum Hops {
     Count(f32),
     Refused(Refusal),

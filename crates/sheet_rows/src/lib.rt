@@ -1,4 +1,5 @@
 // The thirty rows of a slot, as lines of text.
+#![tactic(auto)]
 
 ghost use Rattle.std.specs.Prelude.{◌<◌};
 ghost use Rattle.lines.specs.Text.{joined, Clipped};

@@ -112,8 +112,7 @@ fn angles() {
 fn hop_counts() {
     let one = hops::hop_count(1500.0, 3.0, 300.0);
     say(b"hops at 300 km: ", hops::hops_number(one) as u64);
-    let same = hops::hop_count(1500.0, 3.0, 300.0);
-    say_bits(b"their count: ", hops::hops_value(same));
+    say_bits(b"their count: ", hops::hops_value(one));
     let ground = hops::hop_count(1500.0, 0.0, 0.0);
     say(b"hops at the ground: ", hops::hops_number(ground) as u64);
 }

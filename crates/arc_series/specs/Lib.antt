@@ -1,0 +1,2 @@
+-- The arc tangent's own series.
+pub mod OwnSeries

@@ -1,0 +1,3 @@
+#![tactic(auto)]
+
+// The arc tangent's own power series: a theorem, no code.

@@ -1,0 +1,3 @@
+-- Arc tangent and arc sine are less than one unit from the exact value.
+pub mod Atan
+pub mod Asin

@@ -1,0 +1,3 @@
+#![tactic(auto)]
+
+// exp and ln are near the exact values: theorems, no code.

@@ -1,0 +1,3 @@
+-- How near sine and cosine are to the exact values, and the two fractions that enclose each.
+pub mod Near
+pub mod Literal

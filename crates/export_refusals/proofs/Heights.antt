@@ -1,0 +1,56 @@
+-- Heights: the words lent, and for a parabola the numbers of its layer and slot.
+use mathlib.Core.Bool.{Bool, false}
+use mathlib.Core.List.{List}
+use mathlib.Core.Path.{refl}
+use Prim.Native.Nat.{ℕ}
+use lib.Dec.{ltb}
+use lib.ListN.{length}
+use lib.Ieee.{Float, binary32, of_bits}
+use Rattle.record_chain.specs.Chain.{member}
+use Rattle.parabolas.specs.Bendy.{bendy_of, pen_of, layer_answer_by, bendy_answer, pen_answer, layer_number_of}
+use Rattle.port_state.specs.Ports.{Ported}
+use Rattle.port_state.specs.State.{state_words, state_of}
+use Rattle.port_heights.specs.Exports.{unless_either_short, on_state, grids_by, gethp_left, gethp_scan_left, reading_left, bendy_left, pen_left, xlin_left}
+use Rattle.export_refusals.specs.Exports.{OneOf, gethp_numbers, gethp_scan_numbers, reading_numbers, bendy_numbers, pen_numbers, xlin_numbers}
+use Rattle.export_refusals.proofs.Cases.{both}
+
+-- a is what is answered where the words suffice
+module _ (numbers : List ℕ) (out : List ℕ) (a : Ported) (one : OneOf numbers 1) (rest : OneOf numbers a.number) where
+  left_by : (b c : Bool) → OneOf numbers (unless_either_short b c out a).number
+  left_by b c = both (λ x. OneOf numbers (unless_either_short x c out a).number) one (both (λ x. OneOf numbers (unless_either_short false x out a).number) one rest c) b
+
+  on-state : (state : List ℕ) (n : ℕ) → OneOf numbers (on_state state n out a).number
+  on-state state n = left_by (ltb (length state) state_words) (ltb (length out) n)
+
+  on-grids : (b c : Bool) → OneOf numbers (grids_by b c out a).number
+  on-grids b c = both (λ x. OneOf numbers (grids_by x c out a).number) one (left_by c (ltb (length out) 2)) b
+
+parabola : (b c : Bool) (v : Float) → OneOf bendy_numbers (layer_number_of (layer_answer_by b c v))
+unfolding layer_number_of member
+parabola b c v =
+    both (λ x. OneOf bendy_numbers (layer_number_of (layer_answer_by x c v))) refl
+    (both (λ x. OneOf bendy_numbers (layer_number_of (layer_answer_by false x v))) refl refl c) b
+
+pub gethp-numbers : (state : List ℕ) (fxx : ℕ) (out : List ℕ) → OneOf gethp_numbers (gethp_left state fxx out).number
+unfolding gethp_left member
+gethp-numbers state fxx out = on-state gethp_numbers out _ refl refl state 4
+
+pub gethp-scan-numbers : (state : List ℕ) (fxx : ℕ) (out : List ℕ) → OneOf gethp_scan_numbers (gethp_scan_left state fxx out).number
+unfolding gethp_scan_left member
+gethp-scan-numbers state fxx out = on-state gethp_scan_numbers out _ refl refl state 4
+
+pub reading-numbers : (state : List ℕ) (zi : ℕ) (out : List ℕ) → OneOf reading_numbers (reading_left state zi out).number
+unfolding reading_left member
+reading-numbers state zi out = on-state reading_numbers out _ refl refl state 3
+
+pub bendy-numbers : (state : List ℕ) (i k f : ℕ) (out : List ℕ) → OneOf bendy_numbers (bendy_left state i k f out).number
+unfolding bendy_left bendy_answer member
+bendy-numbers state i k f out = on-state bendy_numbers out _ refl (parabola (ltb 2 i) (ltb 2 k) (bendy_of (state_of state) i k (of_bits binary32 f))) state 1
+
+pub pen-numbers : (state : List ℕ) (i k f : ℕ) (out : List ℕ) → OneOf pen_numbers (pen_left state i k f out).number
+unfolding pen_left pen_answer member
+pen-numbers state i k f out = on-state pen_numbers out _ refl (parabola (ltb 2 i) (ltb 2 k) (pen_of (state_of state) i k (of_bits binary32 f))) state 1
+
+pub xlin-numbers : (x : ℕ) (xn yn out : List ℕ) → OneOf xlin_numbers (xlin_left x xn yn out).number
+unfolding xlin_left member
+xlin-numbers x xn yn out = on-grids xlin_numbers out _ refl refl (ltb (length xn) 50) (ltb (length yn) 50)

@@ -1,0 +1,2 @@
+-- Which numbers each export can answer, and no other.
+pub mod Exports

@@ -1,0 +1,3 @@
+#![tactic(auto)]
+
+// No function: which numbers each export can answer.

@@ -1,0 +1,242 @@
+// What `mark` prints of inputs that are too short or refused, of our own sheet, and of sheets that differ from it in one place. The
+// stored output has the paper's answers: the sheet of this circuit has a line of `muf`, one of `call`, one of `slot`, thirty rows and
+// fifty marks.
+#![tactic(auto)]
+
+ghost use Rattle.std.specs.Prelude.{◌≤◌, length};
+ghost use Rattle.io.specs.Counts.{IsPrefixLen};
+
+// A circuit of one point on a path of 3185 km.
+const FILE: [u8; 128] = [
+    1, 0, 1, 0, 1, 0, 0, 0, 0, 0, 0, 63, 0, 16, 71, 69, 0, 0, 64, 64, 0, 0, 200, 66, 0, 0, 0, 0, 0,
+    0, 0, 0, 0, 0, 0, 0, 0, 0, 0, 0, 0, 0, 0, 0, 0, 0, 0, 0, 0, 0, 0, 0, 0, 0, 0, 0, 0, 0, 0, 0, 0,
+    0, 0, 0, 2, 0, 0, 0, 0, 0, 64, 64, 0, 0, 144, 64, 0, 0, 4, 65, 0, 0, 160, 65, 0, 0, 32, 66, 0,
+    0, 160, 66, 0, 0, 220, 66, 0, 0, 62, 67, 0, 0, 145, 67, 0, 0, 192, 63, 0, 0, 64, 64, 0, 0, 160,
+    64, 0, 0, 220, 66, 0, 0, 64, 63, 0, 0, 64, 65,
+];
+
+// The number of its sheet's last line.
+const LAST: usize = 83;
+
+// Room for the longest input that decides, and some bytes more.
+const MOST: usize = 53300;
+
+// n, or all of the bytes where n is more.
+fn within(n: usize, s: &[u8]) -> usize
+    ensures { IsPrefixLen result s.now }
+{
+    if n < s.len() {
+        return n;
+    }
+    s.len()
+}
+
+// What is printed of an input, after its name.
+fn print(name: &[u8], input: &[u8]) {
+    io::write_all(1, name);
+    let mut text = [0u8; marking::ROOM];
+    let len = marking::marking_text(input, &mut text);
+    io::write_all(1, &text[..len]);
+}
+
+// The length, lowest byte first, then the file and the sheet.
+fn lengthy(name: &[u8], length: [u8; 4], file: &[u8], sheet: &[u8]) {
+    let mut input = [0u8; MOST];
+    let a = lines::put_word(&mut input, 0, &length);
+    let b = lines::put_word(&mut input, a, file);
+    let c = lines::put_word(&mut input, b, sheet);
+    let e = within(c, &input);
+    print(name, &input[..e]);
+}
+
+// A file of 128 bytes.
+fn trial(name: &[u8], file: [u8; 128], sheet: &[u8]) {
+    lengthy(name, [128, 0, 0, 0], &file, sheet);
+}
+
+fn lengths() {
+    print(b"no bytes\n", b"");
+    print(b"three bytes\n", b"abc");
+    lengthy(b"length 0\n", [0, 0, 0, 0], b"", b"");
+    lengthy(b"length 127\n", [127, 0, 0, 0], &FILE, b"");
+    lengthy(
+        b"length 129, one byte too few\n",
+        [129, 0, 0, 0],
+        &FILE,
+        b"",
+    );
+    let record = [0u8; 64];
+    lengthy(
+        b"length 192, a record off the chain\n",
+        [192, 0, 0, 0],
+        &FILE,
+        &record,
+    );
+    lengthy(b"length 4294967295\n", [255, 255, 255, 255], &FILE, b"");
+    let long = [0u8; 4160];
+    lengthy(b"length 4160\n", [64, 16, 0, 0], &long, b"");
+}
+
+// The first decile number is 0.85, and clck -3.
+fn late() -> [u8; 3200] {
+    let mut f = [0u8; 3200];
+    for i in 0..128usize {
+        f[i] = FILE[i];
+    }
+    f[66] = 2;
+    f[126] = 64;
+    f[127] = 192;
+    for n in 2..50usize {
+        f[64 * n] = 3;
+        f[64 * n + 2] = (n % 49 + 1) as u8;
+    }
+    f[3138] = 0;
+    f[132] = 154;
+    f[133] = 153;
+    f[134] = 89;
+    f[135] = 63;
+    f
+}
+
+// A refused circuit, beside what `sheet` prints of it.
+fn circuits() {
+    let mut kind = FILE;
+    kind[0] = 2;
+    trial(b"kind 2\n", kind, b"refused 2\n");
+    let mut past = FILE;
+    past[2] = 2;
+    trial(b"past the last record\n", past, b"refused 3\n");
+    let mut record = FILE;
+    record[64] = 3;
+    trial(b"no point\n", record, b"refused 4\n");
+    let mut far = FILE;
+    far[12] = 0;
+    far[13] = 0;
+    far[14] = 250;
+    far[15] = 196;
+    trial(b"gcdkm -2000\n", far, b"refused 7\n");
+    let mut round = FILE;
+    round[12] = 0;
+    round[13] = 40;
+    round[14] = 32;
+    round[15] = 71;
+    trial(b"gcdkm 41000\n", round, b"refused 9\n");
+    let mut steep = FILE;
+    steep[18] = 180;
+    steep[19] = 66;
+    trial(b"amind 90\n", steep, b"refused 11\n");
+    let f = late();
+    lengthy(b"clck -3\n", [128, 12, 0, 0], &f, b"refused 12\n");
+}
+
+// Our sheet, then zeros up to n bytes in all.
+fn sized(name: &[u8], file: [u8; 128], n: usize) {
+    let mut ours = [0u8; sheet_text::ROOM];
+    let len = sheet_text::sheet_text(&FILE, &mut ours);
+    let mut sheet = [0u8; MOST];
+    lines::put_word(&mut sheet, 0, &ours[..len]);
+    let e = within(n, &sheet);
+    trial(name, file, &sheet[..e]);
+}
+
+fn sizes() {
+    sized(b"49152 bytes\n", FILE, 49152);
+    sized(b"49153 bytes\n", FILE, 49153);
+    let mut kind = FILE;
+    kind[0] = 2;
+    sized(b"49153 bytes, and kind 2\n", kind, 49153);
+}
+
+// How many bytes the first n lines have.
+fn lines_end(s: &[u8], n: usize) -> usize
+    ensures { result ≤ length s.now }
+{
+    let mut k = 0;
+    let mut i = 0;
+    while i < s.len() {
+        if k == n {
+            return i;
+        }
+        if s[i] == b'\n' {
+            k += 1;
+        }
+        i += 1;
+    }
+    i
+}
+
+// Puts the bytes of s from `from` to `to`.
+fn put_part(out: &mut [u8], at: usize, s: &[u8], from: usize, to: usize) -> usize {
+    let b = within(to, s);
+    let a = within(from, &s[..b]);
+    lines::put_word(out, at, &s[a..b])
+}
+
+// How many bytes the first n lines of our sheet have.
+fn start(n: usize) -> usize
+    ensures { result ≤ 8192 }
+{
+    let mut ours = [0u8; sheet_text::ROOM];
+    let len = sheet_text::sheet_text(&FILE, &mut ours);
+    let end = lines_end(&ours[..len], n);
+    if end > sheet_text::ROOM {
+        return sheet_text::ROOM;
+    }
+    end
+}
+
+// Our sheet up to a byte, then other bytes, then our sheet again without the next `cut`.
+fn replaced(name: &[u8], from: usize, by: &[u8], cut: u16)
+    requires { from ≤ 10000 }
+{
+    let mut ours = [0u8; sheet_text::ROOM];
+    let len = sheet_text::sheet_text(&FILE, &mut ours);
+    let mut sheet = [0u8; MOST];
+    let a = put_part(&mut sheet, 0, &ours[..len], 0, from);
+    let b = lines::put_word(&mut sheet, a, by);
+    let c = put_part(&mut sheet, b, &ours[..len], from + cut as usize, len);
+    let e = within(c, &sheet);
+    trial(name, FILE, &sheet[..e]);
+}
+
+// The same from the end of `lines` lines and `skip` bytes on.
+fn changed(name: &[u8], lines: usize, skip: u8, by: &[u8], cut: u16) {
+    let from = start(lines) + skip as usize;
+    replaced(name, from, by, cut);
+}
+
+// The same from the line feed of a line on.
+fn at_feed(name: &[u8], line: usize, by: &[u8], cut: u16) {
+    let end = start(line);
+    if end > 0 {
+        replaced(name, end - 1, by, cut);
+    }
+}
+
+fn sheets() {
+    changed(b"ours\n", 0, 0, b"", 0);
+    changed(b"no sheet\n", 0, 0, b"", 65535);
+    changed(b"the first line alone\n", 1, 0, b"", 65535);
+    changed(b"all but the last line\n", LAST - 1, 0, b"", 65535);
+    changed(b"three bytes of the last line\n", LAST - 1, 3, b"", 65535);
+    at_feed(b"the last line feed missing\n", LAST, b"", 1);
+    changed(b"an empty line too many\n", LAST, 0, b"\n", 0);
+    changed(b"a space too many, at the end\n", LAST, 0, b" ", 0);
+    at_feed(b"a space before the last line feed\n", LAST, b" ", 0);
+    at_feed(b"a carriage return in the first line\n", 1, b"\r", 0);
+    at_feed(b"a carriage return in the last line\n", LAST, b"\r", 0);
+    changed(b"an empty line in front\n", 0, 0, b"\n", 0);
+    at_feed(b"the first line feed missing\n", 1, b"", 1);
+    changed(b"line 2 missing\n", 1, 0, b"", 11);
+    changed(b"a line feed in line 2\n", 1, 4, b"\n", 0);
+    changed(b"-0 for +0 in line 4\n", 3, 29, b"8", 1);
+    changed(b"a capital letter in line 4\n", 3, 3, b"C", 1);
+    changed(b"another byte in the last line\n", LAST - 1, 0, b"x", 1);
+}
+
+fn main() {
+    lengths();
+    circuits();
+    sizes();
+    sheets();
+}

@@ -1,0 +1,57 @@
+// What `plot` prints of stored files: circuits with and without F1, with NaN, infinite and huge numbers, a MUF
+// outside the frame and one of 0, and files that are refused. The files stand on standard input, each after its
+// length, two bytes, the lower first. The stored output is what the description and the Rust say.
+#![tactic(auto)]
+
+ghost use Rattle.std.specs.Prelude.{◌≤◌};
+
+use plot_text::ROOM;
+use sheet_text::INPUT;
+
+fn length(low: u8, high: u8) -> usize
+    ensures { result ≤ 0xffff }
+{
+    low as usize + 256 * (high as usize)
+}
+
+// The picture of the first n bytes.
+fn print(file: [u8; INPUT], n: usize)
+    requires { n ≤ 4160 }
+{
+    let mut text = [0u8; ROOM];
+    let len = plot_text::plot_text(&file[..n], &mut text);
+    io::write_all(1, &text[..len]);
+}
+
+// The picture of the next n bytes of the input.
+fn plot(n: usize) {
+    if n > INPUT {
+        return;
+    }
+    let mut file = [0u8; INPUT];
+    let got = io::read_full(0, &mut file[..n]);
+    if got < n {
+        return;
+    }
+    print(file, n);
+}
+
+fn next() {
+    let mut head = [0u8; 2];
+    let got = io::read_full(0, &mut head);
+    if got < 2 {
+        return;
+    }
+    plot(length(head[0], head[1]));
+}
+
+fn main() {
+    next();
+    next();
+    next();
+    next();
+    next();
+    next();
+    next();
+    next();
+}

@@ -1,0 +1,57 @@
+// What `show` prints of stored circuit files: short and long paths, with and without F1, two points, NaN, numbers
+// too wide for their columns, and a file for every refusal. Standard input has the files, each after its length in
+// two bytes; the oracle writes it, and the stored output (oracle/README.md).
+#![tactic(auto)]
+
+ghost use Rattle.std.specs.Prelude.{◌≤◌};
+
+use sheet_text::INPUT;
+use show_text::ROOM;
+
+fn length(low: u8, high: u8) -> usize
+    ensures { result ≤ 0xffff }
+{
+    low as usize + 256 * (high as usize)
+}
+
+// The page of the first n bytes.
+fn print(file: [u8; INPUT], n: usize) -> bool
+    requires { n ≤ 4160 }
+{
+    let mut text = [0u8; ROOM];
+    let len = show_text::show_text(&file[..n], &mut text);
+    io::write_all(1, &text[..len])
+}
+
+// The page of the next n bytes; false where there are fewer.
+fn page(n: usize) -> bool {
+    if n > INPUT {
+        return false;
+    }
+    let mut file = [0u8; INPUT];
+    let got = io::read_full(0, &mut file[..n]);
+    if got < n {
+        return false;
+    }
+    print(file, n)
+}
+
+fn next_page() -> bool {
+    let mut head = [0u8; 2];
+    let got = io::read_full(0, &mut head);
+    if got < 2 {
+        return false;
+    }
+    page(length(head[0], head[1]))
+}
+
+// At most a hundred pages.
+fn main() {
+    let mut i = 0usize;
+    while i < 100 {
+        if !next_page() {
+            return;
+        }
+        i += 1;
+    }
+}

@@ -1,0 +1,18 @@
+-- Each theorem at the end of its range.
+use mathlib.Core.Path.{refl, sym}
+use Prim.Native.Nat.{◌+◌, ◌*◌}
+use native.Mathlib.Nat.{le_of_eq, le_refl}
+use native.Mathlib.Omega.{arith}
+use Rattle.compose_laws.proofs.Written.{text-written}
+use Rattle.compose_laws.proofs.ReadBack.{text-read-back}
+use Rattle.marking.proofs.Laws.{marking-laws}
+use Rattle.statement_checks.specs.Files.{FilesAsRead}
+
+pub files-as-read : FilesAsRead
+files-as-read =
+    record {
+      every-fit = λ size first extra p q r. (p, omega arith, omega arith);
+      room = λ text out e h. let room = le_of_eq (sym h) in (text-written text out e room, text-read-back text out e room);
+      decided = λ input. marking-laws.decided input (4 + 64 * 64 + 49153) (le_refl _);
+      return = refl;
+    }

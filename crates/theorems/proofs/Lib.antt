@@ -1,0 +1,2 @@
+-- Each statement of the page is cited from the crate that proves it.
+pub mod Theorems
