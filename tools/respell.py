@@ -13,7 +13,7 @@ import os
 import re
 import sys
 
-# A lemma that would have the name of the function it speaks of, by the file that has both: it gets the ending `_lem`.
+# A lemma that would have the name of the definition it speaks of, by the file that has both: it gets the ending `_lem`.
 LEMMAS = {
     "call_lists/proofs/Lists.antt": ["answers_with"],
     "sheet_refusals/proofs/Muf.antt": ["both_by"],
@@ -21,12 +21,14 @@ LEMMAS = {
     "sheet_lines/proofs/Lengths.antt": ["call_line"],
     "trace_laws/proofs/OnlyLines.antt": ["in_both"],
     "circuit_laws/proofs/ReadWritten.antt": ["point_at"],
-    "circuit_sheet/proofs/Ranges.antt": ["raised_by"],
-    "ionogram_words/proofs/Ranges.antt": ["raised_by"],
+    "circuit_sheet/proofs/Ranges.antt": ["raised_by", "count_by"],
+    "ionogram_words/proofs/Ranges.antt": ["raised_by", "count_by"],
     "state_laws/proofs/ReadBack.antt": ["signed_by"],
     "chain_laws/proofs/Longer.antt": ["step_by"],
     "cell_test/proofs/Test.antt": ["under_one"],
     "call_lists/proofs/Numbers.antt": ["upper_by"],
+    "export_refusals/proofs/Heights.antt": ["left_by"],
+    "scan_angles/proofs/Counts.antt": ["step_by"],
 }
 
 NAME = re.compile(r"(?<![^\s(){}\[\];,@«».\"`])[^\s(){}\[\];,@«».\"`]+")
@@ -69,7 +71,8 @@ def main(argv):
     for name, lemmas in LEMMAS.items():
         p = os.path.join(root, "crates", name)
         if p in texts:
-            texts[p] = NAME.sub(lambda m: m.group(0) + "_lem" if m.group(0) in lemmas else m.group(0), texts[p])
+            meant = {snake(n) for n in NAME.findall(texts[p]) if CAMEL.search(n)}
+            texts[p] = NAME.sub(lambda m: m.group(0) + "_lem" if m.group(0) in lemmas and m.group(0) in meant else m.group(0), texts[p])
     own = set()
     for p, t in texts.items():
         if p.endswith(".antt"):
