@@ -59,7 +59,21 @@ pub fn smallest(form: Form) -> File {
     record(f, 1, 2, 0)
 }
 
-// n records of kind 3 after those two, in order; the last decile is minus zero.
+// In the new form the last decile of record n is minus zero.
+fn signed(mut f: File, n: usize) -> File
+    requires { n < 65 }
+{
+    match f.form {
+        Form::Old => f,
+        Form::New => {
+            let at = start(f.form, n);
+            f.bytes[at + 51] = 128;
+            f
+        }
+    }
+}
+
+// n records of kind 3 after those two, in order.
 pub fn with_deciles(form: Form, n: usize) -> File
     requires { n ≤ 60 }
 {
@@ -69,7 +83,5 @@ pub fn with_deciles(form: Form, n: usize) -> File
         f = record(f, k, 3, ((k + 1) % 256) as u8);
         k += 1;
     }
-    let last = start(form, n + 1);
-    f.bytes[last + 51] = 128;
-    record(f, n + 1, 3, 0)
+    record(signed(f, n + 1), n + 1, 3, 0)
 }
