@@ -1,13 +1,13 @@
 -- Product, quotient and root of numbers above zero, in units of 2 ^ -149, each with the error of its rounding.
 use mathlib.Core.Path.{◌≡◌, sym, ap, ◌∙◌, subst}
 use mathlib.Core.Bool.{Bool, true, false, cond}
-use Prim.Native.Nat.{ℕ, zero, suc, ◌+◌, ◌-◌, ◌*◌, ◌/◌, ◌%◌, ◌^◌, ◌≤◌, ◌<◌}
-use native.Mathlib.Nat.{le_trans, le_of_eq, le_of_lt, lt_of_lt_of_le, lt_of_le_of_lt, mul_comm, mul_assoc, mul_right_comm, mul-mul-mul_comm, mul-one, one-mul, mul-pos, mul-le-mul, mul-le-mul_right, le_of_mul-le-mul_right, lt_of_mul-lt-mul_right, zero-lt-suc, div-eq_of_lt-le, min-eq_left}
+use Prim.Native.Nat.{ℕ, zero, suc, ◌+◌, ◌-◌, ◌*◌, ◌/◌, ◌^◌, ◌≤◌, ◌<◌}
+use native.Mathlib.Nat.{le_trans, lt_of_lt_of_le, lt_of_le_of_lt, mul-pos, mul-le-mul_right, le_of_mul-le-mul_right, lt_of_mul-lt-mul_right, zero-lt-suc, div-eq_of_lt-le, min-eq_left}
 use native.Mathlib.Omega.{arith}
 use lib.IntN.{pos}
 use lib.Dec.{T, eqb, eqb→eq, eqb-suc-zero, lit≤, lit<}
 use lib.Pow.{pow_pos}
-use lib.Ieee.{Float, nan, inf, fin, binary32, up, down, round, mul, div, le, of_bits}
+use lib.Ieee.{Float, nan, inf, fin, binary32, up, down, round, mul, div, le}
 use lib.Ieee.Fits.{down_pos}
 use lib.Ieee.Exact.{HasValue}
 use lib.Ieee.Scale.{round_same}

@@ -3,7 +3,7 @@
 
 mod given;
 
-ghost use Rattle.std.specs.Prelude.{◌≡◌, ◌||◌, ◌+◌, ◌≤◌, ◌<◌, min, eqb, length, drop};
+ghost use Rattle.std.specs.Prelude.{◌≡◌, ◌+◌, ◌≤◌, ◌<◌, min, length, drop};
 ghost use Rattle.words.specs.Words.{run, other};
 ghost use Rattle.compose_text.specs.Draft.{no_draft, failed, is_shape, with_path, with_point, with_deciles, with_row, with_line, is_whole, ended_draft, composed_of};
 

@@ -2,7 +2,7 @@
 #![tactic(auto)]
 
 ghost use Rattle.std.specs.Prelude.{◌≡◌, ◌<◌, ◌≤◌};
-ghost use Rattle.deciles.specs.F2dis.{sunspot_row_of, j_of, i_of, icl_of, time_block_of, icc_of, place_of, classical_of, spread_of, f2dis_of, DeviationSays};
+ghost use Rattle.deciles.specs.F2dis.{sunspot_row_of, j_of, i_of, icl_of, icc_of, place_of, classical_of, spread_of, f2dis_of, DeviationSays};
 
 use refusal::Refusal;
 

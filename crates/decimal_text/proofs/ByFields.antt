@@ -1,5 +1,5 @@
 -- What a number is, by the fields of its pattern.
-use Prim.Native.Nat.{ℕ, zero, suc, ◌^◌, ◌<◌}
+use Prim.Native.Nat.{ℕ, zero, suc, ◌<◌}
 use mathlib.Core.Path.{◌≡◌, refl, ap, sym}
 use mathlib.Core.Bool.{Bool}
 use native.Mathlib.Omega.{arith}

@@ -1,5 +1,5 @@
 -- A number in decimals: the size by its exact value to the nearest unit of the last place, an exact half to the even digit, with a minus where the number is below zero and a digit of the text is not 0. In a field of a given width it stands at the right, and stars stand for one that takes more.
-use Rattle.std.specs.Prelude.{ℕ, zero, suc, ◌*◌, ◌/◌, ◌^◌, ◌≡◌, Bool, true, false, List, [], ◌∷◌, ◌++◌, length, Float}
+use Rattle.std.specs.Prelude.{ℕ, zero, suc, ◌*◌, ◌/◌, ◌^◌, ◌≡◌, Bool, true, false, List, ◌++◌, length, Float}
 use Rattle.std.specs.Float.{nan, inf, fin}
 use Rattle.std.specs.Float.Ieee.{up, down}
 use Rattle.io.specs.Digits.{last_digits}

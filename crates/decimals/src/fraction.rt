@@ -2,7 +2,7 @@
 ghost use Rattle.std.specs.Prelude.{◌≡◌, Bool, cond, ◌+◌, ◌*◌, ◌^◌, ◌≤◌, ◌<◌};
 ghost use Rattle.std.specs.Float.{binary32};
 ghost use Rattle.std.specs.Float.Ieee.{round, to_bits};
-ghost use Rattle.std.specs.Float.Ieee.Nearest.{closest as closestOf};
+ghost use Rattle.std.specs.Float.Ieee.Nearest.{closest as closest_of};
 
 // 10^places
 fn ten(places: u32) -> u64
@@ -21,7 +21,7 @@ fn ten(places: u32) -> u64
 // a / c to the nearest whole number, an exact half to the even one.
 fn closest(a: u64, c: u64) -> u64
     requires { (0 < c) × (c < 2 ^ 62) × (a < 2 ^ 24 * c) }
-    ensures { result ≡ closestOf a c }
+    ensures { result ≡ closest_of a c }
 {
     let q = a / c;
     let twice = a % c * 2;
@@ -37,7 +37,7 @@ fn closest(a: u64, c: u64) -> u64
 // The exponent's field and a / c, rounded to 24 digits: a carry out of those is the exponent's.
 fn packed(field: u32, a: u64, c: u64) -> u32
     requires { (field < 252) × (0 < c) × (c < 2 ^ 62) × (a < 2 ^ 24 * c) }
-    ensures { result ≡ field * 2 ^ 23 + closestOf a c }
+    ensures { result ≡ field * 2 ^ 23 + closest_of a c }
 {
     field * 0x80_0000 + closest(a, c) as u32
 }

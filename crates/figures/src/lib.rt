@@ -3,7 +3,7 @@
 #![tactic(auto)]
 
 ghost use Rattle.std.specs.Prelude.{◌≡◌, true, false, ◌<◌, min};
-ghost use Rattle.figures.specs.Nearest.{nearest as nearestOf, past, times_of};
+ghost use Rattle.figures.specs.Nearest.{nearest as nearest_of, past, times_of};
 ghost use Rattle.figures.specs.Figure.{signed_tenths, figure_of, figure_number, figure_tenths};
 
 // The printed figure of a MUF.
@@ -22,7 +22,7 @@ pub enum Printed {
 // n / d to the nearest whole number, an exact half to the even one.
 fn nearest(n: u64, d: u64) -> u64
     requires { 0 < d }
-    ensures { result ≡ nearestOf n d }
+    ensures { result ≡ nearest_of n d }
 {
     let q = n / d;
     let rest = n % d;

@@ -6,7 +6,7 @@ ghost use Rattle.scalar.specs.Literals.{f0};
 ghost use Rattle.forty_reads.specs.Nodes.{xt, zg_by, height_of, ig_at, ib_at};
 ghost use Rattle.forty_reads.specs.Walk.{walk_reads, scan_reads, table_by, cursor_after, cursor_read_by};
 
-use readings::{Reading, read_by_scan, read_on, value};
+use readings::{read_by_scan, read_on, value};
 
 // The positive abscissas of the Gauss rule with forty nodes; the others are their negatives.
 const XT: [f32; 20] = [

@@ -3,28 +3,24 @@ use Prim.Native.Nat.{ℕ, ◌+◌, ◌≤◌, ◌<◌}
 use mathlib.Core.Path.{◌≡◌, refl, sym, ap, ◌∙◌}
 use mathlib.Core.Bool.{Bool, true, false}
 use mathlib.Core.List.{List, [], ◌∷◌, ◌++◌}
-use mathlib.Core.Logic.{◌↔◌, inr}
+use mathlib.Core.Logic.{inr}
 use native.Mathlib.Omega.{arith}
-use lib.ListN.{length, take, length-append}
+use lib.ListN.{length, length-append}
 use Rattle.refusal.specs.declared.Refusal.{Refusal}
 use Rattle.refusal.specs.declared.Outcome.{Outcome}
 use Rattle.lines.specs.Text.{line_feed}
 use Rattle.circuit_sheet.specs.CircuitSheet.{sheet_of}
-use Rattle.sheet_text.specs.SheetText.{sheet_text}
-use Rattle.first_difference.specs.Lines.{lines_of}
 use Rattle.first_difference.specs.Difference.{verdict_of}
-use Rattle.first_difference.specs.Closed.{feeds_of, common_of}
 use Rattle.first_difference.specs.Laws.{FirstOther, Ended, carriage_return}
 use Rattle.first_difference.specs.declared.Verdict.{Verdict}
 use Rattle.first_difference.proofs.Laws.{difference-laws}
 use Rattle.marking_answer.specs.Answer.{sheet_most, marking_of, text_marked}
-use Rattle.marking_answer.specs.Laws.{Markable}
 use Rattle.marking_answer.specs.declared.Marking.{Marking}
 use Rattle.marking_answer.proofs.Laws.{text-laws, compared}
-use Rattle.marking.specs.Marked.{size_in, file_in, sheet_in, length_filled, sheet_marked, marked_of}
+use Rattle.marking.specs.Marked.{file_in, sheet_in, length_filled, sheet_marked, marked_of}
 use Rattle.marking.specs.Laws.{Filled, Answers, ours_in, MarkingLaws, MarkingCases}
-use Rattle.marking.proofs.OurText.{sheet-most, EndsLine, sheet-ends}
-use Rattle.marking.proofs.Decided.{filled-true, filled-facts, there, not_there, marked_refused, decided}
+use Rattle.marking.proofs.OurText.{sheet-most, sheet-ends}
+use Rattle.marking.proofs.Decided.{filled-facts, there, not_there, marked_refused, decided}
 
 -- our outcome, that of the circuit
 abbrev outcome_in : List ℕ → Outcome

@@ -2,7 +2,7 @@
 // with the Es line.
 #![tactic(auto)]
 
-ghost use Rattle.std.specs.Prelude.{◌≡◌, ◌+◌, ◌*◌, ◌<◌, ◌≤◌, length};
+ghost use Rattle.std.specs.Prelude.{◌≡◌, ◌*◌, ◌<◌};
 ghost use Rattle.heights.specs.Gethp.{gethp_of};
 ghost use Rattle.muf.specs.Hour.{mode_of, hour_of, zero_hour, refused_muf};
 ghost use Rattle.muf.specs.Curmuf.{regular_with, refused_rows_kept, es_by, muf_at_slot_of, muf_from_search_of, flat_of, es_after_of, curmuf_of};

@@ -2,7 +2,7 @@
 // of its refusal, and then leaves everything lent as it was.
 #![tactic(auto)]
 
-ghost use Rattle.std.specs.Prelude.{◌≡◌, ◌++◌, ◌+◌, ◌≤◌, length, drop};
+ghost use Rattle.std.specs.Prelude.{◌≡◌, ◌+◌, ◌≤◌, length};
 ghost use Rattle.port_state.specs.Words.{floats_of};
 ghost use Rattle.traces.specs.Lines.{comparison_number, count_in};
 ghost use Rattle.port_traces.specs.Exports.{count_into, port_compare, words_at_start, trace_into, port_trace};

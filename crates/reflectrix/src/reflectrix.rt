@@ -2,9 +2,7 @@
 // whole kHz.
 ghost use Rattle.std.specs.Prelude.{◌≡◌, map, ◌*◌, ◌≤◌, Float, length};
 ghost use Rattle.scalar.specs.F32.{◌+f◌, ◌*f◌};
-ghost use Rattle.constants.specs.Constants.{D2R as Constants-as-D2R, RZ as Constants-as-RZ};
 ghost use Rattle.waves.specs.SinCos.{cos_of};
-ghost use Rattle.scan_angles.specs.Angles.{ANG as Angles-as-ANG};
 ghost use Rattle.reflectrix.specs.Fobby.{angles_into, cells_after, fobby_outcome};
 
 use crate::Ionogram;
@@ -22,14 +20,14 @@ const RCOSD: [f32; 40] = [
 
 // Built once a call, and lent: a constant that is indexed is built again each time.
 fn rcosds() -> [f32; 40]
-    ensures { result ≡ map (λ (a : Float). Constants-as-RZ *f cos_of (a *f Constants-as-D2R)) Angles-as-ANG }
+    ensures { result ≡ map (λ (a : Float). Rattle.constants.specs.Constants.RZ *f cos_of (a *f Rattle.constants.specs.Constants.D2R)) Rattle.scan_angles.specs.Angles.ANG }
 {
     RCOSD
 }
 
 // The distance of each height from the Earth's centre.
 fn radii(htrue: [f32; 32]) -> [f32; 32]
-    ensures { result ≡ map (λ (h : Float). Constants-as-RZ +f h) htrue }
+    ensures { result ≡ map (λ (h : Float). Rattle.constants.specs.Constants.RZ +f h) htrue }
 {
     let mut r = htrue;
     for i in 0..32 {

@@ -1,5 +1,4 @@
 -- A row has 55 bytes at most, and there are thirty.
-use mathlib.Core.List.{List}
 use Prim.Native.Nat.{ℕ, ◌+◌}
 use lib.ListN.{get_or}
 use lib.Ieee.{Float}

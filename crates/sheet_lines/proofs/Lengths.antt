@@ -1,5 +1,5 @@
 -- A sheet, of at most three slots, has at most 7,773 bytes: a row has at most 60, two digits, four numbers of nine bytes, a number of at most 20 digits after its space, whatever the segment is, and the line feed; a slot's marks have at most 750.
-use mathlib.Core.List.{List, [], ◌∷◌}
+use mathlib.Core.List.{[], ◌∷◌}
 use Prim.Native.Nat.{ℕ, ◌+◌, ◌≤◌, ◌<◌}
 use native.Mathlib.Omega.{arith}
 use lib.ListN.{get_or}

@@ -1,5 +1,4 @@
 -- A page of at most three slots has at most 9,000 bytes: a slot's rows have 1,650, its runs at most 1,100.
-use mathlib.Core.List.{List}
 use Prim.Native.Nat.{ℕ, ◌≤◌, ◌<◌}
 use native.Mathlib.Omega.{arith}
 use lib.ListN.{get_or}

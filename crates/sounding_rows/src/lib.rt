@@ -3,12 +3,12 @@
 // `gethp` if there is an F1.
 #![tactic(auto)]
 
-ghost use Rattle.std.specs.Prelude.{◌≡◌, ◌<◌, true, false, replicate};
+ghost use Rattle.std.specs.Prelude.{◌≡◌, ◌<◌, false, replicate};
 ghost use Rattle.scalar.specs.Literals.{f0};
 ghost use Rattle.heights.specs.Gethp.{gethp_of};
 ghost use Rattle.profile.specs.Rising.{rises_of};
 ghost use Rattle.readings.specs.Scan.{unsearched};
-ghost use Rattle.sounding_rows.specs.Rows.{HTE as Rows-as-HTE, HPE as Rows-as-HPE, rows_of, true_by_profile, segment_by_profile, virtual_by_parabola, made, rows_by, rows_with};
+ghost use Rattle.sounding_rows.specs.Rows.{rows_of, true_by_profile, segment_by_profile, virtual_by_parabola, made, rows_by, rows_with};
 
 use layers::IonoState;
 use readings::Found;
@@ -74,7 +74,7 @@ pub struct TrueColumns {
 }
 
 fn true_rows(s: IonoState, fv: [f32; 30]) -> TrueColumns
-    ensures htrue_value { result.htrue ≡ rows_of (λ f. true_by_profile s f) fv 10 Rows-as-HTE 20 }
+    ensures htrue_value { result.htrue ≡ rows_of (λ f. true_by_profile s f) fv 10 Rattle.sounding_rows.specs.Rows.HTE 20 }
     ensures segment_value { result.segment ≡ rows_of (λ f. segment_by_profile s f) fv 10 (replicate 30 unsearched) 20 }
 {
     let mut htrue = HTE;
@@ -90,7 +90,7 @@ fn true_rows(s: IonoState, fv: [f32; 30]) -> TrueColumns
 // With an F1, which the closed form of E and F2 leaves out.
 fn virtual_rows_by_profile(s: IonoState, rises: bool, fv: [f32; 30]) -> [f32; 30]
     requires { rises ≡ rises_of s.htr }
-    ensures { result ≡ rows_of (λ f. (gethp_of s f).hp) fv 10 Rows-as-HPE 20 }
+    ensures { result ≡ rows_of (λ f. (gethp_of s f).hp) fv 10 Rattle.sounding_rows.specs.Rows.HPE 20 }
 {
     let htr = s.htr;
     let fnsq = s.fnsq;
@@ -116,7 +116,7 @@ fn virtual_by_parabola(s: IonoState, k: usize, f: f32) -> f32
 
 fn virtual_rows_by_parabola(s: IonoState, k: usize, fv: [f32; 30]) -> [f32; 30]
     requires { k < 3 }
-    ensures { result ≡ rows_of (λ f. virtual_by_parabola s k f) fv 10 Rows-as-HPE 20 }
+    ensures { result ≡ rows_of (λ f. virtual_by_parabola s k f) fv 10 Rattle.sounding_rows.specs.Rows.HPE 20 }
 {
     let mut hprim = HPE;
     for i in 0..20 {

@@ -1,5 +1,4 @@
 -- What every picture begins with has at most 4,459 bytes; a number is given twenty digits, whatever it is.
-use mathlib.Core.List.{List}
 use mathlib.Core.Path.{refl}
 use Prim.Native.Nat.{ℕ, ◌+◌, ◌*◌}
 use lib.Ieee.{Float}

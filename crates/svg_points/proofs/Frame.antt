@@ -5,7 +5,6 @@ use Prim.Native.Nat.{ℕ, ◌+◌, ◌-◌, ◌≤◌}
 use native.Mathlib.Omega.{arith}
 use borrow.Author.Tests.{leb-true}
 use lib.Dec.{leb}
-use lib.Ieee.{Float}
 use Rattle.svg_points.specs.declared.Drawn.{Drawn}
 use Rattle.svg_points.specs.Points.{units_of, point_drawn_of, InFrame}
 

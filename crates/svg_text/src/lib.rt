@@ -1,7 +1,6 @@
 // The marks of a profile and the MUF's line in a panel of the picture, as SVG in lent bytes.
 #![tactic(auto)]
 
-ghost use Rattle.std.specs.Prelude.{◌≡◌};
 ghost use Rattle.lines.specs.Text.{Clipped};
 ghost use Rattle.svg_text.specs.Pieces.{id_of, use_text, mark_text, line_text, muf_text};
 

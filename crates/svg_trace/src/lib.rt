@@ -1,7 +1,6 @@
 // The line through an ionogram's rows, as the data of an SVG path in lent bytes.
 #![tactic(auto)]
 
-ghost use Rattle.std.specs.Prelude.{◌≡◌};
 ghost use Rattle.lines.specs.Text.{Clipped};
 ghost use Rattle.svg_trace.specs.Trace.{pen_text, pair_text, step_text, trace_text};
 

@@ -2,9 +2,9 @@
 #![tactic(auto)]
 
 ghost use Rattle.std.specs.Prelude.{◌≡◌, ◌+◌, ◌≤◌, length};
-ghost use Rattle.trace_lines.specs.Trace.{rises as rises_of, fit as fitOf, Rows};
+ghost use Rattle.trace_lines.specs.Trace.{rises as rises_of, fit as fit_of, Rows};
 ghost use Rattle.trace_lines.specs.Lines.{trace_lines};
-ghost use Rattle.traces.specs.Lines.{column, ready as readyOf, compared_of, comparison_number, count_in};
+ghost use Rattle.traces.specs.Lines.{column, ready as ready_of, compared_of, comparison_number, count_in};
 
 use refusal::Refusal;
 
@@ -52,7 +52,7 @@ pub fn rises(khz: &[u32]) -> bool
 
 // Whether the two lists are a trace.
 fn fit(khz: &[u32], height: &[u32]) -> bool
-    ensures { result ≡ fitOf khz.now height.now }
+    ensures { result ≡ fit_of khz.now height.now }
 {
     if khz.len() != height.len() {
         return false;
@@ -105,7 +105,7 @@ fn ready(
     which: &[u32],
     difference: &[i64],
 ) -> bool
-    ensures { result ≡ readyOf a.now ah.now b.now bh.now khz.now which.now difference.now }
+    ensures { result ≡ ready_of a.now ah.now b.now bh.now khz.now which.now difference.now }
 {
     if !fit(a, ah) {
         return false;

@@ -3,7 +3,7 @@ use mathlib.Core.Path.{◌≡◌, sym, ◌∙◌}
 use mathlib.Core.Bool.{true}
 use Rattle.traces.specs.Lines.{ready}
 use Rattle.traces.proofs.Answers.{Facts, ready-facts, refused, answered}
-use Rattle.traces.proofs.compare.Goals.{After-ready, Else-not-ready, Start}
+use Rattle.traces.proofs.compare.Goals.{Else-not-ready}
 use Rattle.traces.proofs.compare.Goals as goal
 
 passed : (c : Else-not-ready)

@@ -5,7 +5,7 @@ use native.Mathlib.Omega.{arith}
 use lib.Ieee.{binary32, of_bits}
 use Rattle.scalar.proofs.Patterns.{sqrt-normal}
 use Rattle.scalar.proofs.Normalise.{Rooted, rooted, taken-apart}
-use Rattle.scalar.proofs.root.normal_root.Goals.{After-root_pattern, After-spare_zeros-z}
+use Rattle.scalar.proofs.root.normal_root.Goals.{After-spare_zeros-z}
 use Rattle.scalar.proofs.root.normal_root.Goals as goal
 
 abbrev digits : ℕ → ℕ

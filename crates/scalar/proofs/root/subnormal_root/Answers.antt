@@ -7,7 +7,7 @@ use lib.Ieee.{binary32, of_bits}
 use Rattle.scalar.specs.Root.{root_of_units}
 use Rattle.scalar.proofs.Patterns.{sqrt-subnormal}
 use Rattle.scalar.proofs.Normalise.{Rooted, rooted, taken-apart}
-use Rattle.scalar.proofs.root.subnormal_root.Goals.{After-root_pattern, After-spare_zeros-z}
+use Rattle.scalar.proofs.root.subnormal_root.Goals.{After-spare_zeros-z}
 use Rattle.scalar.proofs.root.subnormal_root.Goals as goal
 
 abbrev m : After-spare_zeros-z → ℕ
