@@ -103,7 +103,7 @@ fn e_found(g: HopGeometry, h: HeightPair, fxe: f32) -> LayerMuf
 
 pub fn e_line(t: IonoState, fxe: f32, gcdkm: f32, amind: f32) -> LineAnswer
     ensures value { result ≡ e_line_of t fxe gcdkm amind }
-    ensures esays { ESays result t fxe gcdkm amind }
+    ensures e_says { ESays result t fxe gcdkm amind }
 {
     let h = e_heights(t, fxe);
     let found = hops::hop_geometry(gcdkm, amind, h.hp, h.ht, true);

@@ -136,7 +136,7 @@ pub fn f2_line(
     c: PathNumbers,
 ) -> LineAnswer
     ensures value { result ≡ f2_line_of t l x f2d.now clat clck c }
-    ensures f2says { F2Says result t l x f2d.now clat clck c }
+    ensures f2_says { F2Says result t l x f2d.now clat clck c }
 {
     let h = f2_heights(t, l, x);
     let found = hops::hop_geometry(c.gcdkm, c.amind, h.hp, h.ht, false);
@@ -179,7 +179,7 @@ fn f1_own(t: IonoState, fc: f32, fx1: f32, gcdkm: f32, amind: f32) -> LineAnswer
 // Without an F1 the E line again; a NaN counts as an F1 here.
 pub fn f1_line(t: IonoState, l: Slot, fx1: f32, e: LayerMuf, gcdkm: f32, amind: f32) -> LineAnswer
     ensures value { result ≡ f1_line_of t l fx1 e gcdkm amind }
-    ensures f1says { F1Says result t l fx1 e gcdkm amind }
+    ensures f1_says { F1Says result t l fx1 e gcdkm amind }
 {
     if l.fi1 <= 0.0 {
         return LineAnswer::Found(e);

@@ -5,8 +5,8 @@ use Rattle.layer_mufs.proofs.f1_line.Goals as goal
 
 pub returns-then-l : goal.returns-then-l
 unfolding f1_line_with
-returns-then-l c = record { value = (rw (c.if-l.true)); f1says = f1-says _ _ _ _ _ _ _ (rw (c.if-l.true)) }
+returns-then-l c = record { value = (rw (c.if-l.true)); f1_says = f1-says _ _ _ _ _ _ _ (rw (c.if-l.true)) }
 
 pub returns : goal.returns
 unfolding f1_line_with
-returns c = record { value = (rw (c.if-l.false, ← c.f1_own.ensures)); f1says = f1-says _ _ _ _ _ _ _ (rw (c.if-l.false, ← c.f1_own.ensures)) }
+returns c = record { value = (rw (c.if-l.false, ← c.f1_own.ensures)); f1_says = f1-says _ _ _ _ _ _ _ (rw (c.if-l.false, ← c.f1_own.ensures)) }
