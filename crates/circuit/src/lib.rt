@@ -14,7 +14,7 @@ ghost use Rattle.circuit.specs.Point.{point_number};
 
 pub use numbers::{all_zero, joined, nothing, read_deciles, read_point};
 use record_chain::follow;
-use refusal::{Outcome};
+use refusal::Outcome;
 
 // A point is fifteen words: fi, yi, hi and Es fs, three each, hs, clat, clck. The words past the km points are no part of the
 // circuit: the reader leaves them zero, the writer does not look at them.

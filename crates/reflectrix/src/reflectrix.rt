@@ -2,7 +2,9 @@
 // whole kHz.
 ghost use Rattle.std.specs.Prelude.{◌≡◌, map, ◌*◌, ◌≤◌, Float, length};
 ghost use Rattle.scalar.specs.F32.{◌+f◌, ◌*f◌};
+ghost use Rattle.constants.specs.Constants;
 ghost use Rattle.waves.specs.SinCos.{cos_of};
+ghost use Rattle.scan_angles.specs.Angles;
 ghost use Rattle.reflectrix.specs.Fobby.{angles_into, cells_after, fobby_outcome};
 
 use crate::Ionogram;
@@ -20,14 +22,14 @@ const RCOSD: [f32; 40] = [
 
 // Built once a call, and lent: a constant that is indexed is built again each time.
 fn rcosds() -> [f32; 40]
-    ensures { result ≡ map (λ (a : Float). Rattle.constants.specs.Constants.RZ *f cos_of (a *f Rattle.constants.specs.Constants.D2R)) Rattle.scan_angles.specs.Angles.ANG }
+    ensures { result ≡ map (λ (a : Float). Constants.RZ *f cos_of (a *f Constants.D2R)) Angles.ANG }
 {
     RCOSD
 }
 
 // The distance of each height from the Earth's centre.
 fn radii(htrue: [f32; 32]) -> [f32; 32]
-    ensures { result ≡ map (λ (h : Float). Rattle.constants.specs.Constants.RZ +f h) htrue }
+    ensures { result ≡ map (λ (h : Float). Constants.RZ +f h) htrue }
 {
     let mut r = htrue;
     for i in 0..32 {

@@ -3,6 +3,7 @@
 
 ghost use Rattle.std.specs.Prelude.{◌≡◌, ◌+◌, ◌-◌, ◌<◌, ◌≤◌, get_or};
 ghost use Rattle.scalar.specs.F32.{at};
+ghost use Rattle.scan_angles.specs.Angles;
 ghost use Rattle.scan_angles.specs.Angles.{distance_step_of, raised_from, angle_count_of, sang_of, scan_number, scan_value};
 
 use refusal::Refusal;
@@ -25,14 +26,14 @@ const NANGX: [usize; 8] = [40, 34, 29, 24, 19, 14, 12, 9];
 
 pub fn angle(ia: usize) -> f32
     requires { ia < 40 }
-    ensures { result ≡ at Rattle.scan_angles.specs.Angles.ANG ia }
+    ensures { result ≡ at Angles.ANG ia }
 {
     ANG[ia]
 }
 
 fn nangx(i: usize) -> usize
     requires { i < 8 }
-    ensures { result ≡ get_or Rattle.scan_angles.specs.Angles.NANGX i 0 }
+    ensures { result ≡ get_or Angles.NANGX i 0 }
 {
     NANGX[i]
 }

@@ -8,6 +8,7 @@ ghost use Rattle.scalar.specs.Literals.{f0};
 ghost use Rattle.heights.specs.Gethp.{gethp_of};
 ghost use Rattle.profile.specs.Rising.{rises_of};
 ghost use Rattle.readings.specs.Scan.{unsearched};
+ghost use Rattle.sounding_rows.specs.Rows;
 ghost use Rattle.sounding_rows.specs.Rows.{rows_of, true_by_profile, segment_by_profile, virtual_by_parabola, made, rows_by, rows_with};
 
 use layers::IonoState;
@@ -74,7 +75,7 @@ pub struct TrueColumns {
 }
 
 fn true_rows(s: IonoState, fv: [f32; 30]) -> TrueColumns
-    ensures htrue_value { result.htrue ≡ rows_of (λ f. true_by_profile s f) fv 10 Rattle.sounding_rows.specs.Rows.HTE 20 }
+    ensures htrue_value { result.htrue ≡ rows_of (λ f. true_by_profile s f) fv 10 Rows.HTE 20 }
     ensures segment_value { result.segment ≡ rows_of (λ f. segment_by_profile s f) fv 10 (replicate 30 unsearched) 20 }
 {
     let mut htrue = HTE;
@@ -90,7 +91,7 @@ fn true_rows(s: IonoState, fv: [f32; 30]) -> TrueColumns
 // With an F1, which the closed form of E and F2 leaves out.
 fn virtual_rows_by_profile(s: IonoState, rises: bool, fv: [f32; 30]) -> [f32; 30]
     requires { rises ≡ rises_of s.htr }
-    ensures { result ≡ rows_of (λ f. (gethp_of s f).hp) fv 10 Rattle.sounding_rows.specs.Rows.HPE 20 }
+    ensures { result ≡ rows_of (λ f. (gethp_of s f).hp) fv 10 Rows.HPE 20 }
 {
     let htr = s.htr;
     let fnsq = s.fnsq;
@@ -116,7 +117,7 @@ fn virtual_by_parabola(s: IonoState, k: usize, f: f32) -> f32
 
 fn virtual_rows_by_parabola(s: IonoState, k: usize, fv: [f32; 30]) -> [f32; 30]
     requires { k < 3 }
-    ensures { result ≡ rows_of (λ f. virtual_by_parabola s k f) fv 10 Rattle.sounding_rows.specs.Rows.HPE 20 }
+    ensures { result ≡ rows_of (λ f. virtual_by_parabola s k f) fv 10 Rows.HPE 20 }
 {
     let mut hprim = HPE;
     for i in 0..20 {
