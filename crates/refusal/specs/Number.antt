@@ -1,5 +1,5 @@
 -- The number that the paper's table "Where a call is turned away" gives each refusal, with the numbers that requests added.
-use Rattle.std.specs.Prelude.{false, ◌≡◌, ℕ, eqb}
+use Rattle.std.specs.Prelude.{false, ◌≡◌, ℕ, eqb, Result, Ok, Err}
 use Rattle.refusal.specs.declared.Refusal.{Refusal}
 use Rattle.refusal.specs.declared.Outcome.{Outcome}
 
@@ -33,3 +33,8 @@ NoAnswer = (r : Refusal) → eqb (number_of r) 0 ≡ false
 abbrev pub outcome_number : Outcome → ℕ
 outcome_number Outcome.Answered = 0
 outcome_number (Outcome.Refused r) = number_of r
+
+-- the number of an answer that may be a refusal: 0 for one that is none
+abbrev pub answer_number : {T : Type 0} → Result T Refusal → ℕ
+answer_number (Ok _) = 0
+answer_number (Err r) = number_of r
