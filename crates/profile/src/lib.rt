@@ -5,8 +5,8 @@ ghost use Rattle.std.specs.Prelude.{◌≡◌, ◌<◌};
 ghost use Rattle.profile.specs.Rising.{rises_of};
 ghost use Rattle.profile.specs.Lecden.{slot_at, slot_written, supplied_of, lecden_of, lecden_answer};
 
-use layers::{IonoState, Owner, StateAnswer, owners};
-use refusal::{Outcome, Refusal};
+use layers::{IonoState, Owner, owners};
+use refusal::Refusal;
 use slot_curves::Slot;
 
 // The rising test: is each height below the next. A NaN fails it.
@@ -83,18 +83,11 @@ pub fn lecden_slot(s: IonoState, k: usize) -> IonoState
     owners::with_owner(r, Owner::Slot(k))
 }
 
-pub fn lecden(s: IonoState, k: usize) -> StateAnswer
+pub fn lecden(s: IonoState, k: usize) -> Result<IonoState, Refusal>
     ensures { result ≡ lecden_answer s k }
 {
     if k < 3 {
-        let state = lecden_slot(s, k);
-        return StateAnswer {
-            outcome: Outcome::Answered,
-            state,
-        };
+        return Ok(lecden_slot(s, k));
     }
-    StateAnswer {
-        outcome: Outcome::Refused(Refusal::SlotNumber),
-        state: s,
-    }
+    Err(Refusal::SlotNumber)
 }

@@ -5,12 +5,12 @@
 ghost use Rattle.std.specs.Prelude.{◌≡◌, map, ◌<◌};
 ghost use Rattle.shape_densities.specs.Density.{fnd_of};
 ghost use Rattle.shapes.specs.Mark.{mark_number_of};
-ghost use Rattle.shapes.specs.Marks.{first_of, mark_of, height_mark, unmarked, marks_of};
+ghost use Rattle.shapes.specs.Marks.{first_of, mark_of, unmarked, marks_of};
 
 use layers::IonoState;
 use shape_densities::{Candidates, Curves};
 
-#[derive(Clone, Copy)]
+#[derive(Clone, Copy, Debug, PartialEq, Eq)]
 pub enum Mark {
     // of a supplied profile, and beside a refusal
     None,
@@ -26,12 +26,6 @@ pub enum Mark {
     F2,
     // where the density is zero
     Gap,
-}
-
-// The mark of one height.
-#[derive(Clone, Copy)]
-pub struct HeightMark {
-    pub mark: Mark,
 }
 
 pub fn number(m: Mark) -> u32
@@ -79,27 +73,25 @@ fn mark_at(c: Curves, fnd: f32, h: f32) -> Mark
 }
 
 // Of no shape at all fifty heights.
-pub fn no_marks() -> [HeightMark; 50]
+pub fn no_marks() -> [Mark; 50]
     ensures { result ≡ unmarked }
 {
-    let none = HeightMark { mark: Mark::None };
-    [none; 50]
+    [Mark::None; 50]
 }
 
-fn marks_on(c: Curves, htr: [f32; 50]) -> [HeightMark; 50]
-    ensures { result ≡ map (height_mark c) htr }
+fn marks_on(c: Curves, htr: [f32; 50]) -> [Mark; 50]
+    ensures { result ≡ map (mark_of c) htr }
 {
     let fnd = shape_densities::tails(c, htr);
     let mut marks = no_marks();
     for ih in 0..50 {
-        let mark = mark_at(c, fnd[ih], htr[ih]);
-        marks[ih] = HeightMark { mark };
+        marks[ih] = mark_at(c, fnd[ih], htr[ih]);
     }
     marks
 }
 
 // Slot k as `lecden` is to find it: of a slot that it has prepared F1 may be another shape.
-pub fn marks_slot(s: IonoState, k: usize) -> [HeightMark; 50]
+pub fn marks_slot(s: IonoState, k: usize) -> [Mark; 50]
     requires { k < 3 }
     ensures { result ≡ marks_of s k }
 {

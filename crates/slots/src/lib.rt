@@ -5,8 +5,8 @@ ghost use Rattle.std.specs.Prelude.{◌≡◌, ◌<◌, ◌≤◌};
 ghost use Rattle.slots.specs.FromLayers.{point_set, points_set, empty_of, from_layers_of};
 ghost use Rattle.slots.specs.Ionset.{layer_from, two_slots, three_slots, assigned_of, f1_settled, f2_settled, slot_settled, slots_settled, ionset_of};
 
-use layers::{IonoState, LayerParams, StateAnswer};
-use refusal::{Outcome, Refusal};
+use layers::{IonoState, LayerParams};
+use refusal::Refusal;
 
 // `iedp` is -1, as the Fortran starts with: heights off the profile only.
 fn empty(n: usize) -> IonoState
@@ -50,20 +50,13 @@ fn set_points(s: IonoState, params: [LayerParams; 5], n: usize) -> IonoState
 }
 
 // The state of the first `count` points; what stands past them is not read.
-pub fn from_layers(params: [LayerParams; 5], count: usize) -> StateAnswer
+pub fn from_layers(params: [LayerParams; 5], count: usize) -> Result<IonoState, Refusal>
     ensures { result ≡ from_layers_of params count }
 {
     if layer_rules::count_taken(count) {
-        let state = set_points(empty(count), params, count);
-        return StateAnswer {
-            outcome: Outcome::Answered,
-            state,
-        };
+        return Ok(set_points(empty(count), params, count));
     }
-    StateAnswer {
-        outcome: Outcome::Refused(Refusal::PointCount),
-        state: layers::zero_state(),
-    }
+    Err(Refusal::PointCount)
 }
 
 fn layer_from(mut s: IonoState, k: usize, p: usize, i: usize) -> IonoState
@@ -166,20 +159,13 @@ fn settle_slots(s: IonoState, n: usize) -> IonoState
 
 // Of two slots or three, one at an end of the path has E and F1 from the point there and F2 from
 // the next point inward. Then the layers of each slot are made to agree.
-pub fn ionset(s: IonoState) -> StateAnswer
+pub fn ionset(s: IonoState) -> Result<IonoState, Refusal>
     ensures { result ≡ ionset_of s }
 {
     if layer_rules::count_taken(s.km) {
         let t = assign(s);
         let n = t.kfx;
-        let state = layers::owners::disown(settle_slots(t, n));
-        return StateAnswer {
-            outcome: Outcome::Answered,
-            state,
-        };
+        return Ok(layers::owners::disown(settle_slots(t, n)));
     }
-    StateAnswer {
-        outcome: Outcome::Refused(Refusal::PointCount),
-        state: s,
-    }
+    Err(Refusal::PointCount)
 }
