@@ -13,32 +13,26 @@ use shape_densities::{Candidates, Curves};
 #[derive(Clone, Copy, Debug, PartialEq, Eq)]
 pub enum Mark {
     // of a supplied profile, and beside a refusal
-    None,
+    None = 0,
     // the exponential tail from the D region up to E
-    Tail,
+    Tail = 1,
     // E's parabola
-    E,
+    E = 2,
     // the straight line between E and F2
-    Valley,
+    Valley = 3,
     // F1, a parabola or a line
-    F1,
+    F1 = 4,
     // F2's parabola
-    F2,
+    F2 = 5,
     // where the density is zero
-    Gap,
+    Gap = 6,
 }
 
-pub fn number(m: Mark) -> u32
-    ensures { result ≡ mark_number_of m }
-{
-    match m {
-        Mark::None => 0,
-        Mark::Tail => 1,
-        Mark::E => 2,
-        Mark::Valley => 3,
-        Mark::F1 => 4,
-        Mark::F2 => 5,
-        Mark::Gap => 6,
+impl From<Mark> for u32 {
+    ghost from_gives = { λ m n. n ≡ mark_number_of m };
+
+    fn from(m: Mark) -> u32 {
+        m as u32
     }
 }
 

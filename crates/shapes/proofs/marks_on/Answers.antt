@@ -14,8 +14,8 @@ use Rattle.shapes.proofs.marks_on.Goals as goal
 pub loop-ih-init : goal.loop-ih-init
 loop-ih-init c = (omega arith, refl)
 
-pub mark_at-mark-requires : goal.mark_at-mark-requires
-mark_at-mark-requires c =
+pub mark_at-requires : goal.mark_at-requires
+mark_at-requires c =
     let a = c.args in
     let i = c.loop-ih.ih in
     let h : i < length a.htr = search rules in
@@ -27,7 +27,7 @@ loop-ih-preserved c =
     let i = c.loop-ih.ih in
     let h : i < length a.htr = search rules in (
       omega arith,
-      rw (c.mark_at-mark.ensures, c.loop-ih.invariant.1, add-one i)
+      rw (c.mark_at.ensures, c.loop-ih.invariant.1, add-one i)
           (mapped-more (mark_of a.c) nan a.htr c.no_marks-marks.result i h),
     )
 
