@@ -9,4 +9,4 @@ returns-then-out-lt1 c = rw (lt-ltb _ _ c.if-out-lt1.true) (refl, refl)
 
 pub returns : goal.returns
 unfolding total_left
-returns c = rw (le-ltb _ _ c.if-out-lt1.false, ← c.from_first-t.ensures) c.total_into.ensures
+returns c = rw (le-ltb _ _ c.if-out-lt1.false, ← c.total.ensures) c.total_into.ensures
