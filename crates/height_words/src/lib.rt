@@ -34,10 +34,10 @@ pub fn reading_into(r: Reading, out: &mut [u32])
     requires { 3 ≤ length out.old }
     ensures { out.new ≡ reading_into r out.old }
 {
-    let x = [readings::value(r)];
+    let x = [r.value()];
     port_state::floats_into(&x, out, 1);
-    out[0] = readings::kind(r);
-    out[2] = readings::segment_number(r);
+    out[0] = r.kind();
+    out[2] = r.segment_number();
 }
 
 pub fn layer_into(a: LayerNumber, out: &mut [u32]) -> u32
