@@ -15,7 +15,7 @@ use Rattle.record_chain.specs.declared.Chain.{Chain}
 use Rattle.std.specs.Prelude.{Option, Some, None, Result, Ok, Err}
 use Rattle.records.specs.declared.Form.{Form}
 use Rattle.records.specs.Record.{Fit, record_at}
-use Rattle.record_chain.specs.Chain.{length_good, record_count, km_of, head_good, by_step, step_of, pick_chain, sound_by, answered_chain, order_in, walk, chain_of, padded}
+use Rattle.record_chain.specs.Chain.{length_good, record_count, km_of, head_good, by_step, step_of, pick_chain, sound_by, answered_chain, order_in, walk, chain_of, chain_along}
 use Rattle.records.proofs.Lists.{both}
 use Rattle.record_chain.proofs.Members.{length-padded}
 use Rattle.record_chain.proofs.Steps.{step-to, in-file, counted, Head, head-facts}
@@ -99,7 +99,7 @@ Unrefused P (Ok c) = P c
 Unrefused P (Err r) = Unit
 
 long-end : (total left : ℕ) (order : List ℕ) → length order + left ≡ total → total ≤ 64
-    → (eqb left 48 || eqb left 0) ≡ true → Long total (record { order = padded 64 order; count = length order })
+    → (eqb left 48 || eqb left 0) ≡ true → Long total (chain_along order)
 long-end total left order p h t =
     record {
       room = length-padded 64 order (omega arith);

@@ -53,8 +53,11 @@ step_index (Err r) = 0
 abbrev pub padded : ℕ → List ℕ → List ℕ
 padded n l = l ++ replicate (n - length l) 0
 
+abbrev pub chain_along : List ℕ → Chain
+chain_along order = record { order = padded 64 order; count = length order }
+
 abbrev pub answered_chain : List ℕ → Result Chain Refusal
-answered_chain order = Ok (record { order = padded 64 order; count = length order })
+answered_chain order = Ok (chain_along order)
 
 -- the records and their count, for every case: none at a refusal
 abbrev pub order_in : Result Chain Refusal → List ℕ
