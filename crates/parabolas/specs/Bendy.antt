@@ -5,7 +5,6 @@ use Rattle.scalar.specs.Literals.{f0_5, f0_999, f1, f1_001}
 use Rattle.scalar.specs.Scalar.{min_of, max_of}
 use Rattle.logarithm.specs.Ln.{ln_of}
 use Rattle.refusal.specs.declared.Refusal.{Refusal}
-use Rattle.refusal.specs.Number.{number_of}
 use Rattle.layers.specs.declared.IonoState.{IonoState}
 
 -- of a layer's critical frequency fi and semi-thickness yi
@@ -33,11 +32,7 @@ bendy_answer s i k f = layer_answer_by (ltb 2 i) (ltb 2 k) (bendy_of s i k f)
 unfoldable pub pen_answer : IonoState → ℕ → ℕ → Float → Result Float Refusal
 pen_answer s i k f = layer_answer_by (ltb 2 i) (ltb 2 k) (pen_of s i k f)
 
--- ---- the paper's number and values of each case
-unfoldable pub layer_number_of : Result Float Refusal → ℕ
-layer_number_of (Ok v) = 0
-layer_number_of (Err r) = number_of r
-
+-- ---- the values of each case; its number is `answer_number`'s
 unfoldable pub layer_values_of : Result Float Refusal → List Float
 layer_values_of (Ok v) = v ∷ []
 layer_values_of (Err r) = []
