@@ -9,4 +9,4 @@ returns-then-out-lt1 c = rw (lt-ltb _ _ c.if-out-lt1.true) (refl, refl)
 
 pub returns : goal.returns
 unfolding price_left
-returns c = rw (le-ltb _ _ c.if-out-lt1.false, ← c.number-v.ensures, ← c.price-a.ensures) c.charge_into.ensures
+returns c = rw (le-ltb _ _ c.if-out-lt1.false, ← c.number.ensures, ← c.price.ensures) c.charge_into.ensures
