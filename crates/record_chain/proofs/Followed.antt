@@ -22,10 +22,10 @@ use Rattle.record_chain.proofs.Steps.{step-to, in-file, counted, Head, head-fact
 
 module _ (Q : Result Chain Refusal → Type 0) where
   pub by-step : (s : Result (Option ℕ) Refusal) (e : Result Chain Refusal) (on : ℕ → Result Chain Refusal) → (s ≡ Ok None → Q e)
-      → ((n : ℕ) → s ≡ Ok (Some n) → Q (on n)) → ((r : Refusal) → Q (Err r)) → Q (by_step s e on)
+      → ((n : ℕ) → s ≡ Ok (Some n) → Q (on n)) → ((r : Refusal) → s ≡ Err r → Q (Err r)) → Q (by_step s e on)
   by-step (Ok None) e on a b c = a refl
   by-step (Ok (Some n)) e on a b c = b n refl
-  by-step (Err r) e on a b c = c r
+  by-step (Err r) e on a b c = c r refl
 
   pub by-pick : (b : Bool) (x y : Result Chain Refusal) → (b ≡ true → Q x) → Q y → Q (pick_chain b x y)
   by-pick true x y p q = p refl
@@ -44,14 +44,14 @@ module _ (o : Form) (f : List ℕ) (P : ℕ → List ℕ → ℕ → Type 0) (Q 
     walk-ind zero order at p =
         by-step Q (step_of o f order at) _ _
         (λ e. by-pick Q (eqb zero 48 || eqb zero 0) _ _ (λ t. ends zero order at p e t) (stops Refusal.ChainRecord))
-        (λ n e. stops Refusal.ChainRecord) stops
+        (λ n e. stops Refusal.ChainRecord) (λ r e. stops r)
     walk-ind (suc left) order at p =
         by-step Q (step_of o f order at) _ _
         (λ e. by-pick Q (eqb (suc left) 48 || eqb (suc left) 0) _ _ (λ t. ends (suc left) order at p e t) (stops Refusal.ChainRecord))
         (λ n e.
         by-pick Q (sound_by o (leb 48 left) (record_at o f n)) _ _
         (λ t. walk-ind left (order ++ (n ∷ [])) n (goes left order at n p e t)) (stops Refusal.ChainRecord))
-        stops
+        (λ r e. stops r)
 
 -- each number of a list is below n
 abbrev pub Below : ℕ → List ℕ → Type 0

@@ -51,6 +51,18 @@ step-next o f order at n e =
     let m = next_of (record_at o f at) in
     (to-by (eqb m 0) (not (member m order)) (ltb m (record_count o f)) m n e).1
 
+-- a step that is refused is astray
+refused-by : (b fresh : Bool) (m : ℕ) (r : Refusal) → step_by b fresh m ≡ Err r → r ≡ Refusal.ChainStep
+refused-by true fresh m r e = absurd (let z : ◌≡◌ {A = ℕ} 0 1 = cc in omega arith)
+refused-by false true m r e = absurd (let z : ◌≡◌ {A = ℕ} 0 1 = cc in omega arith)
+refused-by false false m r e = cc
+
+pub step-astray : (o : Form) (f order : List ℕ) (at : ℕ) (r : Refusal) → step_of o f order at ≡ Err r → r ≡ Refusal.ChainStep
+unfolding step_of
+step-astray o f order at r e =
+    let m = next_of (record_at o f at) in
+    refused-by (eqb m 0) (ltb m (record_count o f) && not (member m order)) m r e
+
 index-by : (b fresh : Bool) (m : ℕ) → eqb m 0 ≡ b → answer_number (step_by b fresh m) ≡ 0 → step_index (step_by b fresh m) ≡ m
 index-by true fresh m e z = sym (eqb-true m 0 e)
 index-by false true m e z = refl
