@@ -13,13 +13,9 @@ use slot_curves::Slot;
 pub fn rises_throughout(htr: &[f32; 50]) -> bool
     ensures { result ≡ rises_of htr.now }
 {
-    for i in 0..49 {
-        let j = i + 1;
-        if htr[i] < htr[j] {} else {
-            return false;
-        }
-    }
-    true
+    htr.iter()
+        .zip(htr.iter().skip(1))
+        .all(|(lower, upper)| *lower < *upper)
 }
 
 pub fn slot_at(s: IonoState, k: usize) -> Slot
