@@ -106,13 +106,13 @@ with_deciles (Some d) v =
     (cond (ltb d.twelves 48) (Ok (given_deciles d v)) (Err Fault.TooManyDeciles))
 
 -- the three kinds
+abbrev pub with_kind : LineKind → Option Draft → List ℕ → Result Draft Fault
+with_kind LineKind.Path d v = with_path d v
+with_kind LineKind.Point d v = with_point d v
+with_kind LineKind.Deciles d v = with_deciles d v
+
 unfoldable pub with_row : Option Draft → Row → Result Draft Fault
-with_row d r = by r.kind
-  where
-    by : LineKind → Result Draft Fault
-    by LineKind.Path = with_path d r.values
-    by LineKind.Point = with_point d r.values
-    by LineKind.Deciles = with_deciles d r.values
+with_row d r = with_kind r.kind d r.values
 
 -- a line without a word says nothing
 abbrev pub with_row_if : Option Draft → Option Row → Result (Option Draft) Fault
