@@ -15,10 +15,10 @@ eqb-comm : (a b : ℕ) → eqb a b ≡ eqb b a
 eqb-comm a b = grind arith
 
 -- looked for from the left, as the slice's method does
-pub any-member : (n : ℕ) (l : List ℕ) → list_any (λ (m : ℕ). eqb m n) l ≡ member n l
+pub any_member : (n : ℕ) (l : List ℕ) → list_any (λ (m : ℕ). eqb m n) l ≡ member n l
 unfolding member
-any-member n [] = refl
-any-member n (m ∷ l) = rw (eqb-comm m n, any-member n l)
+any_member n [] = refl
+any_member n (m ∷ l) = rw (eqb-comm m n, any_member n l)
 
 pub length-padded : (N : ℕ) (ns : List ℕ) → length ns ≤ N → length (padded N ns) ≡ N
 length-padded N ns h = simp (length-append, length-replicate) (omega arith)

@@ -4,7 +4,7 @@
 ghost use Rattle.std.specs.Prelude.{◌≡◌, [], ◌∷◌, ◌+◌, ◌*◌, ◌≤◌, length, leb};
 ghost use Rattle.refusal.specs.Number.{answer_number};
 ghost use Rattle.records.specs.Record.{Fit, form64, record_at, next_of};
-ghost use Rattle.record_chain.specs.Chain.{chain_of, head_good, step_of, step_index, sound_by};
+ghost use Rattle.record_chain.specs.Chain.{chain_of, head_good, member, step_of, step_index, sound_by};
 
 use records::Form;
 use refusal::Refusal;
@@ -40,6 +40,12 @@ fn head_good(o: Form, r: &[u8]) -> bool
     records::all_zero(&r[24..])
 }
 
+fn is_among(list: &[usize], n: usize) -> bool
+    ensures { result ≡ member n list.now }
+{
+    list.contains(&n)
+}
+
 // The step out of record `at`, after the records of `order`: to no record, or to one that is there and was not met before. Unless
 // it is refused it goes where the record's next index says.
 fn step_out(o: Form, file: &[u8], order: &[usize], at: usize) -> Result<Option<usize>, Refusal>
@@ -52,7 +58,7 @@ fn step_out(o: Form, file: &[u8], order: &[usize], at: usize) -> Result<Option<u
     if next == 0 {
         return Ok(None);
     }
-    if next >= file.len() / size || order.contains(&next) {
+    if next >= file.len() / size || is_among(order, next) {
         return Err(Refusal::ChainStep);
     }
     Ok(Some(next))

@@ -8,9 +8,8 @@ use Rattle.refusal.specs.declared.Refusal.{Refusal}
 use Rattle.records.specs.Record.{half_at}
 use Rattle.record_chain.specs.Chain.{step_of}
 use Rattle.records.proofs.Lists.{part}
-use Rattle.record_chain.proofs.Members.{any-member}
 use Rattle.record_chain.proofs.Steps.{step-told}
-use Rattle.record_chain.proofs.step_out.Goals.{then-next-file-via-then-next-file, then-next-file-via-else-next-file+then-contains}
+use Rattle.record_chain.proofs.step_out.Goals.{then-next-file-via-then-next-file, then-next-file-via-else-next-file+then-is_among}
 use Rattle.record_chain.proofs.step_out.Goals as goal
 
 pub returns-then-next-eq0 : goal.returns-then-next-eq0
@@ -29,14 +28,13 @@ returns-then-next-file c =
     let e : ◌≡◌ {A = Result (Option ℕ) Refusal} (Err Refusal.ChainStep) (step_of a.o a.file.now a.order.now a.at) =
     elim c.then-next-file.branch [
       | then-next-file-via-then-next-file w ↦ rw (← read, ne_eqb _ _ c.if-next-eq0.false, le-ltb _ _ w.if-next-file.true)
-      | then-next-file-via-else-next-file+then-contains w ↦
+      | then-next-file-via-else-next-file+then-is_among w ↦
           rw (
             ← read,
             ne_eqb _ _ c.if-next-eq0.false,
             lt-ltb _ _ w.if-next-file.false,
-            ← any-member c.half-next.result a.order.now,
-            ← w.contains.ensures.value,
-            w.if-contains.true,
+            ← w.is_among.ensures,
+            w.if-is_among.true,
           )
     ] in
     let t = step-told a.o a.file.now a.order.now a.at (Err Refusal.ChainStep) e in
@@ -52,8 +50,7 @@ returns c =
       ← read,
       ne_eqb _ _ c.if-next-eq0.false,
       lt-ltb _ _ c.if-next-file.false,
-      ← any-member c.half-next.result a.order.now,
-      ← c.contains.ensures.value,
-      c.if-contains.false,
+      ← c.is_among.ensures,
+      c.if-is_among.false,
     )) in
     record { value = t.0; result_value = t.1 }
