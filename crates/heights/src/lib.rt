@@ -94,7 +94,7 @@ fn by_densities(
     Heights {
         hp: h0 + hrmz * hp,
         ht: h0 + ht,
-        cursor: cursor,
+        cursor,
         segment,
     }
 }
@@ -103,10 +103,7 @@ fn by_densities(
 fn rule_used(exact: bool, ht: f32) -> bool
     ensures { result ≡ (exact && (ht >f f0)) }
 {
-    if exact {
-        return ht > 0.0;
-    }
-    false
+    exact && ht > 0.0
 }
 
 // `gethp` with the exact rule where it is asked for and can be used, else with the densities read by a walk, or by scans. The profile is lent: for a caller that asks for many frequencies on one.

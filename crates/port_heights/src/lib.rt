@@ -97,8 +97,8 @@ pub fn port_xlin(x: u32, xn: &[u32], yn: &[u32], out: &mut [u32]) -> u32
         return Refusal::Length as u32;
     }
     let at = scalar::number(x);
-    let xs = port_state::floats_50(xn, 0);
-    let ys = port_state::floats_50(yn, 0);
+    let xs = port_state::floats::<50>(xn, 0);
+    let ys = port_state::floats::<50>(yn, 0);
     let f = xlin::xlin(at, &xs, &ys);
     height_words::found_into(f, out);
     0

@@ -22,18 +22,9 @@ fn set_point(mut s: IonoState, k: usize, p: LayerParams) -> IonoState
     requires { k < 5 }
     ensures { result ≡ point_set s k p }
 {
-    let fi = s.fi;
-    let yi = s.yi;
-    let hi = s.hi;
-    let f = p.fi;
-    let y = p.yi;
-    let h = p.hi;
-    let fi = layer_rules::set_row(fi, k, f);
-    let yi = layer_rules::set_row(yi, k, y);
-    let hi = layer_rules::set_row(hi, k, h);
-    s.fi = fi;
-    s.yi = yi;
-    s.hi = hi;
+    s.fi = layer_rules::set_row(s.fi, k, p.fi);
+    s.yi = layer_rules::set_row(s.yi, k, p.yi);
+    s.hi = layer_rules::set_row(s.hi, k, p.hi);
     s
 }
 

@@ -16,4 +16,4 @@ returns-then-xn-lt50 c =
 
 pub returns : goal.returns
 unfolding xlin_left
-returns c = rw (le-ltb _ _ c.if-xn-lt50.false, le-ltb _ _ c.if-yn-lt50.false, le-ltb _ _ c.if-out-lt2.false, ← c.number-at.ensures, ← c.floats_50-xs.ensures, ← c.floats_50-ys.ensures) (refl, rw c.xlin-f.ensures at c.found_into.ensures)
+returns c = rw (le-ltb _ _ c.if-xn-lt50.false, le-ltb _ _ c.if-yn-lt50.false, le-ltb _ _ c.if-out-lt2.false, ← c.number-at.ensures, ← c.floats-xs.ensures, ← c.floats-ys.ensures) (refl, rw c.xlin-f.ensures at c.found_into.ensures)
