@@ -41,8 +41,8 @@ pub fn put_trace(out: &mut [u8], at: usize, f: [f32; 30], h: [f32; 30]) -> usize
 {
     let mut e = at;
     let mut last = None;
-    for i in 0..30 {
-        let here = svg_points::point(f[i], h[i]);
+    for (f, h) in f.iter().zip(&h) {
+        let here = svg_points::point(*f, *h);
         e = put_step(out, e, last, here);
         last = here;
     }
