@@ -7,7 +7,6 @@ use Rattle.scalar.specs.Literals.{f0, f0_5, f4, f6_3, f90, f40100}
 use Rattle.scalar.specs.Scalar.{max_of}
 use Rattle.waves.specs.SinCos.{sin_of, cos_of}
 use Rattle.wave_answers.specs.Answers.{sin_answer, cos_answer}
-use Rattle.wave_answers.specs.declared.Answer.{Answer}
 use Rattle.constants.specs.Constants.{D2R}
 use Rattle.hops.specs.Geometry.{hops_of, psi_of, del_of}
 use Rattle.scan_angles.specs.Angles.{ANG}
@@ -18,10 +17,10 @@ Small x = ((x <f negf f4) ≡ false) × ((x >f f4) ≡ false)
 
 -- and then sine and cosine answer
 abbrev pub SinAnswers : Type 0
-SinAnswers = (x : Float) → Small x → sin_answer x ≡ Answer.Value (sin_of x)
+SinAnswers = (x : Float) → Small x → sin_answer x ≡ Ok (sin_of x)
 
 abbrev pub CosAnswers : Type 0
-CosAnswers = (x : Float) → Small x → cos_answer x ≡ Answer.Value (cos_of x)
+CosAnswers = (x : Float) → Small x → cos_answer x ≡ Ok (cos_of x)
 
 -- For a path of gcd radians and gcdkm kilometres and a least angle of amind: every argument of sin and cos in `hop_ratio_of`, `hop_geometry_of`, `round_of` and the Es section's ray. h is any height, x the hop count that it gives.
 pub record AllSmall (gcd gcdkm amind : Float) : Type 0 where
@@ -41,4 +40,4 @@ abbrev pub FobbySmall : Type 0
 FobbySmall = (ia : ℕ) → Small (at ANG ia *f D2R)
 
 abbrev pub FobbyAnswers : Type 0
-FobbyAnswers = (ia : ℕ) → cos_answer (at ANG ia *f D2R) ≡ Answer.Value (cos_of (at ANG ia *f D2R))
+FobbyAnswers = (ia : ℕ) → cos_answer (at ANG ia *f D2R) ≡ Ok (cos_of (at ANG ia *f D2R))
