@@ -74,6 +74,7 @@ pub fn circuit_into(c: Circuit, w: &mut [u32])
 }
 
 // The circuit of a file, into 657 words.
+// Stays: words lent and a number answered, as callers in C have them; so in the other exports.
 pub fn port_read(file: &[u8], out: &mut [u32]) -> u32
     ensures value { result ≡ (port_read file.now out.old).number }
     ensures out_after { out.new ≡ (port_read file.now out.old).cells }

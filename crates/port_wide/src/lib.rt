@@ -17,6 +17,7 @@ fn wide_into(a: WideCircuit, w: &mut [u32])
 }
 
 // The circuit of a file into 657 words, and its F2M3 into five more.
+// Stays: an export of its own beside `port_read`, since callers in C name it.
 pub fn port_read128(file: &[u8], out: &mut [u32]) -> u32
     ensures value { result ≡ (port_read128 file.now out.old).number }
     ensures out_after { out.new ≡ (port_read128 file.now out.old).cells }

@@ -7,6 +7,7 @@ ghost use Rattle.wide_form.specs.Form128.{form128};
 use circuit::Circuit;
 use record_chain::Chain;
 
+// Stays: beside the paper's form, whose readers are handed the part of the file by its 64 bytes.
 fn points(file: &[u8], order: &[usize], km: usize) -> [u32; 75]
     requires { (km ≤ 5) × (length order.now ≡ 64) × ((i : ℕ) → 128 * get_or order.now i 0 + 128 ≤ length file.now) }
     ensures { result ≡ padded 75 (numbers_of form128 file.now order.now 1 0 15 km) }
