@@ -52,9 +52,7 @@ pub fn port_reading(state: &[u32], zi: u32, out: &mut [u32]) -> u32
 {
     match state_with_room(state, out, 3) {
         Ok(s) => {
-            let htr = s.htr;
-            let fnsq = s.fnsq;
-            let r = readings::read_by_scan(&htr, &fnsq, scalar::number(zi));
+            let r = readings::read_by_scan(&s.htr, &s.fnsq, scalar::number(zi));
             height_words::reading_into(r, out);
             0
         }
