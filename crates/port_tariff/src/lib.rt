@@ -25,7 +25,7 @@ pub fn port_price(muf: u32, tops: &[u32], rates: &[u32], seconds: u32, out: &mut
     ensures { (result ≡ (price_left muf tops.now rates.now seconds out.old).number) × (out.new ≡ (price_left muf tops.now rates.now seconds out.old).words) }
 {
     if out.len() < 1 {
-        return 1;
+        return u32::from(Refusal::Length);
     }
     charge_into(
         tariff::price(scalar::number(muf), tops, rates, seconds),

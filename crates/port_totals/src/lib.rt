@@ -25,7 +25,7 @@ pub fn port_total(prices: &[u32], out: &mut [u32]) -> u32
     ensures { (result ≡ (total_left prices.now out.old).number) × (out.new ≡ (total_left prices.now out.old).words) }
 {
     if out.len() < 1 {
-        return 1;
+        return u32::from(Refusal::Length);
     }
     total_into(totals::total(prices), out)
 }
