@@ -6,7 +6,6 @@ use Rattle.std.specs.Prelude.{Result, Ok, Err}
 use Rattle.refusal.specs.declared.Refusal.{Refusal}
 use Rattle.records.specs.Record.{form64}
 use Rattle.circuit.specs.Read.{read_of}
-use Rattle.layers.specs.declared.IonoState.{IonoState}
 use Rattle.muf.specs.declared.MufAnswer.{MufAnswer}
 use Rattle.scan_angles.specs.Angles.{sang_of}
 use Rattle.circuit_sheet.specs.CircuitSheet.{Circuit, slots_of, muf_of, answered_of, muf_then, scanned_of, scan_then, circuit_sheet_of, read_then, sheet_of}
