@@ -180,6 +180,13 @@ module _ (P : Refusal → Type 0) (input : P Refusal.MufInput) (hops : P Refusal
       let step = es_from (row_at es) c n 0 start_of in
       subst (λ (b : Bool). Good (muf_from_search_by (in_domain c) b gethp_of s step f2d clat clck c)) (sym reach) (search-by (in_domain c) s step f2d clat clck c e (es-in (row_at es) c n 0 start_of))
 
+  refused-in : (x : Result AnswerAndRow Refusal) → Good x → IfErr x P
+  refused-in (Ok d) h = tt
+  refused-in (Err r) h = h
+
+  pub flat-refused : (s : IonoState) (es f2d clat clck : List Float) (c : PathNumbers) → eqb (length f2d) 576 ≡ true → lists_reach (controlling_of s) (length f2d) (length clat) (length clck) ≡ true → IfErr (flat_of s es f2d clat clck c) P
+  flat-refused s es f2d clat clck c e reach = refused-in (flat_of s es f2d clat clck c) (flat-in s es f2d clat clck c e reach)
+
   answer-in : (x : Result AnswerAndRow Refusal) → Good x → MatchResult (answer_by x) (λ a. HourGood a.hour) P
   answer-in (Ok d) h = h
   answer-in (Err r) h = h
