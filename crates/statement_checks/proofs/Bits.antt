@@ -3,6 +3,8 @@ use mathlib.Core.List.{List, [], ◌∷◌}
 use mathlib.Core.Path.{◌≡◌, refl, ap, ap₂}
 use Prim.Native.Nat.{ℕ}
 use lib.Ieee.{Float}
+use Rattle.std.specs.Prelude.{Result, Ok, Err, IfOk}
+use Rattle.refusal.specs.declared.Refusal.{Refusal}
 use Rattle.scalar.specs.F32.{at}
 use Rattle.same.specs.Same.{AllF32, SameAll}
 use Rattle.same.proofs.Same.{same-is-equal}
@@ -12,9 +14,9 @@ use Rattle.layers.specs.declared.EsParams.{EsParams}
 use Rattle.slot_curves.specs.declared.Slot.{Slot}
 use Rattle.reflectrix.specs.declared.Ionogram.{Ionogram}
 use Rattle.muf.specs.declared.MufHour.{MufHour}
-use Rattle.call_lists.specs.Calls.{EsRows, flat, records, Answer, of_muf, of_sheet, of_nominal}
+use Rattle.call_lists.specs.Calls.{EsRows, flat, records, SlotRows, Answer, of_muf, of_sheet, of_nominal}
 use Rattle.call_lists.specs.Lists.{Every}
-use Rattle.call_lists.specs.SameLists.{Pairwise, SameLine, SameHour, SameRecord, SameEs, SameRows, SameAnswer, SameSlot, SameState}
+use Rattle.call_lists.specs.SameLists.{Pairwise, SameLine, SameHour, SameRecord, SameEs, SameRows, SameSlotRows, SameResult, SameAnswer, SameSlot, SameState}
 use Rattle.statement_checks.specs.Bits.{LineF32, HourF32, RecordF32, EsF32, RowsF32, AnswerF32, SlotF32, StateF32, BitsAreAll}
 
 -- ---- lists
@@ -66,19 +68,26 @@ rows-equal i j p q t =
 
 -- ---- answers, slots, states
 
+slot-rows : (a b : SlotRows) → RowsF32 a.ion → RowsF32 b.ion → SameSlotRows a b → a ≡ b
+slot-rows a b p q t = let rows = rows-equal a.ion b.ion p q t.0 in λ i. record { ion = rows i; marks = t.1 i }
+
+-- what is answered, or the refusal
+result-equal : {A : Type 0} (F : A → Type 0) (R : A → A → Type 0) → ((x y : A) → F x → F y → R x y → x ≡ y) → (a b : Result A Refusal) → IfOk a F → IfOk b F → SameResult R a b → a ≡ b
+result-equal F R f (Ok x) (Ok y) p q t = ap Ok (f x y p q t)
+result-equal F R f (Ok x) (Err r) p q t = absurd t
+result-equal F R f (Err r) (Ok x) p q t = absurd t
+result-equal F R f (Err r) (Err u) p q t = ap Err t
+
 answer-equal : (a b : Answer) → AnswerF32 a → AnswerF32 b → SameAnswer a b → a ≡ b
-answer-equal (of_muf o h es) (of_muf u g ds) p q t =
-    let hour = hour-equal h g p.0 q.0 t.1 in
-    let rows = es-equal es ds p.1 q.1 t.2 in
-    λ i. of_muf (t.0 i) (hour i) (rows i)
-answer-equal (of_muf o h es) (of_sheet u j n ds) p q t = absurd t
-answer-equal (of_muf o h es) (of_nominal u g) p q t = absurd t
-answer-equal (of_sheet o k m cs) (of_muf u g ds) p q t = absurd t
-answer-equal (of_sheet o k m cs) (of_sheet u j n ds) p q t = let rows = rows-equal k j p q t.1 in λ i. of_sheet (t.0 i) (rows i) (t.2 i) (t.3 i)
-answer-equal (of_sheet o k m cs) (of_nominal u g) p q t = absurd t
-answer-equal (of_nominal o h) (of_muf u g ds) p q t = absurd t
-answer-equal (of_nominal o h) (of_sheet u j n ds) p q t = absurd t
-answer-equal (of_nominal o h) (of_nominal u g) p q t = let hour = hour-equal h g p q t.1 in λ i. of_nominal (t.0 i) (hour i)
+answer-equal (of_muf h es) (of_muf g ds) p q t = ap₂ of_muf (result-equal HourF32 SameHour hour-equal h g p.0 q.0 t.0) (es-equal es ds p.1 q.1 t.1)
+answer-equal (of_muf h es) (of_sheet j cs) p q t = absurd t
+answer-equal (of_muf h es) (of_nominal g) p q t = absurd t
+answer-equal (of_sheet i cs) (of_muf g ds) p q t = absurd t
+answer-equal (of_sheet i cs) (of_sheet j ds) p q t = ap₂ of_sheet (result-equal (λ a. RowsF32 a.ion) SameSlotRows slot-rows i j p q t.0) t.1
+answer-equal (of_sheet i cs) (of_nominal g) p q t = absurd t
+answer-equal (of_nominal h) (of_muf g ds) p q t = absurd t
+answer-equal (of_nominal h) (of_sheet j ds) p q t = absurd t
+answer-equal (of_nominal h) (of_nominal g) p q t = ap of_nominal (result-equal HourF32 SameHour hour-equal h g p q t)
 
 slot-equal : (p q : Slot) → SlotF32 p → SlotF32 q → SameSlot p q → p ≡ q
 slot-equal p q f g t =
