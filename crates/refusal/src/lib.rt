@@ -2,7 +2,7 @@
 #![tactic(auto)]
 
 ghost use Rattle.std.specs.Prelude.{◌≡◌};
-ghost use Rattle.refusal.specs.Number.{number_of, answer_number, outcome_number};
+ghost use Rattle.refusal.specs.Number.{number_of, answer_number};
 
 #[derive(Clone, Copy, Debug, PartialEq, Eq)]
 pub enum Refusal {
@@ -48,13 +48,6 @@ pub enum Refusal {
     SheetLength = 20,
 }
 
-// An answer whose value stands beside it.
-#[derive(Clone, Copy)]
-pub enum Outcome {
-    Answered,
-    Refused(Refusal),
-}
-
 impl From<Refusal> for u32 {
     // the paper's number
     ghost from_gives = { λ r n. n ≡ number_of r };
@@ -71,22 +64,5 @@ pub fn answer_number<T>(answer: &Result<T, Refusal>) -> u32
     match answer {
         Ok(_) => 0,
         Err(r) => u32::from(*r),
-    }
-}
-
-// The paper's number of a refusal.
-pub fn number(r: Refusal) -> u32
-    ensures { result ≡ number_of r }
-{
-    u32::from(r)
-}
-
-// 0 for an answer, else the refusal's number.
-pub fn outcome_number(o: Outcome) -> u32
-    ensures { result ≡ outcome_number o }
-{
-    match o {
-        Outcome::Answered => 0,
-        Outcome::Refused(r) => number(r),
     }
 }
