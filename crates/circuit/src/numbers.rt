@@ -25,12 +25,14 @@ pub fn read_deciles(r: &[u8], out: &mut [u32])
 }
 
 // Whether every word is +0.
+// Stays: beside the one for bytes, one call of the library's generic method each; a shared one would need a trait for its zero.
 pub fn all_zero(s: &[u32]) -> bool
     ensures { result ≡ all_zero s.now }
 {
     s.iter().all(|w| *w == 0)
 }
 
+// Stays: the part of the file by its 64 bytes, as this form's readers are handed it; the wide form has the same loops by 128.
 fn points(file: &[u8], order: &[usize], km: usize) -> [u32; 75]
     requires { (km ≤ 5) × (length order.now ≡ 64) × ((i : ℕ) → 64 * get_or order.now i 0 + 64 ≤ length file.now) }
     ensures { result ≡ padded 75 (numbers_of form64 file.now order.now 1 0 15 km) }

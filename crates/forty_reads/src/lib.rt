@@ -99,6 +99,7 @@ fn walk_reads(
     let up = ht >= 0.0;
     let h0 = htr[0];
     let mut ih = 0usize;
+    // Stays: the read's number gives the node and its half, and the place in the table.
     for k in 0..40 {
         let ig = ig_at(k);
         let ib = ib_at(up, k);
@@ -119,6 +120,7 @@ fn scan_reads(htr: &[f32; 50], fnsq: &[f32; 50], xts: &[f32; 20], ht: f32, read:
     ensures { read.new ≡ scan_reads htr.now fnsq.now ht 40 }
 {
     let h0 = htr[0];
+    // Stays: the read's number gives the node and its half, and the place in the table.
     for k in 0..40 {
         let ig = k / 2;
         let ib = k % 2;

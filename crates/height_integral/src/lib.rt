@@ -44,6 +44,7 @@ fn whole(htr: &[f32; 50], fnsq: &[f32; 50], fr: f32, n: usize) -> f32
     ensures { result ≡ whole_of htr.now fnsq.now fr n }
 {
     let mut sum = 0.0;
+    // Stays: neighbours of two lists by one index, summed in the Rust's order.
     for i in 0..n {
         let next = i + 1;
         let y = scalar::min(fnsq[next] / fr, 1.0);

@@ -82,6 +82,7 @@ impl Reading {
 pub fn scan(from: &[f32; 50], to: &[f32; 50], probe: f32) -> Reading
     ensures { result ≡ scan_of from.now to.now probe }
 {
+    // Stays: neighbours of two lists by one index, which is the segment's number too.
     for ih in 0..49 {
         let next = ih + 1;
         if let Some(v) = segment(from[ih], from[next], to[ih], to[next], probe) {

@@ -10,6 +10,7 @@ use records::Form;
 use refusal::Refusal;
 
 // The records of a chain, in its order: `count` of them, then zeros.
+// Stays: a copied record of fixed memory, and the laws speak of its list of 64 with the zeros.
 #[derive(Clone, Copy)]
 pub struct Chain {
     pub order: [usize; 64],

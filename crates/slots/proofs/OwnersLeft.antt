@@ -60,4 +60,4 @@ unfolding ionset_of
 ionset-disowns s t e =
     ionset-by (count_taken s.km) s t e
     ∙ ap (λ (i : Bool). owner_by i Owner.None)
-        (ap (λ (r : Result IonoState Refusal). (state_after s r).ielect) (sym e) ∙ (ionset-keeps s).ielect-kept)
+    (ap (λ (r : Result IonoState Refusal). (state_after s r).ielect) (sym e) ∙ (ionset-keeps s).ielect-kept)

@@ -10,6 +10,6 @@ pub record ExactOff (params : List LayerParams) (count : ℕ) : Type 0 where
   pub from-layers : (state_after zero_state (from_layers_of params count)).exact_virtual_height ≡ false
   -- also where the shape is set in between
   pub from-ionset :
-    (iedp : ℤ)
-    → let s = with_iedp (state_after zero_state (from_layers_of params count)) iedp in
+      (iedp : ℤ)
+      → let s = with_iedp (state_after zero_state (from_layers_of params count)) iedp in
       (state_after s (ionset_of s)).exact_virtual_height ≡ false

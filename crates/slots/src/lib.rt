@@ -33,6 +33,7 @@ fn set_points(s: IonoState, params: [LayerParams; 5], n: usize) -> IonoState
     ensures { result ≡ points_set s params n }
 {
     let mut t = s;
+    // Stays: k is the point's row in the tables too.
     for k in 0..n {
         let p = params[k];
         t = set_point(t, k, p);
@@ -142,6 +143,7 @@ fn settle_slots(s: IonoState, n: usize) -> IonoState
     ensures { result ≡ slots_settled s n }
 {
     let mut t = s;
+    // Stays: k is the slot's number, and no list is read.
     for k in 0..n {
         t = settle_slot(t, k);
     }
