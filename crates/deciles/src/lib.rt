@@ -87,7 +87,14 @@ fn spread(fmuf: f32, decile: f32) -> f32
 }
 
 // `abb` is the point's clock, in hours of local mean time, and `clat` its latitude in radians.
-pub fn f2dis(f2d: &[f32], fmuf: f32, ssn: f32, clat: f32, freq: f32, abb: f32) -> Result<f32, Refusal>
+pub fn f2dis(
+    f2d: &[f32],
+    fmuf: f32,
+    ssn: f32,
+    clat: f32,
+    freq: f32,
+    abb: f32,
+) -> Result<f32, Refusal>
     ensures value { result ≡ f2dis_of f2d.now fmuf ssn clat freq abb }
     ensures deviation_says { DeviationSays result f2d.now fmuf ssn clat freq abb }
 {

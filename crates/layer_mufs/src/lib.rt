@@ -143,13 +143,7 @@ fn f1_found(g: HopGeometry, h: HeightPair, fc: f32, fx1: f32) -> LayerMuf
 }
 
 // Where there is an F1 layer.
-fn f1_own(
-    t: IonoState,
-    fc: f32,
-    fx1: f32,
-    gcdkm: f32,
-    amind: f32,
-) -> Result<LayerMuf, Refusal>
+fn f1_own(t: IonoState, fc: f32, fx1: f32, gcdkm: f32, amind: f32) -> Result<LayerMuf, Refusal>
     ensures { result ≡ f1_own_with gethp_of t fc fx1 gcdkm amind }
 {
     let at = heights::gethp(t, fx1);
@@ -162,7 +156,14 @@ fn f1_own(
 }
 
 // Without an F1 the E line again; a NaN counts as an F1 here.
-pub fn f1_line(t: IonoState, l: Slot, fx1: f32, e: LayerMuf, gcdkm: f32, amind: f32) -> Result<LayerMuf, Refusal>
+pub fn f1_line(
+    t: IonoState,
+    l: Slot,
+    fx1: f32,
+    e: LayerMuf,
+    gcdkm: f32,
+    amind: f32,
+) -> Result<LayerMuf, Refusal>
     ensures value { result ≡ f1_line_of t l fx1 e gcdkm amind }
     ensures f1_says { F1Says result t l fx1 e gcdkm amind }
 {

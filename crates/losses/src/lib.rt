@@ -222,7 +222,12 @@ pub fn alosfv_slot(s: IonoState, k: usize, ion: Ionogram, layers: [LayerMuf; 4])
     with_afac(ion, not_below_zeros(g))
 }
 
-pub fn alosfv(s: IonoState, k: usize, ion: Ionogram, layers: [LayerMuf; 4]) -> Result<Ionogram, Refusal>
+pub fn alosfv(
+    s: IonoState,
+    k: usize,
+    ion: Ionogram,
+    layers: [LayerMuf; 4],
+) -> Result<Ionogram, Refusal>
     ensures { result ≡ alosfv_answer s k ion layers }
 {
     if k > 2 {

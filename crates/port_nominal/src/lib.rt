@@ -76,12 +76,7 @@ fn asked(
 }
 
 // The whole call but for what it writes.
-fn called(
-    points: &[u32],
-    f2m3: &[u32],
-    es: &[u32],
-    numbers: &[u32],
-) -> Result<MufHour, Refusal>
+fn called(points: &[u32], f2m3: &[u32], es: &[u32], numbers: &[u32]) -> Result<MufHour, Refusal>
     requires { (length points.now ≤ 45) × (length f2m3.now ≤ 5) × (2 ≤ length numbers.now) × (4 * (length points.now / 9) ≤ length es.now) }
     ensures { result ≡ nominal_words points.now f2m3.now es.now numbers.now (length points.now / 9) }
 {

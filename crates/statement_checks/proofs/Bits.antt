@@ -68,23 +68,26 @@ rows-equal i j p q t =
 
 -- ---- answers, slots, states
 
-slot-rows : (a b : SlotRows) → RowsF32 a.ion → RowsF32 b.ion → SameSlotRows a b → a ≡ b
-slot-rows a b p q t = let rows = rows-equal a.ion b.ion p q t.0 in λ i. record { ion = rows i; marks = t.1 i }
+slot-rows-equal : (a b : SlotRows) → RowsF32 a.ion → RowsF32 b.ion → SameSlotRows a b → a ≡ b
+slot-rows-equal a b p q t = let ion = rows-equal a.ion b.ion p q t.0 in λ i. record { ion = ion i; marks = t.1 i }
 
--- what is answered, or the refusal
 result-equal : {A : Type 0} (F : A → Type 0) (R : A → A → Type 0) → ((x y : A) → F x → F y → R x y → x ≡ y) → (a b : Result A Refusal) → IfOk a F → IfOk b F → SameResult R a b → a ≡ b
-result-equal F R f (Ok x) (Ok y) p q t = ap Ok (f x y p q t)
-result-equal F R f (Ok x) (Err r) p q t = absurd t
-result-equal F R f (Err r) (Ok x) p q t = absurd t
-result-equal F R f (Err r) (Err u) p q t = ap Err t
+result-equal F R h (Ok x) (Ok y) p q t = ap Ok (h x y p q t)
+result-equal F R h (Ok x) (Err r) p q t = absurd t
+result-equal F R h (Err r) (Ok y) p q t = absurd t
+result-equal F R h (Err q) (Err r) p u t = ap Err t
 
 answer-equal : (a b : Answer) → AnswerF32 a → AnswerF32 b → SameAnswer a b → a ≡ b
-answer-equal (of_muf h es) (of_muf g ds) p q t = ap₂ of_muf (result-equal HourF32 SameHour hour-equal h g p.0 q.0 t.0) (es-equal es ds p.1 q.1 t.1)
-answer-equal (of_muf h es) (of_sheet j cs) p q t = absurd t
+answer-equal (of_muf h es) (of_muf g ds) p q t =
+    let hour = result-equal HourF32 SameHour hour-equal h g p.0 q.0 t.0 in
+    let rows = es-equal es ds p.1 q.1 t.1 in
+    λ i. of_muf (hour i) (rows i)
+answer-equal (of_muf h es) (of_sheet j ds) p q t = absurd t
 answer-equal (of_muf h es) (of_nominal g) p q t = absurd t
-answer-equal (of_sheet i cs) (of_muf g ds) p q t = absurd t
-answer-equal (of_sheet i cs) (of_sheet j ds) p q t = ap₂ of_sheet (result-equal (λ a. RowsF32 a.ion) SameSlotRows slot-rows i j p q t.0) t.1
-answer-equal (of_sheet i cs) (of_nominal g) p q t = absurd t
+answer-equal (of_sheet k cs) (of_muf g ds) p q t = absurd t
+answer-equal (of_sheet k cs) (of_sheet j ds) p q t =
+    let rows = result-equal (λ (r : SlotRows). RowsF32 r.ion) SameSlotRows slot-rows-equal k j p q t.0 in λ i. of_sheet (rows i) (t.1 i)
+answer-equal (of_sheet k cs) (of_nominal g) p q t = absurd t
 answer-equal (of_nominal h) (of_muf g ds) p q t = absurd t
 answer-equal (of_nominal h) (of_sheet j ds) p q t = absurd t
 answer-equal (of_nominal h) (of_nominal g) p q t = ap of_nominal (result-equal HourF32 SameHour hour-equal h g p q t)

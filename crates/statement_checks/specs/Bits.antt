@@ -33,10 +33,10 @@ pub record RowsF32 (i : Ionogram) : Type 0 where
   pub htrue : AllF32 i.htrue
   pub afac : AllF32 i.afac
 
--- of what is answered; a refusal has no numbers
+-- where it is answered; beside a refusal there is no number
 abbrev pub AnswerF32 : Answer → Type 0
 AnswerF32 (of_muf h es) = IfOk h HourF32 × EsF32 es
-AnswerF32 (of_sheet rows cells) = IfOk rows (λ a. RowsF32 a.ion)
+AnswerF32 (of_sheet a cells) = IfOk a (λ r. RowsF32 r.ion)
 AnswerF32 (of_nominal h) = IfOk h HourF32
 
 abbrev pub SlotF32 : Slot → Type 0
