@@ -1,4 +1,5 @@
 -- Every angle that the MUF hands to sine or cosine is within -4 to 4, or NaN: so refusal 13 is never its answer. The path length is 0 to 40,100 km and 0 to 6.3 radians, amind is not above 90, the number of hops is one that `hops_of` gives; of all else nothing is asked.
+use Rattle.std.specs.Prelude.{Ok}
 use mathlib.Core.Path.{◌≡◌, refl, sym, ap, ◌∙◌, subst, subst₂}
 use mathlib.Core.Bool.{Bool, true, false, ◌&&◌, ◌||◌}
 use mathlib.Core.Logic.{◌⊎◌, inl, inr}
@@ -25,7 +26,6 @@ use Rattle.wave_answers.specs.Answers.{sin_answer, cos_answer}
 use Rattle.arcs.proofs.Within.{atan-within}
 use Rattle.constants.specs.Constants.{D2R, PIO2, RZ}
 use Rattle.hops.specs.Geometry.{hop_ratio_of, hops_by, hops_of, psi_of, del_of}
-use Rattle.hops.specs.declared.Hops.{Hops}
 use Rattle.angles.specs.Angles.{Small, SinAnswers, CosAnswers, NeverRefused13}
 use Rattle.angles.proofs.Keys.{Above, UpTo, From, Between, quotient, product, product-from, difference, finite-of, key-range}
 
@@ -155,7 +155,7 @@ whole-count n h k =
       upto = record { held = of_int-fits binary32 (pos n); fin = fx; low = low; high = hi };
     }
 
-counted-by : (b c : Bool) (z : ℤ) (x : Float) → lt_z z (pos 0) ≡ b → lt_z (pos 999) z ≡ c → hops_by b c z ≡ Hops.Count x → HopCount x
+counted-by : (b c : Bool) (z : ℤ) (x : Float) → lt_z z (pos 0) ≡ b → lt_z (pos 999) z ≡ c → hops_by b c z ≡ Ok x → HopCount x
 counted-by true c z x p q e = let w : ◌≡◌ {A = ℕ} 0 1 = cc in absurd (omega arith)
 counted-by false true z x p q e = let w : ◌≡◌ {A = ℕ} 0 1 = cc in absurd (omega arith)
 counted-by false false (pos n) x p q e =
@@ -164,7 +164,7 @@ counted-by false false (pos n) x p q e =
     subst HopCount w (whole-count (n + 1) (omega arith) (omega arith))
 counted-by false false (negsuc n) x p q e = let w : ◌≡◌ {A = ℕ} 0 1 = cc in absurd (omega arith)
 
-pub counted : (gcdkm amind h x : Float) → hops_of gcdkm amind h ≡ Hops.Count x → HopCount x
+pub counted : (gcdkm amind h x : Float) → hops_of gcdkm amind h ≡ Ok x → HopCount x
 unfolding hops_of
 counted gcdkm amind h x e = let z = trunc_of (hop_ratio_of gcdkm amind h) in counted-by (lt_z z (pos 0)) (lt_z (pos 999) z) z x refl refl e
 

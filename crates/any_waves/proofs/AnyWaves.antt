@@ -1,4 +1,7 @@
 -- From each sine and cosine upwards, by what `angles` says of its argument.
+use Rattle.refusal.specs.declared.Refusal.{Refusal}
+use Rattle.muf.specs.declared.RegularLines.{RegularLines}
+use Rattle.std.specs.Prelude.{Result, Ok, Err}
 use mathlib.Core.Bool.{Bool, true, false, ◌&&◌}
 use mathlib.Core.List.{List}
 use mathlib.Core.Path.{◌≡◌, refl, sym, ap, ◌∙◌}
@@ -21,9 +24,7 @@ use Rattle.slot_curves.specs.declared.Slot.{Slot}
 use Rattle.heights.specs.Gethp.{Finder}
 use Rattle.hops.specs.Geometry.{hop_ratio_of, hops_by, hops_of, psi_of, del_of, sphe_of, secp_of, hop_geometry_of, geometry_by, geometry_of}
 use Rattle.hops.specs.Rounds.{sph_of, round_of, settled_of, stop_by, rounds_of}
-use Rattle.hops.specs.declared.Hops.{Hops}
 use Rattle.hops.specs.declared.HopGeometry.{HopGeometry}
-use Rattle.hops.specs.declared.Geometry.{Geometry}
 use Rattle.hops.specs.declared.Ray.{Ray}
 use Rattle.hops.specs.declared.Round.{Round}
 use Rattle.controlling_slot.specs.Controlling.{controlling_of}
@@ -33,14 +34,11 @@ use Rattle.layer_mufs.specs.Lines.{f2_heights_with, bent_of, f2_bent_of, f2_line
 use Rattle.layer_mufs.specs.declared.PathNumbers.{PathNumbers}
 use Rattle.tangents.specs.declared.Tangents.{Tangents}
 use Rattle.e_lines.specs.declared.HeightPair.{HeightPair}
-use Rattle.e_lines.specs.declared.LineAnswer.{LineAnswer}
 use Rattle.sporadic.specs.Sporadic.{ray_of, taken_of, hop_by, row_by, es_row_of, start_of, next_by, es_from}
 use Rattle.sporadic.specs.declared.EsRay.{EsRay}
 use Rattle.sporadic.specs.declared.EsRow.{EsRow}
 use Rattle.sporadic.specs.declared.EsSearch.{EsSearch}
-use Rattle.sporadic.specs.declared.EsStep.{EsStep}
 use Rattle.muf.specs.Curmuf.{within_of, amin_by, in_domain, lists_reach, found_then, regular_with, regular_by, muf_at_slot_with, muf_from_search_by, muf_from_search_with, muf_of_rows_with}
-use Rattle.muf.specs.declared.RegularAnswer.{RegularAnswer}
 use Rattle.angles.specs.Angles.{Small, AllSmall}
 use Rattle.angles.proofs.Angles.{never-refused-13}
 use Rattle.any_waves.specs.Over.{Waves, hop_ratio_over, hops_over, sphe_over, hop_geometry_over, geometry_over_by, geometry_over, round_over, rounds_over, bent_over, e_line_over, f2_line_over_by, f2_line_over, f1_found_over, f1_own_over_by, f1_own_over, f1_line_over_by, f1_line_over, regular_over, ray_over, hop_over_by, row_over_by, es_row_over, es_from_over, muf_at_slot_over, muf_from_search_over_by, muf_of_rows_over}
@@ -86,7 +84,7 @@ module _ (w : Waves) (alike : OursWhereSmall w) where
     unfolding hops_over hops_of
     hops-so h = ap (λ (r : Float). hops_by (lt_z (trunc_of r) (pos 0)) (lt_z (pos 999) (trunc_of r)) (trunc_of r)) (ratio-so h)
 
-    hop-so : (h x hp ht : Float) (split : Bool) → hops_of c.gcdkm c.amind h ≡ Hops.Count x → hop_geometry_over w c.gcdkm x hp ht split ≡ hop_geometry_of c.gcdkm x hp ht split
+    hop-so : (h x hp ht : Float) (split : Bool) → hops_of c.gcdkm c.amind h ≡ Ok x → hop_geometry_over w c.gcdkm x hp ht split ≡ hop_geometry_of c.gcdkm x hp ht split
     unfolding hop_geometry_over hop_geometry_of
     hop-so h x hp ht split e =
         let psi = psi_of c.gcdkm x split in
@@ -96,50 +94,50 @@ module _ (w : Waves) (alike : OursWhereSmall w) where
         ∙ ap (λ (y : Float). whole (cos_of psi) y (sphe_over w (del_of psi (cos_of psi) y hp) ht)) (alike psi is).0
         ∙ ap (whole (cos_of psi) (sin_of psi)) (sphe-so (del_of psi (cos_of psi) (sin_of psi) hp) ht (small.takeoff h x (cos_of psi) (sin_of psi) hp split e))
 
-    geometry-by : (o : Hops) (hp ht : Float) (split : Bool) → hops_of c.gcdkm c.amind hp ≡ o → geometry_over_by o w c.gcdkm hp ht split ≡ geometry_by o c.gcdkm hp ht split
-    geometry-by (Hops.Count x) hp ht split e = ap Geometry.Found (hop-so hp x hp ht split e)
-    geometry-by (Hops.Refused r) hp ht split e = refl
+    geometry-by : (o : Result Float Refusal) (hp ht : Float) (split : Bool) → hops_of c.gcdkm c.amind hp ≡ o → geometry_over_by o w c.gcdkm hp ht split ≡ geometry_by o c.gcdkm hp ht split
+    geometry-by (Ok x) hp ht split e = ap Ok (hop-so hp x hp ht split e)
+    geometry-by (Err r) hp ht split e = refl
 
     geometry-so : (hp ht : Float) (split : Bool) → geometry_over w c.gcdkm c.amind hp ht split ≡ geometry_of c.gcdkm c.amind hp ht split
     unfolding geometry_over geometry_of
     geometry-so hp ht split =
-        ap (λ (o : Hops). geometry_over_by o w c.gcdkm hp ht split) (hops-so hp) ∙ geometry-by (hops_of c.gcdkm c.amind hp) hp ht split refl
+        ap (λ (o : Result Float Refusal). geometry_over_by o w c.gcdkm hp ht split) (hops-so hp) ∙ geometry-by (hops_of c.gcdkm c.amind hp) hp ht split refl
 
     -- ---- lines
 
     e-so : (find : Finder) (t : IonoState) (fxe : Float) → e_line_over w find t fxe c.gcdkm c.amind ≡ e_line_with find t fxe c.gcdkm c.amind
     unfolding e_line_over e_line_with
-    e-so find t fxe = let h = e_heights_with find t fxe in ap (λ (g : Geometry). e_line_by g h fxe) (geometry-so h.hp h.ht true)
+    e-so find t fxe = let h = e_heights_with find t fxe in ap (λ (g : Result HopGeometry Refusal). e_line_by g h fxe) (geometry-so h.hp h.ht true)
 
     -- by the hop count that the geometry comes of
-    f2-by : (o : Hops) (l : Slot) (h : HeightPair) (x : Tangents) (f2d : List Float) (clat clck : Float) → hops_of c.gcdkm c.amind h.hp ≡ o → f2_line_over_by (geometry_by o c.gcdkm h.hp h.ht false) w l h x f2d clat clck c ≡ f2_line_by (geometry_by o c.gcdkm h.hp h.ht false) l h x f2d clat clck c
+    f2-by : (o : Result Float Refusal) (l : Slot) (h : HeightPair) (x : Tangents) (f2d : List Float) (clat clck : Float) → hops_of c.gcdkm c.amind h.hp ≡ o → f2_line_over_by (geometry_by o c.gcdkm h.hp h.ht false) w l h x f2d clat clck c ≡ f2_line_by (geometry_by o c.gcdkm h.hp h.ht false) l h x f2d clat clck c
     unfolding hop_geometry_of
-    f2-by (Hops.Count n) l h x f2d clat clck e =
+    f2-by (Ok n) l h x f2d clat clck e =
         let g = hop_geometry_of c.gcdkm n h.hp h.ht false in
         ap (λ (b : Round). f2_bent_of f2d b h.ht x.fx2 n c.ssn clat clck) (bent-so l.fi2 x.fx2 h g (λ hp. small.takeoff h.hp n g.cpsi g.spsi hp false e))
-    f2-by (Hops.Refused r) l h x f2d clat clck e = refl
+    f2-by (Err r) l h x f2d clat clck e = refl
 
     f2-so : (find : Finder) (t : IonoState) (l : Slot) (x : Tangents) (f2d : List Float) (clat clck : Float) → f2_line_over w find t l x f2d clat clck c ≡ f2_line_with find t l x f2d clat clck c
     unfolding f2_line_over f2_line_with geometry_of
     f2-so find t l x f2d clat clck =
         let h = f2_heights_with find t l x in
-        ap (λ (g : Geometry). f2_line_over_by g w l h x f2d clat clck c) (geometry-so h.hp h.ht false) ∙ f2-by (hops_of c.gcdkm c.amind h.hp) l h x f2d clat clck refl
+        ap (λ (g : Result HopGeometry Refusal). f2_line_over_by g w l h x f2d clat clck c) (geometry-so h.hp h.ht false) ∙ f2-by (hops_of c.gcdkm c.amind h.hp) l h x f2d clat clck refl
 
-    f1-found : (h : HeightPair) (n fc fx1 : Float) → hops_of c.gcdkm c.amind h.hp ≡ Hops.Count n → f1_found_over w (hop_geometry_of c.gcdkm n h.hp h.ht true) h fc fx1 ≡ f1_found_of (hop_geometry_of c.gcdkm n h.hp h.ht true) h fc fx1
+    f1-found : (h : HeightPair) (n fc fx1 : Float) → hops_of c.gcdkm c.amind h.hp ≡ Ok n → f1_found_over w (hop_geometry_of c.gcdkm n h.hp h.ht true) h fc fx1 ≡ f1_found_of (hop_geometry_of c.gcdkm n h.hp h.ht true) h fc fx1
     unfolding f1_found_over f1_found_of hop_geometry_of
     f1-found h n fc fx1 e =
         let g = hop_geometry_of c.gcdkm n h.hp h.ht true in
         ap (λ (b : Round). let sig = tenth_of b.fob in layer_line_of sig sig b.del b.hp h.ht fx1 n b.fob) (bent-so fc fx1 h g (λ hp. small.takeoff h.hp n g.cpsi g.spsi hp true e))
 
-    f1-by : (o : Hops) (h : HeightPair) (fc fx1 : Float) → hops_of c.gcdkm c.amind h.hp ≡ o → f1_own_over_by (geometry_by o c.gcdkm h.hp h.ht true) w h fc fx1 ≡ f1_own_by (geometry_by o c.gcdkm h.hp h.ht true) h fc fx1
-    f1-by (Hops.Count n) h fc fx1 e = ap LineAnswer.Found (f1-found h n fc fx1 e)
-    f1-by (Hops.Refused r) h fc fx1 e = refl
+    f1-by : (o : Result Float Refusal) (h : HeightPair) (fc fx1 : Float) → hops_of c.gcdkm c.amind h.hp ≡ o → f1_own_over_by (geometry_by o c.gcdkm h.hp h.ht true) w h fc fx1 ≡ f1_own_by (geometry_by o c.gcdkm h.hp h.ht true) h fc fx1
+    f1-by (Ok n) h fc fx1 e = ap Ok (f1-found h n fc fx1 e)
+    f1-by (Err r) h fc fx1 e = refl
 
     f1-own : (find : Finder) (t : IonoState) (fc fx1 : Float) → f1_own_over w find t fc fx1 c.gcdkm c.amind ≡ f1_own_with find t fc fx1 c.gcdkm c.amind
     unfolding f1_own_over f1_own_with geometry_of
     f1-own find t fc fx1 =
         let h = read_with find t fx1 in
-        ap (λ (g : Geometry). f1_own_over_by g w h fc fx1) (geometry-so h.hp h.ht true) ∙ f1-by (hops_of c.gcdkm c.amind h.hp) h fc fx1 refl
+        ap (λ (g : Result HopGeometry Refusal). f1_own_over_by g w h fc fx1) (geometry-so h.hp h.ht true) ∙ f1-by (hops_of c.gcdkm c.amind h.hp) h fc fx1 refl
 
     f1-line : (b : Bool) (find : Finder) (t : IonoState) (l : Slot) (fx1 : Float) (e : LayerMuf) → f1_line_over_by b w find t l fx1 e c.gcdkm c.amind ≡ f1_line_by b find t l fx1 e c.gcdkm c.amind
     f1-line true find t l fx1 e = refl
@@ -150,28 +148,28 @@ module _ (w : Waves) (alike : OursWhereSmall w) where
     f1-so find t l fx1 e = f1-line (l.fi1 ≤f f0) find t l fx1 e
 
     -- gone on from alike
-    then-so : (a : LineAnswer) (f g : LayerMuf → RegularAnswer) → ((m : LayerMuf) → f m ≡ g m) → found_then a f ≡ found_then a g
-    then-so (LineAnswer.Found m) f g h = h m
-    then-so (LineAnswer.Refused r) f g h = refl
+    then-so : (a : Result LayerMuf Refusal) (f g : LayerMuf → Result RegularLines Refusal) → ((m : LayerMuf) → f m ≡ g m) → found_then a f ≡ found_then a g
+    then-so (Ok m) f g h = h m
+    then-so (Err r) f g h = refl
 
     regular-so : (find : Finder) (t : IonoState) (l : Slot) (f2d : List Float) (clat clck : Float) → regular_over w find t l f2d clat clck c ≡ regular_with find t l f2d clat clck c
     unfolding regular_over regular_with
     regular-so find t l f2d clat clck =
         let x = tangents_of l c.gcdkm in
-        let whole : LayerMuf → LayerMuf → LayerMuf → RegularAnswer = λ e f2 f1. RegularAnswer.Found (record { e = e; f1 = f1; f2 = f2 }) in
-        let last : LayerMuf → LayerMuf → RegularAnswer = λ e f2. found_then (f1_line_with find t l x.fx1 e c.gcdkm c.amind) (whole e f2) in
-        let lastOver : LayerMuf → LayerMuf → RegularAnswer = λ e f2. found_then (f1_line_over w find t l x.fx1 e c.gcdkm c.amind) (whole e f2) in
-        let next : LayerMuf → RegularAnswer = λ e. found_then (f2_line_with find t l x f2d clat clck c) (last e) in
-        let nextOver : LayerMuf → RegularAnswer = λ e. found_then (f2_line_over w find t l x f2d clat clck c) (lastOver e) in
-        ap (λ (a : LineAnswer). found_then a nextOver) (e-so find t x.fxe)
+        let whole : LayerMuf → LayerMuf → LayerMuf → Result RegularLines Refusal = λ e f2 f1. Ok (record { e = e; f1 = f1; f2 = f2 }) in
+        let last : LayerMuf → LayerMuf → Result RegularLines Refusal = λ e f2. found_then (f1_line_with find t l x.fx1 e c.gcdkm c.amind) (whole e f2) in
+        let lastOver : LayerMuf → LayerMuf → Result RegularLines Refusal = λ e f2. found_then (f1_line_over w find t l x.fx1 e c.gcdkm c.amind) (whole e f2) in
+        let next : LayerMuf → Result RegularLines Refusal = λ e. found_then (f2_line_with find t l x f2d clat clck c) (last e) in
+        let nextOver : LayerMuf → Result RegularLines Refusal = λ e. found_then (f2_line_over w find t l x f2d clat clck c) (lastOver e) in
+        ap (λ (a : Result LayerMuf Refusal). found_then a nextOver) (e-so find t x.fxe)
         ∙ then-so (e_line_with find t x.fxe c.gcdkm c.amind) nextOver next
-        (λ (e : LayerMuf). ap (λ (a : LineAnswer). found_then a (lastOver e)) (f2-so find t l x f2d clat clck)
+        (λ (e : LayerMuf). ap (λ (a : Result LayerMuf Refusal). found_then a (lastOver e)) (f2-so find t l x f2d clat clck)
         ∙ then-so (f2_line_with find t l x f2d clat clck c) (lastOver e) (last e)
-        (λ (f2 : LayerMuf). ap (λ (a : LineAnswer). found_then a (whole e f2)) (f1-so find t l x.fx1 e)))
+        (λ (f2 : LayerMuf). ap (λ (a : Result LayerMuf Refusal). found_then a (whole e f2)) (f1-so find t l x.fx1 e)))
 
     -- ---- Es
 
-    ray-so : (h hs x : Float) → hops_of c.gcdkm c.amind h ≡ Hops.Count x → ray_over w hs x c.gcd ≡ ray_of hs x c.gcd
+    ray-so : (h hs x : Float) → hops_of c.gcdkm c.amind h ≡ Ok x → ray_over w hs x c.gcd ≡ ray_of hs x c.gcd
     unfolding ray_over ray_of
     ray-so h hs x e =
         let psi = f0_5 *f c.gcd /f x in
@@ -179,36 +177,36 @@ module _ (w : Waves) (alike : OursWhereSmall w) where
         let whole : Float → Float → EsRay = λ cpsi spsi. let tdel = (cpsi -f RZ /f (RZ +f hs)) /f spsi in let cdel = f1 /f sqrt_of (f1 +f tdel *f tdel) in let sphe = RZ *f cdel /f (RZ +f hs) in record { tdel = tdel; secp = f1 /f sqrt_of (f1 -f sphe *f sphe) } in
         ap (λ (y : Float). whole y (w.sine psi)) (alike psi is).1 ∙ ap (whole (cos_of psi)) (alike psi is).0
 
-    hop-by : (o : Hops) (a : EsSearch) (k : ℕ) (row : EsRow) → hops_of c.gcdkm c.amind row.hs ≡ o → hop_over_by o w a k row c ≡ hop_by o a k row c
-    hop-by (Hops.Count x) a k row e = ap (λ (ray : EsRay). EsStep.Next (taken_of a k row ray x)) (ray-so row.hs row.hs x e)
-    hop-by (Hops.Refused r) a k row e = refl
+    hop-by : (o : Result Float Refusal) (a : EsSearch) (k : ℕ) (row : EsRow) → hops_of c.gcdkm c.amind row.hs ≡ o → hop_over_by o w a k row c ≡ hop_by o a k row c
+    hop-by (Ok x) a k row e = ap (λ (ray : EsRay). Ok (taken_of a k row ray x)) (ray-so row.hs row.hs x e)
+    hop-by (Err r) a k row e = refl
 
     row-by : (b : Bool) (a : EsSearch) (k : ℕ) (row : EsRow) → row_over_by b w a k row c ≡ row_by b a k row c
     row-by true a k row = refl
-    row-by false a k row = ap (λ (o : Hops). hop_over_by o w a k row c) (hops-so row.hs) ∙ hop-by (hops_of c.gcdkm c.amind row.hs) a k row refl
+    row-by false a k row = ap (λ (o : Result Float Refusal). hop_over_by o w a k row c) (hops-so row.hs) ∙ hop-by (hops_of c.gcdkm c.amind row.hs) a k row refl
 
     row-so : (a : EsSearch) (k : ℕ) (row : EsRow) → es_row_over w a k row c ≡ es_row_of a k row c
     unfolding es_row_over es_row_of
     row-so a k row = row-by (row.fs1 ≤f f0) a k row
 
-    next-so : (step : EsStep) (f g : EsSearch → EsStep) → ((b : EsSearch) → f b ≡ g b) → next_by step f ≡ next_by step g
-    next-so (EsStep.Next b) f g h = h b
-    next-so (EsStep.Refused r) f g h = refl
+    next-so : (step : Result EsSearch Refusal) (f g : EsSearch → Result EsSearch Refusal) → ((b : EsSearch) → f b ≡ g b) → next_by step f ≡ next_by step g
+    next-so (Ok b) f g h = h b
+    next-so (Err r) f g h = refl
 
     es-so : (row : ℕ → EsRow) (n k : ℕ) (a : EsSearch) → es_from_over w row c n k a ≡ es_from row c n k a
     unfolding es_from_over es_from
     es-so row zero k a = refl
     es-so row (suc n) k a =
-        ap (λ (step : EsStep). next_by step (λ b. es_from_over w row c n (k + 1) b)) (row-so a k (row k)) ∙ next-so (es_row_of a k (row k) c) _ _ (λ b. es-so row n (k + 1) b)
+        ap (λ (step : Result EsSearch Refusal). next_by step (λ b. es_from_over w row c n (k + 1) b)) (row-so a k (row k)) ∙ next-so (es_row_of a k (row k) c) _ _ (λ b. es-so row n (k + 1) b)
 
     -- ---- the whole
 
-    slot-so : (find : Finder) (s : IonoState) (ks : ℕ) (step : EsStep) (f2d : List Float) (clat clck : Float) → muf_at_slot_over w find s ks step f2d clat clck c ≡ muf_at_slot_with find s ks step f2d clat clck c
+    slot-so : (find : Finder) (s : IonoState) (ks : ℕ) (step : Result EsSearch Refusal) (f2d : List Float) (clat clck : Float) → muf_at_slot_over w find s ks step f2d clat clck c ≡ muf_at_slot_with find s ks step f2d clat clck c
     unfolding muf_at_slot_over muf_at_slot_with
     slot-so find s ks step f2d clat clck =
         let t = lecden_of s ks in
         let l = slot_at t ks in
-        ap (λ (x : RegularAnswer). regular_by x s t l ks step) (regular-so find t l f2d clat clck)
+        ap (λ (x : Result RegularLines Refusal). regular_by x t l ks step) (regular-so find t l f2d clat clck)
 
   -- where it is refused 9 nothing is looked at
   and_both : (a b : Bool) → (a && b) ≡ true → (a ≡ true) × (b ≡ true)
@@ -224,7 +222,7 @@ module _ (w : Waves) (alike : OursWhereSmall w) where
   search-by true true find s n row f2d clat clck c small =
       let ks = controlling_of s in
       let k = small refl in
-      ap (λ (step : EsStep). muf_at_slot_over w find s ks step f2d (at clat ks) (at clck ks) c) (es-so c k row n 0 start_of) ∙ slot-so c k find s ks (es_from row c n 0 start_of) f2d (at clat ks) (at clck ks)
+      ap (λ (step : Result EsSearch Refusal). muf_at_slot_over w find s ks step f2d (at clat ks) (at clck ks) c) (es-so c k row n 0 start_of) ∙ slot-so c k find s ks (es_from row c n 0 start_of) f2d (at clat ks) (at clck ks)
   search-by true false find s n row f2d clat clck c small = refl
   search-by false r find s n row f2d clat clck c small = refl
 

@@ -1,5 +1,6 @@
 -- The circuit MUF over any sine and any cosine: each definition that stands between `curmuf` and a sine or a cosine, with the two functions as a parameter. It keeps the name of the one that it follows, line by line, with the ending Over. Nothing that it takes from other definitions has a sine or a cosine in it, and ours are not imported. That nothing else is said here is a theorem: with ours, it is the MUF of the contracts.
-use Rattle.std.specs.Prelude.{Bool, true, false, List, ℕ, zero, suc, ◌+◌, pos, length, Float}
+use Rattle.muf.specs.declared.RegularLines.{RegularLines}
+use Rattle.std.specs.Prelude.{Bool, true, false, List, ℕ, zero, suc, ◌+◌, pos, length, Float, Result, Ok, Err}
 use Rattle.std.specs.Int.Signed.{lt_z}
 use Rattle.scalar.specs.F32.{◌+f◌, ◌-f◌, ◌*f◌, ◌/f◌, ◌≤f◌, at}
 use Rattle.scalar.specs.Literals.{f0, f0_5, f1}
@@ -15,9 +16,7 @@ use Rattle.slot_curves.specs.declared.Slot.{Slot}
 use Rattle.heights.specs.Gethp.{Finder}
 use Rattle.hops.specs.Geometry.{hops_by, psi_of, del_of, secp_of}
 use Rattle.hops.specs.Rounds.{sph_of, settled_of, stop_by}
-use Rattle.hops.specs.declared.Hops.{Hops}
 use Rattle.hops.specs.declared.HopGeometry.{HopGeometry}
-use Rattle.hops.specs.declared.Geometry.{Geometry}
 use Rattle.hops.specs.declared.Ray.{Ray}
 use Rattle.hops.specs.declared.Round.{Round}
 use Rattle.controlling_slot.specs.Controlling.{controlling_of}
@@ -27,14 +26,11 @@ use Rattle.layer_mufs.specs.Lines.{f2_heights_with, f2_bent_of}
 use Rattle.layer_mufs.specs.declared.PathNumbers.{PathNumbers}
 use Rattle.tangents.specs.declared.Tangents.{Tangents}
 use Rattle.e_lines.specs.declared.HeightPair.{HeightPair}
-use Rattle.e_lines.specs.declared.LineAnswer.{LineAnswer}
 use Rattle.sporadic.specs.Sporadic.{taken_of, start_of, next_by}
 use Rattle.sporadic.specs.declared.EsRay.{EsRay}
 use Rattle.sporadic.specs.declared.EsRow.{EsRow}
 use Rattle.sporadic.specs.declared.EsSearch.{EsSearch}
-use Rattle.sporadic.specs.declared.EsStep.{EsStep}
-use Rattle.muf.specs.Curmuf.{in_domain, lists_reach, found_then, refused_rows_kept, regular_by}
-use Rattle.muf.specs.declared.RegularAnswer.{RegularAnswer}
+use Rattle.muf.specs.Curmuf.{in_domain, lists_reach, found_then, regular_by}
 use Rattle.muf.specs.declared.AnswerAndRow.{AnswerAndRow}
 
 pub record Waves : Type 0 where
@@ -50,7 +46,7 @@ hop_ratio_over w gcdkm amind h =
     let phe = asin_of (RZ *f w.cosine del /f (RZ +f h)) in
     f0_5 *f gcdkm /f ((PIO2 -f del -f phe) *f RZ)
 
-unfoldable pub hops_over : Waves → Float → Float → Float → Hops
+unfoldable pub hops_over : Waves → Float → Float → Float → Result Float Refusal
 hops_over w gcdkm amind h = let nhops = trunc_of (hop_ratio_over w gcdkm amind h) in hops_by (lt_z nhops (pos 0)) (lt_z (pos 999) nhops) nhops
 
 unfoldable pub sphe_over : Waves → Float → Float → Float
@@ -66,11 +62,11 @@ hop_geometry_over w gcdkm xhops hp ht split_first =
     let secp = secp_of sphe in
     record { secp = secp; sphe = sphe; del = del; xhops = xhops; psi = psi; cpsi = cpsi; spsi = spsi }
 
-abbrev pub geometry_over_by : Hops → Waves → Float → Float → Float → Bool → Geometry
-geometry_over_by (Hops.Count xhops) w gcdkm hp ht split_first = Geometry.Found (hop_geometry_over w gcdkm xhops hp ht split_first)
-geometry_over_by (Hops.Refused r) w gcdkm hp ht split_first = Geometry.Refused r
+abbrev pub geometry_over_by : Result Float Refusal → Waves → Float → Float → Float → Bool → Result HopGeometry Refusal
+geometry_over_by (Ok xhops) w gcdkm hp ht split_first = Ok (hop_geometry_over w gcdkm xhops hp ht split_first)
+geometry_over_by (Err r) w gcdkm hp ht split_first = Err r
 
-unfoldable pub geometry_over : Waves → Float → Float → Float → Float → Bool → Geometry
+unfoldable pub geometry_over : Waves → Float → Float → Float → Float → Bool → Result HopGeometry Refusal
 geometry_over w gcdkm amind hp ht split_first = geometry_over_by (hops_over w gcdkm amind hp) w gcdkm hp ht split_first
 
 -- ---- rounds
@@ -94,14 +90,14 @@ bent_over w fc fx h g =
 
 -- ---- the lines of E, F2 and F1
 
-unfoldable pub e_line_over : Waves → Finder → IonoState → Float → Float → Float → LineAnswer
+unfoldable pub e_line_over : Waves → Finder → IonoState → Float → Float → Float → Result LayerMuf Refusal
 e_line_over w find t fxe gcdkm amind = let h = e_heights_with find t fxe in e_line_by (geometry_over w gcdkm amind h.hp h.ht true) h fxe
 
-abbrev pub f2_line_over_by : Geometry → Waves → Slot → HeightPair → Tangents → List Float → Float → Float → PathNumbers → LineAnswer
-f2_line_over_by (Geometry.Found g) w l h x f2d clat clck c = f2_bent_of f2d (bent_over w l.fi2 x.fx2 h g) h.ht x.fx2 g.xhops c.ssn clat clck
-f2_line_over_by (Geometry.Refused r) w l h x f2d clat clck c = LineAnswer.Refused r
+abbrev pub f2_line_over_by : Result HopGeometry Refusal → Waves → Slot → HeightPair → Tangents → List Float → Float → Float → PathNumbers → Result LayerMuf Refusal
+f2_line_over_by (Ok g) w l h x f2d clat clck c = f2_bent_of f2d (bent_over w l.fi2 x.fx2 h g) h.ht x.fx2 g.xhops c.ssn clat clck
+f2_line_over_by (Err r) w l h x f2d clat clck c = Err r
 
-unfoldable pub f2_line_over : Waves → Finder → IonoState → Slot → Tangents → List Float → Float → Float → PathNumbers → LineAnswer
+unfoldable pub f2_line_over : Waves → Finder → IonoState → Slot → Tangents → List Float → Float → Float → PathNumbers → Result LayerMuf Refusal
 f2_line_over w find t l x f2d clat clck c =
     let h = f2_heights_with find t l x in
     f2_line_over_by (geometry_over w c.gcdkm c.amind h.hp h.ht false) w l h x f2d clat clck c
@@ -112,27 +108,27 @@ f1_found_over w g h fc fx1 =
     let sig = tenth_of b.fob in
     layer_line_of sig sig b.del b.hp h.ht fx1 g.xhops b.fob
 
-abbrev pub f1_own_over_by : Geometry → Waves → HeightPair → Float → Float → LineAnswer
-f1_own_over_by (Geometry.Found g) w h fc fx1 = LineAnswer.Found (f1_found_over w g h fc fx1)
-f1_own_over_by (Geometry.Refused r) w h fc fx1 = LineAnswer.Refused r
+abbrev pub f1_own_over_by : Result HopGeometry Refusal → Waves → HeightPair → Float → Float → Result LayerMuf Refusal
+f1_own_over_by (Ok g) w h fc fx1 = Ok (f1_found_over w g h fc fx1)
+f1_own_over_by (Err r) w h fc fx1 = Err r
 
-unfoldable pub f1_own_over : Waves → Finder → IonoState → Float → Float → Float → Float → LineAnswer
+unfoldable pub f1_own_over : Waves → Finder → IonoState → Float → Float → Float → Float → Result LayerMuf Refusal
 f1_own_over w find t fc fx1 gcdkm amind = let h = read_with find t fx1 in f1_own_over_by (geometry_over w gcdkm amind h.hp h.ht true) w h fc fx1
 
-abbrev pub f1_line_over_by : Bool → Waves → Finder → IonoState → Slot → Float → LayerMuf → Float → Float → LineAnswer
-f1_line_over_by true w find t l fx1 e gcdkm amind = LineAnswer.Found e
+abbrev pub f1_line_over_by : Bool → Waves → Finder → IonoState → Slot → Float → LayerMuf → Float → Float → Result LayerMuf Refusal
+f1_line_over_by true w find t l fx1 e gcdkm amind = Ok e
 f1_line_over_by false w find t l fx1 e gcdkm amind = f1_own_over w find t l.fi1 fx1 gcdkm amind
 
-unfoldable pub f1_line_over : Waves → Finder → IonoState → Slot → Float → LayerMuf → Float → Float → LineAnswer
+unfoldable pub f1_line_over : Waves → Finder → IonoState → Slot → Float → LayerMuf → Float → Float → Result LayerMuf Refusal
 f1_line_over w find t l fx1 e gcdkm amind = f1_line_over_by (l.fi1 ≤f f0) w find t l fx1 e gcdkm amind
 
-unfoldable pub regular_over : Waves → Finder → IonoState → Slot → List Float → Float → Float → PathNumbers → RegularAnswer
+unfoldable pub regular_over : Waves → Finder → IonoState → Slot → List Float → Float → Float → PathNumbers → Result RegularLines Refusal
 regular_over w find t l f2d clat clck c =
     let x = tangents_of l c.gcdkm in
     found_then (e_line_over w find t x.fxe c.gcdkm c.amind)
     (λ e. found_then (f2_line_over w find t l x f2d clat clck c)
     (λ f2. found_then (f1_line_over w find t l x.fx1 e c.gcdkm c.amind)
-    (λ f1. RegularAnswer.Found (record { e = e; f1 = f1; f2 = f2 }))))
+    (λ f1. Ok (record { e = e; f1 = f1; f2 = f2 }))))
 
 -- ---- Es
 
@@ -145,34 +141,34 @@ ray_over w hs hop gcd =
     let secp = f1 /f sqrt_of (f1 -f sphe *f sphe) in
     record { tdel = tdel; secp = secp }
 
-abbrev pub hop_over_by : Hops → Waves → EsSearch → ℕ → EsRow → PathNumbers → EsStep
-hop_over_by (Hops.Count hop) w a k row c = EsStep.Next (taken_of a k row (ray_over w row.hs hop c.gcd) hop)
-hop_over_by (Hops.Refused r) w a k row c = EsStep.Refused r
+abbrev pub hop_over_by : Result Float Refusal → Waves → EsSearch → ℕ → EsRow → PathNumbers → Result EsSearch Refusal
+hop_over_by (Ok hop) w a k row c = Ok (taken_of a k row (ray_over w row.hs hop c.gcd) hop)
+hop_over_by (Err r) w a k row c = Err r
 
-abbrev pub row_over_by : Bool → Waves → EsSearch → ℕ → EsRow → PathNumbers → EsStep
-row_over_by true w a k row c = EsStep.Next a
+abbrev pub row_over_by : Bool → Waves → EsSearch → ℕ → EsRow → PathNumbers → Result EsSearch Refusal
+row_over_by true w a k row c = Ok a
 row_over_by false w a k row c = hop_over_by (hops_over w c.gcdkm c.amind row.hs) w a k row c
 
-unfoldable pub es_row_over : Waves → EsSearch → ℕ → EsRow → PathNumbers → EsStep
+unfoldable pub es_row_over : Waves → EsSearch → ℕ → EsRow → PathNumbers → Result EsSearch Refusal
 es_row_over w a k row c = row_over_by (row.fs1 ≤f f0) w a k row c
 
-unfoldable pub es_from_over : Waves → (ℕ → EsRow) → PathNumbers → ℕ → ℕ → EsSearch → EsStep
-es_from_over w row c zero k a = EsStep.Next a
+unfoldable pub es_from_over : Waves → (ℕ → EsRow) → PathNumbers → ℕ → ℕ → EsSearch → Result EsSearch Refusal
+es_from_over w row c zero k a = Ok a
 es_from_over w row c (suc n) k a = next_by (es_row_over w a k (row k) c) (λ b. es_from_over w row c n (k + 1) b)
 
 -- ---- the whole
 
-unfoldable pub muf_at_slot_over : Waves → Finder → IonoState → ℕ → EsStep → List Float → Float → Float → PathNumbers → AnswerAndRow
+unfoldable pub muf_at_slot_over : Waves → Finder → IonoState → ℕ → Result EsSearch Refusal → List Float → Float → Float → PathNumbers → Result AnswerAndRow Refusal
 muf_at_slot_over w find s ks step f2d clat clck c =
     let t = lecden_of s ks in
     let l = slot_at t ks in
-    regular_by (regular_over w find t l f2d clat clck c) s t l ks step
+    regular_by (regular_over w find t l f2d clat clck c) t l ks step
 
-abbrev pub muf_from_search_over_by : Bool → Bool → Waves → Finder → IonoState → EsStep → List Float → List Float → List Float → PathNumbers → AnswerAndRow
+abbrev pub muf_from_search_over_by : Bool → Bool → Waves → Finder → IonoState → Result EsSearch Refusal → List Float → List Float → List Float → PathNumbers → Result AnswerAndRow Refusal
 muf_from_search_over_by true true w find s step f2d clat clck c = let ks = controlling_of s in muf_at_slot_over w find s ks step f2d (at clat ks) (at clck ks) c
-muf_from_search_over_by true false w find s step f2d clat clck c = refused_rows_kept s Refusal.MufLists
-muf_from_search_over_by false reach w find s step f2d clat clck c = refused_rows_kept s Refusal.MufInput
+muf_from_search_over_by true false w find s step f2d clat clck c = Err Refusal.MufLists
+muf_from_search_over_by false reach w find s step f2d clat clck c = Err Refusal.MufInput
 
 -- n rows of Es, each as `row` gives it: flat rows and records alike
-unfoldable pub muf_of_rows_over : Waves → Finder → IonoState → ℕ → (ℕ → EsRow) → List Float → List Float → List Float → PathNumbers → AnswerAndRow
+unfoldable pub muf_of_rows_over : Waves → Finder → IonoState → ℕ → (ℕ → EsRow) → List Float → List Float → List Float → PathNumbers → Result AnswerAndRow Refusal
 muf_of_rows_over w find s n row f2d clat clck c = muf_from_search_over_by (in_domain c) (lists_reach (controlling_of s) (length f2d) (length clat) (length clck)) w find s (es_from_over w row c n 0 start_of) f2d clat clck c

@@ -1,6 +1,8 @@
 -- What the rows of slot k, their loss factors and the layers' MUF lines read of a state: the critical frequencies, the slot's own numbers, the profile and `iedp`. Two states alike in these give the same, each by a way of finding heights that finds the same two, and the same segment, on its own state.
 use mathlib.Core.Bool.{Bool, true, false}
 use mathlib.Core.List.{List}
+use Rattle.std.specs.Prelude.{Result, Ok, Err}
+use Rattle.refusal.specs.declared.Refusal.{Refusal}
 use mathlib.Core.Path.{◌≡◌, refl, ap, ◌∙◌}
 use Prim.Native.Nat.{ℕ, ◌+◌, ◌*◌}
 use native.Mathlib.Nat.{add-zero}
@@ -33,9 +35,8 @@ use Rattle.layer_mufs.specs.Lines.{f2_heights_by, f2_heights_with, f2_line_by, f
 use Rattle.layer_mufs.specs.declared.PathNumbers.{PathNumbers}
 use Rattle.tangents.specs.declared.Tangents.{Tangents}
 use Rattle.e_lines.specs.declared.HeightPair.{HeightPair}
-use Rattle.e_lines.specs.declared.LineAnswer.{LineAnswer}
 use Rattle.muf.specs.Curmuf.{found_then, regular_with}
-use Rattle.muf.specs.declared.RegularAnswer.{RegularAnswer}
+use Rattle.muf.specs.declared.RegularLines.{RegularLines}
 
 pub record Alike (u v : IonoState) (k : ℕ) : Type 0 where
   pub fi-same : u.fi ≡ v.fi
@@ -197,19 +198,19 @@ module _ (find other : Finder) (u v : IonoState) (k : ℕ) (a : Alike u v k) (fo
   f1-line-same l fx1 e gcdkm amind = f1-line-by (l.fi1 ≤f f0) l fx1 e gcdkm amind
 
   -- gone on from alike
-  then_same : (y : LineAnswer) (f g : LayerMuf → RegularAnswer) → ((m : LayerMuf) → f m ≡ g m) → found_then y f ≡ found_then y g
-  then_same (LineAnswer.Found m) f g h = h m
-  then_same (LineAnswer.Refused r) f g h = refl
+  then_same : (y : Result LayerMuf Refusal) (f g : LayerMuf → Result RegularLines Refusal) → ((m : LayerMuf) → f m ≡ g m) → found_then y f ≡ found_then y g
+  then_same (Ok m) f g h = h m
+  then_same (Err r) f g h = refl
 
   pub three-same : (l : Slot) (f2d : List Float) (clat clck : Float) (c : PathNumbers) → regular_with find u l f2d clat clck c ≡ regular_with other v l f2d clat clck c
   unfolding regular_with
   three-same l f2d clat clck c =
       let x = tangents_of l c.gcdkm in
-      let whole : LayerMuf → LayerMuf → LayerMuf → RegularAnswer = λ e f2 f1. RegularAnswer.Found (record { e = e; f1 = f1; f2 = f2 }) in
-      let last : Finder → IonoState → LayerMuf → LayerMuf → RegularAnswer = λ w t e f2. found_then (f1_line_with w t l x.fx1 e c.gcdkm c.amind) (whole e f2) in
-      let next : Finder → IonoState → LayerMuf → RegularAnswer = λ w t e. found_then (f2_line_with w t l x f2d clat clck c) (last w t e) in
-      ap (λ (y : LineAnswer). found_then y (next find u)) (e-line-same x.fxe c.gcdkm c.amind)
+      let whole : LayerMuf → LayerMuf → LayerMuf → Result RegularLines Refusal = λ e f2 f1. Ok (record { e = e; f1 = f1; f2 = f2 }) in
+      let last : Finder → IonoState → LayerMuf → LayerMuf → Result RegularLines Refusal = λ w t e f2. found_then (f1_line_with w t l x.fx1 e c.gcdkm c.amind) (whole e f2) in
+      let next : Finder → IonoState → LayerMuf → Result RegularLines Refusal = λ w t e. found_then (f2_line_with w t l x f2d clat clck c) (last w t e) in
+      ap (λ (y : Result LayerMuf Refusal). found_then y (next find u)) (e-line-same x.fxe c.gcdkm c.amind)
       ∙ then_same (e_line_with other v x.fxe c.gcdkm c.amind) (next find u) (next other v)
-      (λ (e : LayerMuf). ap (λ (y : LineAnswer). found_then y (last find u e)) (f2-line-same l x f2d clat clck c)
+      (λ (e : LayerMuf). ap (λ (y : Result LayerMuf Refusal). found_then y (last find u e)) (f2-line-same l x f2d clat clck c)
       ∙ then_same (f2_line_with other v l x f2d clat clck c) (last find u e) (last other v e)
-      (λ (f2 : LayerMuf). ap (λ (y : LineAnswer). found_then y (whole e f2)) (f1-line-same l x.fx1 e c.gcdkm c.amind)))
+      (λ (f2 : LayerMuf). ap (λ (y : Result LayerMuf Refusal). found_then y (whole e f2)) (f1-line-same l x.fx1 e c.gcdkm c.amind)))

@@ -1,8 +1,8 @@
 -- One call on a later state t, where what it picks stands as it first did: its answer is the one on the first state s, and it leaves t, or t with its slot prepared. Of `gethp` it takes the two heights only: so on t they may be found in any way that agrees with `gethp_of`, the way on s.
 use mathlib.Core.Bool.{Bool, true, false, ◌&&◌}
 use mathlib.Core.List.{List}
-use mathlib.Core.Option.{Option, none, some}
 use mathlib.Core.Path.{◌≡◌, refl, sym, ap, ◌∙◌, subst}
+use Rattle.std.specs.Prelude.{Option, Some, None, Result, Ok, Err, is_ok, is_some}
 use Prim.Native.Nat.{ℕ, ◌<◌, ◌≤◌}
 use native.Mathlib.Omega.{arith}
 use borrow.Author.Tests.{leb-true}
@@ -12,7 +12,6 @@ use lib.ListN.{length}
 use lib.Ieee.{Float}
 use Rattle.scalar.specs.F32.{at}
 use Rattle.refusal.specs.declared.Refusal.{Refusal}
-use Rattle.refusal.specs.declared.Outcome.{Outcome}
 use Rattle.layers.specs.declared.IonoState.{IonoState}
 use Rattle.layers.specs.declared.LayerMuf.{LayerMuf}
 use Rattle.profile.specs.Lecden.{slot_at, supplied_of, lecden_of}
@@ -28,18 +27,19 @@ use Rattle.sounding.specs.Genion.{genion_with}
 use Rattle.controlling_slot.specs.Controlling.{compare_e, controlling_of}
 use Rattle.layer_mufs.specs.declared.PathNumbers.{PathNumbers}
 use Rattle.controlling_slot.proofs.Small.{controlling-small}
-use Rattle.muf.specs.Hour.{refused_muf}
 use Rattle.sporadic.specs.Sporadic.{start_of, row_at, es_from}
-use Rattle.muf.specs.Curmuf.{in_domain, lists_reach, regular_with, refused_rows_kept, es_by, regular_by, muf_at_slot_with, muf_from_search_by, muf_from_search_with, muf_of_rows_with, taken_rows_by, row_count_of, flat_with}
+use Rattle.muf.specs.Curmuf.{in_domain, lists_reach, regular_with, found_muf_of, es_by, regular_by, muf_at_slot_with, muf_from_search_by, muf_from_search_with, muf_of_rows_with, taken_rows_by, row_count_of, flat_with, answer_by, rewrite_by}
 use Rattle.sporadic.specs.declared.EsRow.{EsRow}
-use Rattle.sporadic.specs.declared.EsStep.{EsStep}
+use Rattle.sporadic.specs.declared.EsSearch.{EsSearch}
 use Rattle.muf.specs.declared.RegularLines.{RegularLines}
-use Rattle.muf.specs.declared.RegularAnswer.{RegularAnswer}
+use Rattle.muf.specs.declared.MufAnswer.{MufAnswer}
 use Rattle.muf.specs.declared.MufHour.{MufHour}
 use Rattle.muf.specs.declared.AnswerAndRow.{AnswerAndRow}
+use Rattle.shapes.specs.declared.Mark.{Mark}
+use Rattle.slot_sheet.specs.declared.SlotSheet.{SlotSheet}
 use Rattle.slot_sheet.specs.Sheet.{sheet_by, sheet_cells_by, slot_sheet_with, sheet_cells_with}
 use Rattle.muf_records.specs.Records.{es_row_at, records_answer_with}
-use Rattle.call_lists.specs.Calls.{EsRows, flat, records, muf_with, es_after, Call, a_muf, a_sheet, a_nominal, of_muf, answer_with, answer_of, after_with, after_of, is_answered, answered, prepares, pick_if, picked_slot}
+use Rattle.call_lists.specs.Calls.{EsRows, flat, records, muf_with, Call, a_muf, a_sheet, a_nominal, SlotRows, rows_of, part_of, answer_with, answer_of, state_left, after_with, after_of, answered, prepares, pick_if, picked_slot}
 use Rattle.call_lists.specs.Lists.{SameProfile}
 use Rattle.call_lists.proofs.Alike.{Alike, gethp-same, genion-same, alosfv-same, three-same}
 use Rattle.call_lists.proofs.Prepared.{Common, common-self, lecden-alike, lecden-others, lecden-common}
@@ -47,9 +47,12 @@ use Rattle.call_lists.proofs.Prepared.{Common, common-self, lecden-alike, lecden
 pub not-both : false ≡ true → ⊥
 not-both e = subst (λ (b : Bool). T b) (sym e) tt
 
+pub none-some : (k : ℕ) → None ≡ Some k → ⊥
+none-some k e = not-both (ap (λ (o : Option ℕ). is_some o) e)
+
 -- the slot that c picks, if it picks one, stands in t as in s
 abbrev pub FreshFor : IonoState → IonoState → Call → Type 0
-FreshFor s t c = (k : ℕ) → picked_slot s c ≡ some k → slot_at t k ≡ slot_at s k
+FreshFor s t c = (k : ℕ) → picked_slot s c ≡ Some k → slot_at t k ≡ slot_at s k
 
 -- t, or t with slot k prepared
 abbrev pub prepared_if : Bool → IonoState → ℕ → IonoState
@@ -62,7 +65,7 @@ AgreesAt find t k = Agree find gethp_of (lecden_of t k)
 
 -- for the slot that c picks, if it picks one
 abbrev pub AgreesFor : Finder → IonoState → IonoState → Call → Type 0
-AgreesFor find s t c = (k : ℕ) → picked_slot s c ≡ some k → AgreesAt find t k
+AgreesFor find s t c = (k : ℕ) → picked_slot s c ≡ Some k → AgreesAt find t k
 
 itself : (s t : IonoState) (c : Call) → AgreesFor gethp_of s t c
 itself s t c k e f = (refl, refl, refl)
@@ -74,43 +77,32 @@ found_alike find s t k agree a f =
 
 -- ---- the circuit MUF
 
--- all of it but the state
-record Seen : Type 0 where
-  outcome : Outcome
-  hour : MufHour
-  rewrites : Bool
-  ksx : ℕ
-  lower : Float
+abbrev hour_in : Result AnswerAndRow Refusal → Result MufHour Refusal
+hour_in d = part_of (λ a. a.hour) (answer_by d)
 
-abbrev seen_of : AnswerAndRow → Seen
-seen_of d = record { outcome = d.answer.outcome; hour = d.answer.hour; rewrites = d.rewrites; ksx = d.ksx; lower = d.lower }
+-- d and e have the same hour or refusal and the same row to rewrite, and d leaves t, or t with slot k prepared where e is answered
+abbrev Follows : Result AnswerAndRow Refusal → Result AnswerAndRow Refusal → IonoState → ℕ → Type 0
+Follows d e t k = (hour_in d ≡ hour_in e) × (rewrite_by d ≡ rewrite_by e) × (state_left (λ (a : MufAnswer). a.state) t (answer_by d) ≡ prepared_if (is_ok (hour_in e)) t k)
 
--- the same is seen of d and e, and d leaves t, or t with slot k prepared where e is answered
-abbrev Follows : AnswerAndRow → AnswerAndRow → IonoState → ℕ → Type 0
-Follows d e t k = (seen_of d ≡ seen_of e) × (d.answer.state ≡ prepared_if (is_answered e.answer.outcome) t k)
+es-follows : (x : Result EsSearch Refusal) (s t : IonoState) (fe : Float) (m : RegularLines) (k : ℕ) → Follows (es_by x (lecden_of t k) fe m k) (es_by x (lecden_of s k) fe m k) t k
+unfolding found_muf_of
+es-follows (Ok a) s t fe m k = (refl, refl, refl)
+es-follows (Err r) s t fe m k = (refl, refl, refl)
 
-refused-follows : (s t : IonoState) (k : ℕ) (r : Refusal) → Follows (refused_rows_kept t r) (refused_rows_kept s r) t k
-unfolding refused_rows_kept refused_muf
-refused-follows s t k r = (refl, refl)
+three-follows : (x : Result RegularLines Refusal) (s t : IonoState) (l : Slot) (k : ℕ) (step : Result EsSearch Refusal) → Follows (regular_by x (lecden_of t k) l k step) (regular_by x (lecden_of s k) l k step) t k
+three-follows (Ok m) s t l k step = es-follows step s t l.fi0 m k
+three-follows (Err r) s t l k step = (refl, refl, refl)
 
-es-follows : (x : EsStep) (s t : IonoState) (fe : Float) (m : RegularLines) (k : ℕ) → Follows (es_by x t (lecden_of t k) fe m k) (es_by x s (lecden_of s k) fe m k) t k
-es-follows (EsStep.Next a) s t fe m k = (refl, refl)
-es-follows (EsStep.Refused r) s t fe m k = refused-follows s t k r
-
-three-follows : (x : RegularAnswer) (s t : IonoState) (l : Slot) (k : ℕ) (step : EsStep) → Follows (regular_by x t (lecden_of t k) l k step) (regular_by x s (lecden_of s k) l k step) t k
-three-follows (RegularAnswer.Found m) s t l k step = es-follows step s t l.fi0 m k
-three-follows (RegularAnswer.Refused r) s t l k step = refused-follows s t k r
-
-slot-follows : (find : Finder) (s t : IonoState) (k : ℕ) (step : EsStep) (f2d : List Float) (clat clck : Float) (c : PathNumbers) → AgreesAt find t k → Alike (lecden_of t k) (lecden_of s k) k → Follows (muf_at_slot_with find t k step f2d clat clck c) (muf_at_slot_with gethp_of s k step f2d clat clck c) t k
+slot-follows : (find : Finder) (s t : IonoState) (k : ℕ) (step : Result EsSearch Refusal) (f2d : List Float) (clat clck : Float) (c : PathNumbers) → AgreesAt find t k → Alike (lecden_of t k) (lecden_of s k) k → Follows (muf_at_slot_with find t k step f2d clat clck c) (muf_at_slot_with gethp_of s k step f2d clat clck c) t k
 unfolding muf_at_slot_with
 slot-follows find s t k step f2d clat clck c agree a =
     let l = slot_at (lecden_of s k) k in
     let three = regular_with gethp_of (lecden_of s k) l f2d clat clck c in
-    let whole : RegularAnswer → Slot → AnswerAndRow = λ x m. regular_by x t (lecden_of t k) m k step in
+    let whole : Result RegularLines Refusal → Slot → Result AnswerAndRow Refusal = λ x m. regular_by x (lecden_of t k) m k step in
     let e : whole (regular_with find (lecden_of t k) (slot_at (lecden_of t k) k) f2d clat clck c) (slot_at (lecden_of t k) k) ≡ whole three l =
     ap (λ (m : Slot). whole (regular_with find (lecden_of t k) m f2d clat clck c) m) a.slot_same
-    ∙ ap (λ (x : RegularAnswer). whole x l) (three-same find gethp_of (lecden_of t k) (lecden_of s k) k a (found_alike find s t k agree a) l f2d clat clck c) in
-    subst (λ (d : AnswerAndRow). Follows d (regular_by three s (lecden_of s k) l k step) t k) (sym e) (three-follows three s t l k step)
+    ∙ ap (λ (x : Result RegularLines Refusal). whole x l) (three-same find gethp_of (lecden_of t k) (lecden_of s k) k a (found_alike find s t k agree a) l f2d clat clck c) in
+    subst (λ (d : Result AnswerAndRow Refusal). Follows d (regular_by three (lecden_of s k) l k step) t k) (sym e) (three-follows three s t l k step)
 
 -- the controlling slot is chosen by the critical frequencies and kfx
 controlling-same : (s t : IonoState) → Common s t → controlling_of t ≡ controlling_of s
@@ -125,23 +117,23 @@ deciles-right : (n k lats clocks : ℕ) → (eqb n 576 && ltb k lats && ltb k cl
 deciles-right n k lats clocks e = first_of (eqb n 576) (ltb k lats) (first_of (eqb n 576 && ltb k lats) (ltb k clocks) e)
 
 -- by domain, deciles and reach: where lecden is reached at all, the MUF has picked the slot
-done-by : (d r : Bool) (find : Finder) (s t : IonoState) (step : EsStep) (f2d clat clck : List Float) (c : PathNumbers) → (d ≡ true → r ≡ true → AgreesAt find t (controlling_of s)) → Common s t → (d ≡ true → r ≡ true → slot_at t (controlling_of s) ≡ slot_at s (controlling_of s)) → Follows (muf_from_search_by d r find t step f2d clat clck c) (muf_from_search_by d r gethp_of s step f2d clat clck c) t (controlling_of s)
+done-by : (d r : Bool) (find : Finder) (s t : IonoState) (step : Result EsSearch Refusal) (f2d clat clck : List Float) (c : PathNumbers) → (d ≡ true → r ≡ true → AgreesAt find t (controlling_of s)) → Common s t → (d ≡ true → r ≡ true → slot_at t (controlling_of s) ≡ slot_at s (controlling_of s)) → Follows (muf_from_search_by d r find t step f2d clat clck c) (muf_from_search_by d r gethp_of s step f2d clat clck c) t (controlling_of s)
 done-by true true find s t step f2d clat clck c agree g fresh =
     let k = controlling_of s in
     subst (λ (j : ℕ). Follows (muf_at_slot_with find t j step f2d (at clat j) (at clck j) c) (muf_at_slot_with gethp_of s k step f2d (at clat k) (at clck k) c) t k) (sym (controlling-same s t g))
     (slot-follows find s t k step f2d (at clat k) (at clck k) c (agree refl refl) (lecden-alike s t k g (fresh refl refl)))
-done-by true false find s t step f2d clat clck c agree g fresh = refused-follows s t (controlling_of s) Refusal.MufLists
-done-by false r find s t step f2d clat clck c agree g fresh = refused-follows s t (controlling_of s) Refusal.MufInput
+done-by true false find s t step f2d clat clck c agree g fresh = (refl, refl, refl)
+done-by false r find s t step f2d clat clck c agree g fresh = (refl, refl, refl)
 
-picked : (d e : Bool) (k : ℕ) → d ≡ true → e ≡ true → pick_if (d && e) k ≡ some k
+picked : (d e : Bool) (k : ℕ) → d ≡ true → e ≡ true → pick_if (d && e) k ≡ Some k
 picked d e k hd he = rw (hd, he)
 
-done-follows : (find : Finder) (s t : IonoState) (n : ℕ) (row : ℕ → EsRow) (f2d clat clck : List Float) (c : PathNumbers) → ((k : ℕ) → pick_if (in_domain c && eqb (length f2d) 576) (controlling_of s) ≡ some k → AgreesAt find t k) → Common s t → ((k : ℕ) → pick_if (in_domain c && eqb (length f2d) 576) (controlling_of s) ≡ some k → slot_at t k ≡ slot_at s k) → Follows (muf_of_rows_with find t n row f2d clat clck c) (muf_of_rows_with gethp_of s n row f2d clat clck c) t (controlling_of s)
+done-follows : (find : Finder) (s t : IonoState) (n : ℕ) (row : ℕ → EsRow) (f2d clat clck : List Float) (c : PathNumbers) → ((k : ℕ) → pick_if (in_domain c && eqb (length f2d) 576) (controlling_of s) ≡ Some k → AgreesAt find t k) → Common s t → ((k : ℕ) → pick_if (in_domain c && eqb (length f2d) 576) (controlling_of s) ≡ Some k → slot_at t k ≡ slot_at s k) → Follows (muf_of_rows_with find t n row f2d clat clck c) (muf_of_rows_with gethp_of s n row f2d clat clck c) t (controlling_of s)
 unfolding muf_of_rows_with muf_from_search_with lists_reach
 done-follows find s t n row f2d clat clck c agree g fresh =
     let step = es_from row c n 0 start_of in
     let reach : ℕ → Bool = λ k. eqb (length f2d) 576 && ltb k (length clat) && ltb k (length clck) in
-    let has-picked : in_domain c ≡ true → reach (controlling_of s) ≡ true → pick_if (in_domain c && eqb (length f2d) 576) (controlling_of s) ≡ some (controlling_of s) =
+    let has-picked : in_domain c ≡ true → reach (controlling_of s) ≡ true → pick_if (in_domain c && eqb (length f2d) 576) (controlling_of s) ≡ Some (controlling_of s) =
     λ hd hr. picked (in_domain c) (eqb (length f2d) 576) (controlling_of s) hd (deciles-right (length f2d) (controlling_of s) (length clat) (length clck) hr) in
     subst (λ (k : ℕ). Follows (muf_from_search_by (in_domain c) (reach k) find t step f2d clat clck c) (muf_from_search_by (in_domain c) (reach (controlling_of s)) gethp_of s step f2d clat clck c) t (controlling_of s)) (sym (controlling-same s t g))
     (done-by (in_domain c) (reach (controlling_of s)) find s t step f2d clat clck c (λ hd hr. agree (controlling_of s) (has-picked hd hr)) g (λ hd hr. fresh (controlling_of s) (has-picked hd hr)))
@@ -157,20 +149,19 @@ muf-follows (records es) find s t f2d clat clck c agree g fresh =
     (done-follows find s t (count s.km) (es_row_at es) f2d clat clck c agree g fresh)
 
 -- where it is refused 9, or 10 for its deciles, it is not answered: so an answered MUF has picked its slot
-answered-by : (d r : Bool) (s : IonoState) (step : EsStep) (f2d clat clck : List Float) (c : PathNumbers) → is_answered (muf_from_search_by d r gethp_of s step f2d clat clck c).answer.outcome ≡ true → (d ≡ true) × (r ≡ true)
-unfolding refused_rows_kept refused_muf
+answered-by : (d r : Bool) (s : IonoState) (step : Result EsSearch Refusal) (f2d clat clck : List Float) (c : PathNumbers) → is_ok (hour_in (muf_from_search_by d r gethp_of s step f2d clat clck c)) ≡ true → (d ≡ true) × (r ≡ true)
 answered-by true true s step f2d clat clck c e = (refl, refl)
 answered-by true false s step f2d clat clck c e = absurd (not-both e)
 answered-by false r s step f2d clat clck c e = absurd (not-both e)
 
-done-picked : (s : IonoState) (n : ℕ) (row : ℕ → EsRow) (f2d clat clck : List Float) (c : PathNumbers) → is_answered (muf_of_rows_with gethp_of s n row f2d clat clck c).answer.outcome ≡ true → pick_if (in_domain c && eqb (length f2d) 576) (controlling_of s) ≡ some (controlling_of s)
+done-picked : (s : IonoState) (n : ℕ) (row : ℕ → EsRow) (f2d clat clck : List Float) (c : PathNumbers) → is_ok (hour_in (muf_of_rows_with gethp_of s n row f2d clat clck c)) ≡ true → pick_if (in_domain c && eqb (length f2d) 576) (controlling_of s) ≡ Some (controlling_of s)
 unfolding muf_of_rows_with muf_from_search_with lists_reach
 done-picked s n row f2d clat clck c e =
     let k = controlling_of s in
     let h = answered-by (in_domain c) (eqb (length f2d) 576 && ltb k (length clat) && ltb k (length clck)) s (es_from row c n 0 start_of) f2d clat clck c e in
     picked (in_domain c) (eqb (length f2d) 576) k h.0 (deciles-right (length f2d) k (length clat) (length clck) h.1)
 
-muf-picked : (es : EsRows) (s : IonoState) (f2d clat clck : List Float) (c : PathNumbers) → answered s (a_muf es f2d clat clck c) ≡ true → picked_slot s (a_muf es f2d clat clck c) ≡ some (controlling_of s)
+muf-picked : (es : EsRows) (s : IonoState) (f2d clat clck : List Float) (c : PathNumbers) → answered s (a_muf es f2d clat clck c) ≡ true → picked_slot s (a_muf es f2d clat clck c) ≡ Some (controlling_of s)
 unfolding answered answer_with picked_slot muf_with flat_with records_answer_with
 muf-picked (flat es) s f2d clat clck c e = done-picked s (row_count_of (length es) s.km) (row_at es) f2d clat clck c e
 muf-picked (records es) s f2d clat clck c e = done-picked s (taken_rows_by (ltb (length es) s.km) (length es) s.km) (es_row_at es) f2d clat clck c e
@@ -182,25 +173,29 @@ marks-same : (s t : IonoState) (k : ℕ) → Common s t → slot_at t k ≡ slot
 unfolding marks_of supplied_of slot_at
 marks-same s t k g e = rw (g.ielect-common, e)
 
+abbrev shown : Ionogram → List Mark → Result SlotRows Refusal
+shown ion marks = Ok (record { ion = ion; marks = marks })
+
 sheet-seen : (a b : Bool) (find : Finder) (s t : IonoState) (k nang : ℕ) (layers : List LayerMuf) (cells : List ℤ) → (a ≡ true → b ≡ true → AgreesAt find t k) → Common s t → (a ≡ true → b ≡ true → slot_at t k ≡ slot_at s k)
-    → ((sheet_by a b find t k layers).outcome ≡ (sheet_by a b gethp_of s k layers).outcome) × ((sheet_by a b find t k layers).ion ≡ (sheet_by a b gethp_of s k layers).ion) × ((sheet_by a b find t k layers).marks ≡ (sheet_by a b gethp_of s k layers).marks) × (sheet_cells_by a b find t k nang cells ≡ sheet_cells_by a b gethp_of s k nang cells)
+    → (part_of rows_of (sheet_by a b find t k layers) ≡ part_of rows_of (sheet_by a b gethp_of s k layers)) × (sheet_cells_by a b find t k nang cells ≡ sheet_cells_by a b gethp_of s k nang cells)
 sheet-seen true true find s t k nang layers cells agree c same =
     let u = lecden_of t k in
     let v = lecden_of s k in
     let e = same refl refl in
     let a = lecden-alike s t k c e in
     let g = genion-same find gethp_of u v k a (found_alike find s t k (agree refl refl) a) in
-    (refl, alosfv-same u v k a (genion_with find u k) layers ∙ ap (λ (ion : Ionogram). alosfv_of v k ion layers) g, marks-same s t k c e, ap (λ (ion : Ionogram). angles_into ion cells nang) g)
-sheet-seen true false find s t k nang layers cells agree c same = (refl, refl, refl, refl)
-sheet-seen false b find s t k nang layers cells agree c same = (refl, refl, refl, refl)
+    let rows = alosfv-same u v k a (genion_with find u k) layers ∙ ap (λ (ion : Ionogram). alosfv_of v k ion layers) g in
+    (ap (λ (ion : Ionogram). shown ion (marks_of t k)) rows ∙ ap (λ (marks : List Mark). shown (alosfv_of v k (genion_with gethp_of v k) layers) marks) (marks-same s t k c e), ap (λ (ion : Ionogram). angles_into ion cells nang) g)
+sheet-seen true false find s t k nang layers cells agree c same = (refl, refl)
+sheet-seen false b find s t k nang layers cells agree c same = (refl, refl)
 
-sheet-left : (a b : Bool) (find : Finder) (s t : IonoState) (k : ℕ) (layers : List LayerMuf) → (sheet_by a b find t k layers).state ≡ prepared_if (is_answered (sheet_by a b gethp_of s k layers).outcome) t k
+sheet-left : (a b : Bool) (find : Finder) (s t : IonoState) (k : ℕ) (layers : List LayerMuf) → state_left (λ (x : SlotSheet). x.state) t (sheet_by a b find t k layers) ≡ prepared_if (is_ok (part_of rows_of (sheet_by a b gethp_of s k layers))) t k
 sheet-left true true find s t k layers = refl
 sheet-left true false find s t k layers = refl
 sheet-left false b find s t k layers = refl
 
 -- it is answered where the slot number is at most 2 and there is room: its arguments alone decide
-sheet-answered : (a b : Bool) (s : IonoState) (k : ℕ) (layers : List LayerMuf) → is_answered (sheet_by a b gethp_of s k layers).outcome ≡ (a && b)
+sheet-answered : (a b : Bool) (s : IonoState) (k : ℕ) (layers : List LayerMuf) → is_ok (part_of rows_of (sheet_by a b gethp_of s k layers)) ≡ (a && b)
 sheet-answered true true s k layers = refl
 sheet-answered true false s k layers = refl
 sheet-answered false b s k layers = refl
@@ -219,18 +214,18 @@ slot_of s (a_nominal points f2m3 es km gcd gcdkm) = 0
 same_answer : (c : Call) (find : Finder) (s t : IonoState) → AgreesFor find s t c → Common s t → FreshFor s t c → answer_with find t c ≡ answer_of s c
 unfolding answer_with slot_sheet_with sheet_cells_with picked_slot answered
 same_answer (a_muf es f2d clat clck c) find s t agree g fresh =
-    ap (λ (x : Seen). of_muf x.outcome x.hour (es_after es x.rewrites x.ksx x.lower)) (muf-follows es find s t f2d clat clck c agree g fresh).0
+    let h = muf-follows es find s t f2d clat clck c agree g fresh in rw (h.0, h.1)
 same_answer (a_sheet k nang layers cells) find s t agree g fresh =
     let a = leb k 2 in
     let b = room_for nang cells in
-    let has-picked : a ≡ true → b ≡ true → picked_slot s (a_sheet k nang layers cells) ≡ some k = λ ha hb. ap (λ (x : Bool). pick_if x k) (sheet-answered a b s k layers ∙ both_true a b ha hb) in
+    let has-picked : a ≡ true → b ≡ true → picked_slot s (a_sheet k nang layers cells) ≡ Some k = λ ha hb. ap (λ (x : Bool). pick_if x k) (sheet-answered a b s k layers ∙ both_true a b ha hb) in
     let h = sheet-seen a b find s t k nang layers cells (λ ha hb. agree k (has-picked ha hb)) g (λ ha hb. fresh k (has-picked ha hb)) in
-    rw (h.0, h.1, h.2, h.3)
+    rw (h.0, h.1)
 same_answer (a_nominal points f2m3 es km gcd gcdkm) find s t agree g fresh = refl
 
 same_left : (c : Call) (find : Finder) (s t : IonoState) → AgreesFor find s t c → Common s t → FreshFor s t c → after_with find t c ≡ prepared_if (prepares s c) t (slot_of s c)
 unfolding after_with prepares answered answer_with slot_sheet_with picked_slot
-same_left (a_muf es f2d clat clck c) find s t agree g fresh = (muf-follows es find s t f2d clat clck c agree g fresh).1
+same_left (a_muf es f2d clat clck c) find s t agree g fresh = (muf-follows es find s t f2d clat clck c agree g fresh).2
 same_left (a_sheet k nang layers cells) find s t agree g fresh = sheet-left (leb k 2) (room_for nang cells) find s t k layers
 same_left (a_nominal points f2m3 es km gcd gcdkm) find s t agree g fresh = refl
 
@@ -245,7 +240,7 @@ answer-with c find t agree = same_answer c find t t agree (common-self t) (λ k 
 pub after-with : (c : Call) (find : Finder) (t : IonoState) → AgreesFor find t t c → after_with find t c ≡ after_of t c
 after-with c find t agree = same_left c find t t agree (common-self t) (λ k e. refl) ∙ sym (call-leaves c t)
 
-pub picks-own : (c : Call) (s : IonoState) → prepares s c ≡ true → picked_slot s c ≡ some (slot_of s c)
+pub picks-own : (c : Call) (s : IonoState) → prepares s c ≡ true → picked_slot s c ≡ Some (slot_of s c)
 unfolding picked_slot prepares
 picks-own (a_muf es f2d clat clck c) s e = muf-picked es s f2d clat clck c e
 picks-own (a_sheet k nang layers cells) s e = ap (λ (x : Bool). pick_if x k) e
@@ -265,19 +260,19 @@ slot_small (a_nominal points f2m3 es km gcd gcdkm) s e = absurd (not-both e)
 pub record Stepped (s t : IonoState) (c : Call) : Type 0 where
   pub answer-same : answer_of t c ≡ answer_of s c
   pub still-common : Common s (after_of t c)
-  pub own-slot : (k : ℕ) → picked_slot s c ≡ some k → slot_at (after_of t c) k ≡ slot_at (after_of s c) k
-  pub other-slot : (k : ℕ) → (picked_slot s c ≡ some k → ⊥) → slot_at (after_of t c) k ≡ slot_at t k
+  pub own-slot : (k : ℕ) → picked_slot s c ≡ Some k → slot_at (after_of t c) k ≡ slot_at (after_of s c) k
+  pub other-slot : (k : ℕ) → (picked_slot s c ≡ Some k → ⊥) → slot_at (after_of t c) k ≡ slot_at t k
   pub profile-answered : prepares s c ≡ true → SameProfile (after_of t c) (after_of s c)
   pub state-refused : prepares s c ≡ false → after_of t c ≡ t
 
 abbrev number_in : Option ℕ → ℕ
-number_in none = 0
-number_in (some n) = n
+number_in None = 0
+number_in (Some n) = n
 
-pub some_same : (j k : ℕ) → some j ≡ some k → j ≡ k
+pub some_same : (j k : ℕ) → Some j ≡ Some k → j ≡ k
 some_same j k e = ap number_in e
 
-stepped_by : (b : Bool) (s t : IonoState) (c : Call) (j : ℕ) → prepares s c ≡ b → after_of t c ≡ prepared_if b t j → after_of s c ≡ prepared_if b s j → (b ≡ true → picked_slot s c ≡ some j) → (b ≡ true → j < 3) → answer_of t c ≡ answer_of s c → Common s t → FreshFor s t c → Stepped s t c
+stepped_by : (b : Bool) (s t : IonoState) (c : Call) (j : ℕ) → prepares s c ≡ b → after_of t c ≡ prepared_if b t j → after_of s c ≡ prepared_if b s j → (b ≡ true → picked_slot s c ≡ Some j) → (b ≡ true → j < 3) → answer_of t c ≡ answer_of s c → Common s t → FreshFor s t c → Stepped s t c
 stepped_by true s t c j eb et es picks small same g fresh =
     let p = picks refl in
     let a = lecden-alike s t j g (fresh j p) in
@@ -286,7 +281,7 @@ stepped_by true s t c j eb et es picks small same g fresh =
       still-common = subst (λ (w : IonoState). Common s w) (sym et) (lecden-common s t j (small refl) g);
       own-slot =
           λ k e. ap (λ (w : IonoState). slot_at w k) et ∙ subst (λ (i : ℕ). slot_at (lecden_of t j) i ≡ slot_at (lecden_of s j) i) (some_same j k (sym p ∙ e)) a.slot_same ∙ sym (ap (λ (w : IonoState). slot_at w k) es);
-      other-slot = λ k h. ap (λ (w : IonoState). slot_at w k) et ∙ lecden-others t j k (λ e. h (p ∙ ap some (sym e)));
+      other-slot = λ k h. ap (λ (w : IonoState). slot_at w k) et ∙ lecden-others t j k (λ e. h (p ∙ ap Some (sym e)));
       profile-answered = λ e. subst (λ (w : IonoState). SameProfile w (after_of s c)) (sym et) (subst (λ (w : IonoState). SameProfile (lecden_of t j) w) (sym es) (a.htr-same, a.fnsq-same, a.mark-same, a.owner-same));
       state-refused = λ e. absurd (not-both (sym e ∙ eb));
     }

@@ -1,13 +1,15 @@
 -- By induction over the calls that are left: what each of them picks still stands as it first did, since no call before it picked the same slot.
 use mathlib.Core.Bool.{Bool, true, false}
 use mathlib.Core.List.{List, [], ◌∷◌, map}
-use mathlib.Core.Option.{Option, none, some, none-ne-some}
+use Rattle.std.specs.Prelude.{Option, Some, None, Ok, IsOkAnd}
 use mathlib.Core.Path.{◌≡◌, refl, sym, ap, ◌∙◌, subst}
 use Prim.Native.Nat.{ℕ}
 use borrow.Author.Tests.{eqb-true, eqb-false}
+use lib.Dec.{T}
 use Rattle.layers.specs.declared.IonoState.{IonoState}
 use Rattle.layers.specs.Owners.{owner_of}
-use Rattle.slots.specs.Ionset.{ionset_of}
+use Rattle.slots.specs.Ionset.{ionset_by, ionset_of}
+use Rattle.layer_rules.specs.Rules.{count_taken}
 use Rattle.profile.specs.Lecden.{slot_at, lecden_of}
 use Rattle.profile.proofs.Owns.{lecden-owner}
 use Rattle.heights.specs.Gethp.{Finder, gethp_of, gethp_scan_of}
@@ -18,38 +20,38 @@ use Rattle.call_lists.specs.Calls.{Call, Answer, answer_of, after_of, after_with
 use Rattle.call_lists.specs.Lists.{run_of, answers_of, run_with, answers_with, with_picked, states_read, Every, Together, Allowed, picks, or_else, own, later_or, only_if, last_preparing, alone, SameProfile, owner_picked, last_owner, ReadsWell, Numbers, ListOfCalls, ListsOfCalls, ReadAll, HeldState}
 use Rattle.call_lists.proofs.Prepared.{Common, common-self}
 use Rattle.call_lists.proofs.Numbers.{lecden-numbers, ionset-numbers}
-use Rattle.call_lists.proofs.Frames.{not-both, FreshFor, prepared_if, AgreesAt, slot_of, call-leaves, answer-with, after-with, picks-own, some_same, one-step}
+use Rattle.call_lists.proofs.Frames.{not-both, none-some, FreshFor, prepared_if, AgreesAt, slot_of, call-leaves, answer-with, after-with, picks-own, some_same, one-step}
 
 -- ---- who picks a slot
 
-picks-true : (o : Option ℕ) (k : ℕ) → picks o k ≡ true → o ≡ some k
-picks-true none k e = absurd (not-both e)
-picks-true (some j) k e = ap some (eqb-true j k e)
+picks-true : (o : Option ℕ) (k : ℕ) → picks o k ≡ true → o ≡ Some k
+picks-true None k e = absurd (not-both e)
+picks-true (Some j) k e = ap Some (eqb-true j k e)
 
-picks-false : (o : Option ℕ) (k : ℕ) → picks o k ≡ false → o ≡ some k → ⊥
-picks-false none k e h = none-ne-some k h
-picks-false (some j) k e h = eqb-false j k e (some_same j k h)
+picks-false : (o : Option ℕ) (k : ℕ) → picks o k ≡ false → o ≡ Some k → ⊥
+picks-false None k e h = none-some k h
+picks-false (Some j) k e h = eqb-false j k e (some_same j k h)
 
 every-both : {A : Type 0} (P Q R : A → Type 0) (xs : List A) → Every P xs → Every Q xs → ((x : A) → P x → Q x → R x) → Every R xs
 every-both P Q R [] p q f = tt
 every-both P Q R (x ∷ xs) p q f = (f x p.0 q.0, every-both P Q R xs p.1 q.1 f)
 
 -- a slot that c picks has no own call among calls that stand together with c
-no-other-by : (b : Bool) (s : IonoState) (d : Call) (k : ℕ) (rest : Option Call) → picks (picked_slot s d) k ≡ b → (picked_slot s d ≡ some k → ⊥) → rest ≡ none → or_else b d rest ≡ none
+no-other-by : (b : Bool) (s : IonoState) (d : Call) (k : ℕ) (rest : Option Call) → picks (picked_slot s d) k ≡ b → (picked_slot s d ≡ Some k → ⊥) → rest ≡ None → or_else b d rest ≡ None
 no-other-by true s d k rest p apart e = absurd (apart (picks-true (picked_slot s d) k p))
 no-other-by false s d k rest p apart e = e
 
-no_other : (s : IonoState) (c : Call) (k : ℕ) (cs : List Call) → Every (Together s c) cs → picked_slot s c ≡ some k → own s cs k ≡ none
+no_other : (s : IonoState) (c : Call) (k : ℕ) (cs : List Call) → Every (Together s c) cs → picked_slot s c ≡ Some k → own s cs k ≡ None
 unfolding own
 no_other s c k [] h e = refl
 no_other s c k (d ∷ cs) h e = no-other-by (picks (picked_slot s d) k) s d k (own s cs k) refl (h.0 k e) (no_other s c k cs h.1 e)
 
 -- ---- the induction
 
--- what a call alone leaves of s; t where there is none
+-- what a call alone leaves of s; t where there is None
 abbrev left : Option Call → IonoState → IonoState → IonoState
-left none s t = t
-left (some c) s t = after_of s c
+left None s t = t
+left (Some c) s t = after_of s c
 
 record RanOn (s t : IonoState) (cs : List Call) : Type 0 where
   all-answers : answers_of t cs ≡ map (answer_of s) cs
@@ -58,18 +60,18 @@ record RanOn (s t : IonoState) (cs : List Call) : Type 0 where
   the-profile : SameProfile (run_of t cs) (left (last_preparing s cs) s t)
 
 -- a slot after one call more
-slot_step : (s t t₁ r : IonoState) (c : Call) (k : ℕ) (o : Option Call) (b : Bool) → picks (picked_slot s c) k ≡ b → (picked_slot s c ≡ some k → o ≡ none) → (picked_slot s c ≡ some k → slot_at t₁ k ≡ slot_at (after_of s c) k) → ((picked_slot s c ≡ some k → ⊥) → slot_at t₁ k ≡ slot_at t k) → slot_at r k ≡ slot_at (left o s t₁) k → slot_at r k ≡ slot_at (left (or_else b c o) s t) k
+slot_step : (s t t₁ r : IonoState) (c : Call) (k : ℕ) (o : Option Call) (b : Bool) → picks (picked_slot s c) k ≡ b → (picked_slot s c ≡ Some k → o ≡ None) → (picked_slot s c ≡ Some k → slot_at t₁ k ≡ slot_at (after_of s c) k) → ((picked_slot s c ≡ Some k → ⊥) → slot_at t₁ k ≡ slot_at t k) → slot_at r k ≡ slot_at (left o s t₁) k → slot_at r k ≡ slot_at (left (or_else b c o) s t) k
 slot_step s t t₁ r c k o true p alone-here own-slot other-slot ih =
     let e = picks-true (picked_slot s c) k p in
     ih ∙ ap (λ (x : Option Call). slot_at (left x s t₁) k) (alone-here e) ∙ own-slot e
-slot_step s t t₁ r c k none false p alone-here own-slot other-slot ih = ih ∙ other-slot (picks-false (picked_slot s c) k p)
-slot_step s t t₁ r c k (some d) false p alone-here own-slot other-slot ih = ih
+slot_step s t t₁ r c k None false p alone-here own-slot other-slot ih = ih ∙ other-slot (picks-false (picked_slot s c) k p)
+slot_step s t t₁ r c k (Some d) false p alone-here own-slot other-slot ih = ih
 
 -- the profile after one call more
 profile-step : (s t t₁ r : IonoState) (c : Call) (o : Option Call) (b : Bool) → (b ≡ true → SameProfile t₁ (after_of s c)) → (b ≡ false → t₁ ≡ t) → SameProfile r (left o s t₁) → SameProfile r (left (later_or o (only_if b c)) s t)
-profile-step s t t₁ r c (some d) b h g ih = ih
-profile-step s t t₁ r c none true h g ih = let p = h refl in (ih.0 ∙ p.0, ih.1 ∙ p.1, ih.2 ∙ p.2, ih.3 ∙ p.3)
-profile-step s t t₁ r c none false h g ih = subst (λ (w : IonoState). SameProfile r w) (g refl) ih
+profile-step s t t₁ r c (Some d) b h g ih = ih
+profile-step s t t₁ r c None true h g ih = let p = h refl in (ih.0 ∙ p.0, ih.1 ∙ p.1, ih.2 ∙ p.2, ih.3 ∙ p.3)
+profile-step s t t₁ r c None false h g ih = subst (λ (w : IonoState). SameProfile r w) (g refl) ih
 
 ran : (s : IonoState) (cs : List Call) (t : IonoState) → Common s t → Every (FreshFor s t) cs → Allowed s cs → RanOn s t cs
 unfolding run_with answers_with own last_preparing
@@ -101,9 +103,9 @@ after-numbers t c n = subst Numbers (sym (call-leaves c t)) (prepared-numbers (p
 abbrev AgreesAll : Finder → List IonoState → Type 0
 AgreesAll find us = Every (λ u. Agree find gethp_of u) us
 
-picked-agree : (o : Option ℕ) (find : Finder) (t : IonoState) (rest : List IonoState) → AgreesAll find (with_picked o t rest) → ((k : ℕ) → o ≡ some k → AgreesAt find t k) × AgreesAll find rest
-picked-agree none find t rest h = (λ k e. absurd (none-ne-some k e), h)
-picked-agree (some j) find t rest h = (λ k e. subst (λ (i : ℕ). AgreesAt find t i) (some_same j k e) h.0, h.1)
+picked-agree : (o : Option ℕ) (find : Finder) (t : IonoState) (rest : List IonoState) → AgreesAll find (with_picked o t rest) → ((k : ℕ) → o ≡ Some k → AgreesAt find t k) × AgreesAll find rest
+picked-agree None find t rest h = (λ k e. absurd (none-some k e), h)
+picked-agree (Some j) find t rest h = (λ k e. subst (λ (i : ℕ). AgreesAt find t i) (some_same j k e) h.0, h.1)
 
 run-with : (find : Finder) (cs : List Call) (t : IonoState) → AgreesAll find (states_read t cs) → run_with find t cs ≡ run_of t cs
 unfolding run_with states_read
@@ -129,8 +131,8 @@ read_all find s calls h = (answers_with_lem find calls s h, run-with find calls 
 -- P holds of every state that a list comes through, and so Q of every profile that is read
 module _ (P Q : IonoState → Type 0) (stays : (t : IonoState) (c : Call) → P t → P (after_of t c)) (prepared : (t : IonoState) (k : ℕ) → P t → Q (lecden_of t k)) where
   picked-reads : (o : Option ℕ) (t : IonoState) (rest : List IonoState) → P t → Every Q rest → Every Q (with_picked o t rest)
-  picked-reads none t rest p h = h
-  picked-reads (some k) t rest p h = (prepared t k p, h)
+  picked-reads None t rest p h = h
+  picked-reads (Some k) t rest p h = (prepared t k p, h)
 
   every-read : (cs : List Call) (t : IonoState) → P t → Every Q (states_read t cs)
   unfolding states_read
@@ -162,8 +164,8 @@ at_first s [] = tt
 at_first s (c ∷ cs) = (λ k e. refl, at_first s cs)
 
 left_alone : (o : Option Call) (s : IonoState) → left o s s ≡ alone s o
-left_alone none s = refl
-left_alone (some c) s = refl
+left_alone None s = refl
+left_alone (Some c) s = refl
 
 -- ---- the owner
 
@@ -173,9 +175,9 @@ prepared-owner c s e =
 
 -- the last call that prepares a slot does prepare one
 later-owner : (s : IonoState) (o : Option Call) (b : Bool) (c : Call) → prepares s c ≡ b → owner_of (alone s o) ≡ last_owner s o → owner_of (alone s (later_or o (only_if b c))) ≡ last_owner s (later_or o (only_if b c))
-later-owner s (some d) b c e h = h
-later-owner s none true c e h = prepared-owner c s e
-later-owner s none false c e h = refl
+later-owner s (Some d) b c e h = h
+later-owner s None true c e h = prepared-owner c s e
+later-owner s None false c e h = refl
 
 last-owner : (s : IonoState) (cs : List Call) → owner_of (alone s (last_preparing s cs)) ≡ last_owner s (last_preparing s cs)
 unfolding last_preparing
@@ -183,8 +185,8 @@ last-owner s [] = refl
 last-owner s (c ∷ cs) = later-owner s (last_preparing s cs) (prepares s c) c refl (last-owner s cs)
 
 alone-ielect : (s : IonoState) (o : Option Call) → (alone s o).ielect ≡ s.ielect
-alone-ielect s none = refl
-alone-ielect s (some c) = (one-step s s c (common-self s) (λ k e. refl)).still-common.ielect-common
+alone-ielect s None = refl
+alone-ielect s (Some c) = (one-step s s c (common-self s) (λ k e. refl)).still-common.ielect-common
 
 -- equal fields, equal owners
 same-owner : (u v : IonoState) → u.ielect ≡ v.ielect → u.owner ≡ v.owner → owner_of u ≡ owner_of v
@@ -223,5 +225,14 @@ any-list s calls allowed =
       reads-well = λ n. (numbers-walk s n).reads-well calls;
     }
 
+-- `ionset` answers a state with 1 to 5 points
+set-answers : (b : Bool) (first : IonoState) (Q : IonoState → Type 0) → T b → ((s : IonoState) → ionset_by b first ≡ Ok s → Q s) → IsOkAnd (ionset_by b first) Q
+set-answers true first Q h f = f _ refl
+set-answers false first Q h f = absurd h
+
+pub if-set : (first : IonoState) (Q : IonoState → Type 0) → T (count_taken first.km) → ((s : IonoState) → ionset_of first ≡ Ok s → Q s) → IsOkAnd (ionset_of first) Q
+unfolding ionset_of
+if-set first Q h f = set-answers (count_taken first.km) first Q h f
+
 pub lists-of-calls : ListsOfCalls
-lists-of-calls = λ first h calls allowed. (any-list (ionset_of first).state calls allowed, λ n. ionset-numbers first n)
+lists-of-calls first h = if-set first _ h (λ s e. (λ calls allowed. any-list s calls allowed, λ n. ionset-numbers first s n e))

@@ -1,7 +1,9 @@
 -- Every number that `ionset` or `lecden` stores into the semi-thicknesses, the layers' heights or the profile's is one that stood there, a constant or the result of an operation, which is rounded to the format: so f32 numbers stay f32 numbers.
 use mathlib.Core.Bool.{Bool, true, false, cond, ◌||◌}
 use mathlib.Core.List.{List, [], ◌∷◌}
-use mathlib.Core.Path.{sym, subst}
+use mathlib.Core.Path.{◌≡◌, sym, subst}
+use Rattle.std.specs.Prelude.{Result, Ok, IfOk}
+use Rattle.refusal.specs.declared.Refusal.{Refusal}
 use Prim.Native.Nat.{ℕ, zero, suc, ◌+◌, ◌*◌}
 use lib.Dec.{T, leb}
 use lib.ListN.{set, replicate}
@@ -207,11 +209,11 @@ slots-settled s (suc n) h = let t = slots_settled s n in f2-settled (f1_settled 
 disowned-numbers : (s : IonoState) → Numbers s → Numbers (disowned s)
 disowned-numbers s n = subst Numbers (sym (disowned-only s)) (record { yi-held = n.yi-held; hi-held = n.hi-held; htr-held = n.htr-held })
 
-ionset-by : (b : Bool) (s : IonoState) → Numbers s → Numbers (ionset_by b s).state
+ionset-by : (b : Bool) (s : IonoState) → Numbers s → IfOk (ionset_by b s) Numbers
 unfolding assigned_of
 ionset-by true s n = disowned-numbers (slots_settled (assigned_of s) (assigned_of s).kfx) (slots-settled (assigned_of s) (assigned_of s).kfx (assigned-by (leb s.km 1) (leb s.km 3) s n))
-ionset-by false s n = n
+ionset-by false s n = tt
 
-pub ionset-numbers : (s : IonoState) → Numbers s → Numbers (ionset_of s).state
+pub ionset-numbers : (s t : IonoState) → Numbers s → ionset_of s ≡ Ok t → Numbers t
 unfolding ionset_of
-ionset-numbers s n = ionset-by (count_taken s.km) s n
+ionset-numbers s t n e = subst (λ (r : Result IonoState Refusal). IfOk r Numbers) e (ionset-by (count_taken s.km) s n)

@@ -1,13 +1,12 @@
 -- The paper's words are a case of `Allowed`: two calls that pick one slot would be two MUFs, two answered sheets of it, or a MUF and an answered sheet of its pick. And what is so by definition.
 use mathlib.Core.Bool.{Bool, true, false, ◌&&◌}
 use mathlib.Core.List.{List, [], ◌∷◌}
-use mathlib.Core.Option.{some, none-ne-some}
+use Rattle.std.specs.Prelude.{Some}
 use mathlib.Core.Path.{◌≡◌, refl, sym, ap, ◌∙◌}
 use Prim.Native.Nat.{ℕ, ◌+◌, ◌≤◌}
 use native.Mathlib.Omega.{arith}
 use borrow.Author.Tests.{eq-eqb}
 use lib.Dec.{leb, eqb}
-use Rattle.slots.specs.Ionset.{ionset_of}
 use Rattle.layers.specs.declared.IonoState.{IonoState}
 use Rattle.layers.specs.declared.LayerMuf.{LayerMuf}
 use Rattle.heights.specs.Gethp.{gethp_of}
@@ -16,21 +15,21 @@ use Rattle.readings.specs.Cursor.{one_if}
 use Rattle.slot_sheet.specs.Sheet.{sheet_by, slot_sheet_with}
 use Rattle.call_lists.specs.Calls.{Call, a_muf, a_sheet, a_nominal, muf_with, es_after, answer_with, after_with, answered, pick_if, picked_slot}
 use Rattle.call_lists.specs.Lists.{Every, Together, Allowed}
-use Rattle.call_lists.specs.PaperWords.{is_muf, is_sheet_of, mufs_in, sheets_in, InWords, PaperWords, RefusalByArguments, WithContracts}
-use Rattle.call_lists.proofs.Frames.{not-both, some_same}
-use Rattle.call_lists.proofs.Lists.{any-list}
+use Rattle.call_lists.specs.PaperWords.{is_muf, is_sheet_of, mufs_in, sheets_in, InWords, PaperWords, outcome_of, RefusalByArguments, WithContracts}
+use Rattle.call_lists.proofs.Frames.{not-both, none-some, some_same}
+use Rattle.call_lists.proofs.Lists.{any-list, if-set}
 
 -- ---- a sheet that picks k is counted among the answered sheets of k
 
-picked-by : (b : Bool) (j k : ℕ) → pick_if b j ≡ some k → one_if (eqb j k && b) ≡ 1
+picked-by : (b : Bool) (j k : ℕ) → pick_if b j ≡ Some k → one_if (eqb j k && b) ≡ 1
 picked-by true j k e = ap (λ (b : Bool). one_if (b && true)) (eq-eqb j k (some_same j k e))
-picked-by false j k e = absurd (none-ne-some k e)
+picked-by false j k e = absurd (none-some k e)
 
-counted : (s : IonoState) (d : Call) (k : ℕ) → is_muf d ≡ false → picked_slot s d ≡ some k → one_if (is_sheet_of s k d) ≡ 1
+counted : (s : IonoState) (d : Call) (k : ℕ) → is_muf d ≡ false → picked_slot s d ≡ Some k → one_if (is_sheet_of s k d) ≡ 1
 unfolding picked_slot
 counted s (a_muf es f2d clat clck c) k m e = absurd (not-both (sym m))
 counted s (a_sheet j nang layers cells) k m e = picked-by (answered s (a_sheet j nang layers cells)) j k e
-counted s (a_nominal points f2m3 es km gcd gcdkm) k m e = absurd (none-ne-some k e)
+counted s (a_nominal points f2m3 es km gcd gcdkm) k m e = absurd (none-some k e)
 
 -- ---- c and each of the calls ds after it
 
@@ -41,12 +40,12 @@ rest : (a n : ℕ) → a + n ≡ 0 → n ≡ 0
 rest a n e = omega arith
 
 -- by whether d is a MUF, and c
-not-together : (b a : Bool) (s : IonoState) (c d : Call) (k m n : ℕ) → is_muf d ≡ b → is_muf c ≡ a → (is_muf c ≡ true → one_if (is_muf d) + m ≡ 0) → one_if (is_sheet_of s k d) + n ≡ 0 → (is_muf d ≡ true → one_if (is_sheet_of s k c) ≡ 0) → picked_slot s c ≡ some k → picked_slot s d ≡ some k → ⊥
+not-together : (b a : Bool) (s : IonoState) (c d : Call) (k m n : ℕ) → is_muf d ≡ b → is_muf c ≡ a → (is_muf c ≡ true → one_if (is_muf d) + m ≡ 0) → one_if (is_sheet_of s k d) + n ≡ 0 → (is_muf d ≡ true → one_if (is_sheet_of s k c) ≡ 0) → picked_slot s c ≡ Some k → picked_slot s d ≡ Some k → ⊥
 not-together false a s c d k m n eb ea one none_left none_before p q = one_more (one_if (is_sheet_of s k d)) n (counted s d k eb q) none_left
 not-together true true s c d k m n eb ea one none_left none_before p q = one_more (one_if (is_muf d)) m (ap one_if eb) (one ea)
 not-together true false s c d k m n eb ea one none_left none_before p q = let x = counted s c k ea p in let y = none_before eb in let z : ◌≡◌ {A = ℕ} 0 1 = sym y ∙ x in omega arith
 
-apart : (s : IonoState) (c : Call) (ds : List Call) → (is_muf c ≡ true → mufs_in ds ≡ 0) → ((k : ℕ) → picked_slot s c ≡ some k → sheets_in s k ds ≡ 0) → Every (λ d. is_muf d ≡ true → (k : ℕ) → picked_slot s d ≡ some k → one_if (is_sheet_of s k c) ≡ 0) ds → Every (Together s c) ds
+apart : (s : IonoState) (c : Call) (ds : List Call) → (is_muf c ≡ true → mufs_in ds ≡ 0) → ((k : ℕ) → picked_slot s c ≡ Some k → sheets_in s k ds ≡ 0) → Every (λ d. is_muf d ≡ true → (k : ℕ) → picked_slot s d ≡ Some k → one_if (is_sheet_of s k c) ≡ 0) ds → Every (Together s c) ds
 unfolding mufs_in sheets_in
 apart s c [] one none_left none_before = tt
 apart s c (d ∷ ds) one none_left none_before = (
@@ -68,7 +67,7 @@ fewer : (a n : ℕ) → a + n ≤ 1 → n ≤ 1
 fewer a n e = omega arith
 
 -- no answered sheet of what c picks is left
-left_by : (b : Bool) (s : IonoState) (c : Call) (k n : ℕ) → is_muf c ≡ b → one_if (is_sheet_of s k c) + n ≤ 1 → (is_muf c ≡ true → one_if (is_sheet_of s k c) + n ≡ 0) → picked_slot s c ≡ some k → n ≡ 0
+left_by : (b : Bool) (s : IonoState) (c : Call) (k n : ℕ) → is_muf c ≡ b → one_if (is_sheet_of s k c) + n ≤ 1 → (is_muf c ≡ true → one_if (is_sheet_of s k c) + n ≡ 0) → picked_slot s c ≡ Some k → n ≡ 0
 left_by true s c k n e one none_of p = rest (one_if (is_sheet_of s k c)) n (none_of e)
 left_by false s c k n e one none_of p = at_most_one (one_if (is_sheet_of s k c)) n (counted s c k e p) one
 
@@ -88,11 +87,11 @@ words-allowed s (c ∷ cs) w = (
 )
 
 pub paper-words : PaperWords
-paper-words first h calls w = any-list (ionset_of first).state calls (words-allowed (ionset_of first).state calls w)
+paper-words first h = if-set first _ h (λ s e calls w. any-list s calls (words-allowed s calls w))
 
--- ---- a sheet's outcome
+-- ---- whether a sheet is answered
 
-outcome-by : (a b : Bool) (s t : IonoState) (k : ℕ) (layers others : List LayerMuf) → (sheet_by a b gethp_of t k others).outcome ≡ (sheet_by a b gethp_of s k layers).outcome
+outcome-by : (a b : Bool) (s t : IonoState) (k : ℕ) (layers others : List LayerMuf) → outcome_of (sheet_by a b gethp_of t k others) ≡ outcome_of (sheet_by a b gethp_of s k layers)
 outcome-by true true s t k layers others = refl
 outcome-by true false s t k layers others = refl
 outcome-by false b s t k layers others = refl

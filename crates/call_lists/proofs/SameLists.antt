@@ -1,8 +1,10 @@
 -- The equations of `lists-of-calls`, read by bits: what is equal is the same, part by part.
 use mathlib.Core.List.{List, [], ◌∷◌}
 use mathlib.Core.Path.{◌≡◌, refl, subst}
+use Rattle.std.specs.Prelude.{Result, Ok, Err}
 use lib.Dec.{T}
 use lib.Ieee.{Float}
+use Rattle.refusal.specs.declared.Refusal.{Refusal}
 use Rattle.same.specs.Same.{SameAll}
 use Rattle.same.proofs.Same.{equal-same, equal-all}
 use Rattle.layers.specs.declared.IonoState.{IonoState}
@@ -14,10 +16,10 @@ use Rattle.heights.specs.SameReads.{SameReads}
 use Rattle.heights.proofs.SameReads.{same_reads}
 use Rattle.reflectrix.specs.declared.Ionogram.{Ionogram}
 use Rattle.muf.specs.declared.MufHour.{MufHour}
-use Rattle.call_lists.specs.Calls.{EsRows, flat, records, Call, Answer, of_muf, of_sheet, of_nominal}
+use Rattle.call_lists.specs.Calls.{EsRows, flat, records, Call, SlotRows, Answer, of_muf, of_sheet, of_nominal}
 use Rattle.call_lists.specs.Lists.{run_of, states_read, Every, Allowed, last_preparing, alone, ReadsWell, SameProfile, ListOfCalls}
-use Rattle.call_lists.specs.SameLists.{Pairwise, line_numbers, SameLine, hour_numbers, SameHour, SameRecord, SameEs, SameRows, SameAnswer, slot_numbers, SameSlot, SameProfileBits, SameState, SameListOfCalls, SameListsOfCalls}
-use Rattle.call_lists.proofs.Lists.{any-list, lists-of-calls}
+use Rattle.call_lists.specs.SameLists.{Pairwise, line_numbers, SameLine, hour_numbers, SameHour, SameRecord, SameEs, SameRows, SameSlotRows, SameResult, SameAnswer, slot_numbers, SameSlot, SameProfileBits, SameState, SameListOfCalls, SameListsOfCalls}
+use Rattle.call_lists.proofs.Lists.{any-list, if-set}
 
 -- ---- each is the same as itself
 
@@ -44,10 +46,17 @@ es-self (records es) = pairwise-self SameRecord record-self es
 rows_self : (i : Ionogram) → SameRows i i
 rows_self i = (all-self i.fvert, all-self i.hprim, all-self i.htrue, all-self i.afac, refl)
 
+slot-rows : (a : SlotRows) → SameSlotRows a a
+slot-rows a = (rows_self a.ion, refl)
+
+result-self : {A : Type 0} (R : A → A → Type 0) → ((a : A) → R a a) → (r : Result A Refusal) → SameResult R r r
+result-self R h (Ok a) = h a
+result-self R h (Err r) = refl
+
 answer-self : (a : Answer) → SameAnswer a a
-answer-self (of_muf o h es) = (refl, hour-self h, es-self es)
-answer-self (of_sheet o i m cs) = (refl, rows_self i, refl, refl)
-answer-self (of_nominal o h) = (refl, hour-self h)
+answer-self (of_muf h es) = (result-self SameHour hour-self h, es-self es)
+answer-self (of_sheet i cs) = (result-self SameSlotRows slot-rows i, refl)
+answer-self (of_nominal h) = result-self SameHour hour-self h
 
 slot-self : (p : Slot) → SameSlot p p
 slot-self p = all-self (slot_numbers p)
@@ -110,4 +119,4 @@ pub any-list-same : (s : IonoState) (calls : List Call) → Allowed s calls → 
 any-list-same s calls allowed = list_same s calls (any-list s calls allowed)
 
 pub lists-of-calls-same : SameListsOfCalls
-lists-of-calls-same first counted calls allowed = list_same _ calls (lists-of-calls first counted calls allowed).0
+lists-of-calls-same first counted = if-set first _ counted (λ s e calls allowed. any-list-same s calls allowed)

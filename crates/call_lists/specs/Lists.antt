@@ -1,7 +1,6 @@
 -- The theorem on lists of calls, as one claim about a whole list of any length. Nothing is asked of the state's switch of the exact height rule: all of it holds for both settings.
 -- The first call gets the state s that `ionset` answered, each later one the state that the one before returned. "Alone" is on s, with the same arguments and cells.
-use Rattle.std.specs.Prelude.{Bool, true, false, List, [], ◌∷◌, map, ◌≡◌, ℕ, ◌<◌, ◌≤◌, T, eqb, length, Float}
-use Rattle.std.proofs.Math.Option.{Option, none, some}
+use Rattle.std.specs.Prelude.{Bool, true, false, List, [], ◌∷◌, map, ◌≡◌, ℕ, ◌<◌, ◌≤◌, T, eqb, length, Float, Option, Some, None, IsOkAnd}
 use Rattle.scalar.specs.F32.{at}
 use Rattle.layers.specs.Owners.{owner_by, owner_of}
 use Rattle.slots.specs.Ionset.{ionset_of}
@@ -50,8 +49,8 @@ answers_scan_of = answers_with gethp_scan_of
 -- ---- the states whose profiles its calls read: each with the slot prepared that the call picks
 
 abbrev pub with_picked : Option ℕ → IonoState → List IonoState → List IonoState
-with_picked none s rest = rest
-with_picked (some k) s rest = lecden_of s k ∷ rest
+with_picked None s rest = rest
+with_picked (Some k) s rest = lecden_of s k ∷ rest
 
 unfoldable pub states_read : IonoState → List Call → List IonoState
 states_read s [] = []
@@ -65,7 +64,7 @@ Every P (c ∷ cs) = P c × Every P cs
 
 -- No slot is picked twice: each has at most one answered sheet, or one MUF that picks it, not both. A refused sheet picks nothing, nor does a MUF refused 9, or 10 for its deciles, nor any nominal MUF: any number of these may stand anywhere.
 abbrev pub Together : IonoState → Call → Call → Type 0
-Together s c d = (k : ℕ) → picked_slot s c ≡ some k → picked_slot s d ≡ some k → ⊥
+Together s c d = (k : ℕ) → picked_slot s c ≡ Some k → picked_slot s d ≡ Some k → ⊥
 
 abbrev pub Allowed : IonoState → List Call → Type 0
 Allowed s [] = Unit {0}
@@ -74,34 +73,34 @@ Allowed s (c ∷ cs) = Every (Together s c) cs × Allowed s cs
 -- ---- a slot's own call, and the last one that prepares a slot
 
 abbrev pub picks : Option ℕ → ℕ → Bool
-picks none k = false
-picks (some j) k = eqb j k
+picks None k = false
+picks (Some j) k = eqb j k
 
 abbrev pub or_else : Bool → Call → Option Call → Option Call
-or_else true c rest = some c
+or_else true c rest = Some c
 or_else false c rest = rest
 
 -- the answered sheet of slot k, or the MUF where it picks k, or none
 unfoldable pub own : IonoState → List Call → ℕ → Option Call
-own s [] k = none
+own s [] k = None
 own s (c ∷ cs) k = or_else (picks (picked_slot s c) k) c (own s cs k)
 
 abbrev pub later_or : Option Call → Option Call → Option Call
-later_or none c = c
-later_or (some d) c = some d
+later_or None c = c
+later_or (Some d) c = Some d
 
 abbrev pub only_if : Bool → Call → Option Call
-only_if true c = some c
-only_if false c = none
+only_if true c = Some c
+only_if false c = None
 
 unfoldable pub last_preparing : IonoState → List Call → Option Call
-last_preparing s [] = none
+last_preparing s [] = None
 last_preparing s (c ∷ cs) = later_or (last_preparing s cs) (only_if (prepares s c) c)
 
 -- what a call alone leaves of s; s where there is none
 abbrev pub alone : IonoState → Option Call → IonoState
-alone s none = s
-alone s (some c) = after_of s c
+alone s None = s
+alone s (Some c) = after_of s c
 
 -- heights, densities, rising mark and owner
 abbrev pub SameProfile : IonoState → IonoState → Type 0
@@ -109,12 +108,12 @@ SameProfile u v = (u.htr ≡ v.htr) × (u.fnsq ≡ v.fnsq) × (u.htr_rises ≡ v
 
 -- whose profile a call leaves that prepares a slot: that slot's, or a supplied one; s's where there is no such call
 abbrev pub owner_picked : Bool → Option ℕ → Owner
-owner_picked supplied none = owner_by supplied Owner.None
-owner_picked supplied (some k) = owner_by supplied (Owner.Slot k)
+owner_picked supplied None = owner_by supplied Owner.None
+owner_picked supplied (Some k) = owner_by supplied (Owner.Slot k)
 
 abbrev pub last_owner : IonoState → Option Call → Owner
-last_owner s none = owner_of s
-last_owner s (some c) = owner_picked s.ielect (picked_slot s c)
+last_owner s None = owner_of s
+last_owner s (Some c) = owner_picked s.ielect (picked_slot s c)
 
 -- the forty reads of any frequency, where the heights rise
 abbrev pub ReadsWell : IonoState → Type 0
@@ -160,11 +159,11 @@ pub record ListOfCalls (s : IonoState) (calls : List Call) : Type 0 where
   -- (vi) on each profile that is read the forty reads, kind, number and segment, where the exact rule does not stand for them, are the scans', in rising order, with the cursor as counted and moved 49 places at most
   pub reads-well : Numbers s → Every ReadsWell (states_read s calls)
 
--- for what `ionset` answers of any state with 1 to 5 points, and its numbers are f32 where those of that state are
+-- `ionset` answers any state with 1 to 5 points; so it is for what it answers, and its numbers are f32 where those of that state are
 abbrev pub ListsOfCalls : Type 0
 ListsOfCalls =
-    (first : IonoState) → T (count_taken first.km) → (calls : List Call) → Allowed (ionset_of first).state calls
-    → ListOfCalls (ionset_of first).state calls × (Numbers first → Numbers (ionset_of first).state)
+    (first : IonoState) → T (count_taken first.km)
+    → IsOkAnd (ionset_of first) (λ s. ((calls : List Call) → Allowed s calls → ListOfCalls s calls) × (Numbers first → Numbers s))
 
 -- what `only-state` says: (ii) to (iv) leave nothing of the state unsaid. One state alone is so, of those whose `fsecv` has three numbers, as every state of the code has.
 abbrev pub OnlyState : Type 0

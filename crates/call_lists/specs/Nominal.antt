@@ -13,5 +13,5 @@ NominalAnywhere =
     (find : Finder) (s : IonoState) (before after : List Call) (points : List LayerParams) (f2m3 : List Float) (es : List EsParams) (km : ℕ) (gcd gcdkm : Float)
     → (run_with find s (before ++ a_nominal points f2m3 es km gcd gcdkm ∷ after) ≡ run_with find s (before ++ after))
     × (answers_with find s (before ++ a_nominal points f2m3 es km gcd gcdkm ∷ after)
-    ≡ answers_with find s before ++ of_nominal (nommuf_of points f2m3 es km gcd gcdkm).outcome (nommuf_of points f2m3 es km gcd gcdkm).hour ∷ answers_with find (run_with find s before) after)
+    ≡ answers_with find s before ++ of_nominal (nommuf_of points f2m3 es km gcd gcdkm) ∷ answers_with find (run_with find s before) after)
     × (answers_with find s (before ++ after) ≡ answers_with find s before ++ answers_with find (run_with find s before) after)

@@ -1,5 +1,6 @@
 -- The theorem on lists of calls by bits: what is the same of states, slots and answers, a zero's sign included and any NaN like any other, and the claim of Lists.antt in that sense.
-use Rattle.std.specs.Prelude.{true, List, [], ◌∷◌, map, ◌≡◌, ℕ, ◌<◌, ◌≤◌, T, Float}
+use Rattle.std.specs.Prelude.{true, List, [], ◌∷◌, map, ◌≡◌, ℕ, ◌<◌, ◌≤◌, T, Float, Result, Ok, Err, IsOkAnd}
+use Rattle.refusal.specs.declared.Refusal.{Refusal}
 use Rattle.same.specs.Same.{Same, SameAll}
 use Rattle.scalar.specs.F32.{at}
 use Rattle.slots.specs.Ionset.{ionset_of}
@@ -13,7 +14,7 @@ use Rattle.slot_curves.specs.declared.Slot.{Slot}
 use Rattle.heights.specs.SameReads.{SameReads}
 use Rattle.reflectrix.specs.declared.Ionogram.{Ionogram}
 use Rattle.muf.specs.declared.MufHour.{MufHour}
-use Rattle.call_lists.specs.Calls.{EsRows, flat, records, Call, Answer, of_muf, of_sheet, of_nominal, answer_of}
+use Rattle.call_lists.specs.Calls.{EsRows, flat, records, Call, SlotRows, Answer, of_muf, of_sheet, of_nominal, answer_of}
 use Rattle.call_lists.specs.Lists.{run_of, answers_of, run_walk_of, answers_walk_of, run_scan_of, answers_scan_of, states_read, Every, Allowed, own, last_preparing, alone, Numbers}
 
 -- ---- the same, part by part: numbers by their bits, all else equal
@@ -49,17 +50,27 @@ SameEs (records es) (records ds) = Pairwise SameRecord es ds
 abbrev pub SameRows : Ionogram → Ionogram → Type 0
 SameRows i j = SameAll i.fvert j.fvert × SameAll i.hprim j.hprim × SameAll i.htrue j.htrue × SameAll i.afac j.afac × (i.segment ≡ j.segment)
 
--- outcome, hour and Es rows, or outcome, rows, marks and cells, or outcome and hour
+abbrev pub SameSlotRows : SlotRows → SlotRows → Type 0
+SameSlotRows a b = SameRows a.ion b.ion × (a.marks ≡ b.marks)
+
+-- both answered, and the same, or refused alike
+abbrev pub SameResult : {A : Type 0} → (A → A → Type 0) → Result A Refusal → Result A Refusal → Type 0
+SameResult R (Ok a) (Ok b) = R a b
+SameResult R (Ok a) (Err r) = ⊥
+SameResult R (Err q) (Ok b) = ⊥
+SameResult R (Err q) (Err r) = q ≡ r
+
+-- hour and Es rows, or rows, marks and cells, or hour
 abbrev pub SameAnswer : Answer → Answer → Type 0
-SameAnswer (of_muf o h es) (of_muf p g ds) = (o ≡ p) × SameHour h g × SameEs es ds
-SameAnswer (of_muf o h es) (of_sheet p j n ds) = ⊥
-SameAnswer (of_muf o h es) (of_nominal p g) = ⊥
-SameAnswer (of_sheet o i m cs) (of_muf p g ds) = ⊥
-SameAnswer (of_sheet o i m cs) (of_sheet p j n ds) = (o ≡ p) × SameRows i j × (m ≡ n) × (cs ≡ ds)
-SameAnswer (of_sheet o i m cs) (of_nominal p g) = ⊥
-SameAnswer (of_nominal o h) (of_muf p g ds) = ⊥
-SameAnswer (of_nominal o h) (of_sheet p j n ds) = ⊥
-SameAnswer (of_nominal o h) (of_nominal p g) = (o ≡ p) × SameHour h g
+SameAnswer (of_muf h es) (of_muf g ds) = SameResult SameHour h g × SameEs es ds
+SameAnswer (of_muf h es) (of_sheet j ds) = ⊥
+SameAnswer (of_muf h es) (of_nominal g) = ⊥
+SameAnswer (of_sheet i cs) (of_muf g ds) = ⊥
+SameAnswer (of_sheet i cs) (of_sheet j ds) = SameResult SameSlotRows i j × (cs ≡ ds)
+SameAnswer (of_sheet i cs) (of_nominal g) = ⊥
+SameAnswer (of_nominal h) (of_muf g ds) = ⊥
+SameAnswer (of_nominal h) (of_sheet j ds) = ⊥
+SameAnswer (of_nominal h) (of_nominal g) = SameResult SameHour h g
 
 abbrev pub slot_numbers : Slot → List Float
 slot_numbers p = p.fi0 ∷ p.fi1 ∷ p.fi2 ∷ p.yi0 ∷ p.yi1 ∷ p.yi2 ∷ p.hi0 ∷ p.hi1 ∷ p.hi2 ∷ p.fsec ∷ []
@@ -105,4 +116,4 @@ pub record SameListOfCalls (s : IonoState) (calls : List Call) : Type 0 where
   pub reads_same : Numbers s → Every (λ u. (f : Float) → T (rises_of u.htr) → SameReads u f) (states_read s calls)
 
 abbrev pub SameListsOfCalls : Type 0
-SameListsOfCalls = (first : IonoState) → T (count_taken first.km) → (calls : List Call) → Allowed (ionset_of first).state calls → SameListOfCalls (ionset_of first).state calls
+SameListsOfCalls = (first : IonoState) → T (count_taken first.km) → IsOkAnd (ionset_of first) (λ s. (calls : List Call) → Allowed s calls → SameListOfCalls s calls)

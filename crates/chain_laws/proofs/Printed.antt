@@ -3,15 +3,16 @@ use mathlib.Core.List.{List, ◌++◌}
 use mathlib.Core.Path.{◌≡◌, refl, ap, ◌∙◌}
 use Prim.Native.Nat.{ℕ, zero, suc}
 use lib.ListN.{get_or}
-use Rattle.refusal.specs.declared.Outcome.{Outcome}
+use Rattle.std.specs.Prelude.{Result, Ok, Err}
+use Rattle.refusal.specs.declared.Refusal.{Refusal}
 use Rattle.lines.specs.Text.{joined}
 use Rattle.records.specs.Record.{form64}
 use Rattle.records.proofs.Lists.{fit64}
 use Rattle.record_chain.specs.declared.Chain.{Chain}
-use Rattle.record_chain.specs.Chain.{chain_of}
+use Rattle.record_chain.specs.Chain.{order_in, chain_of}
 use Rattle.circuit_laws.specs.OnChain.{OnChain}
 use Rattle.circuit_laws.specs.OnChain.OnChain.{first}
-use Rattle.circuit_laws.proofs.Off.{all-at, reached-all, same-chain}
+use Rattle.circuit_laws.proofs.Off.{All, all-at, reached-all, same-chain}
 use Rattle.chain_text.specs.ChainText.{step_line, step_line_at, end_line, followed_text, chain_text_by, chain_text}
 use Rattle.chain_laws.specs.Laws.{AlikeOnChain, PrintedAlike, PrintedAppended}
 use Rattle.chain_laws.proofs.Longer.{alike-appended, records-appended}
@@ -22,22 +23,19 @@ joined-so a b h zero = refl
 joined-so a b h (suc n) = rw (joined-so a b h n, h n)
 
 module _ (f g : List ℕ) (same : AlikeOnChain form64 f g) where
-  step_so : (i : ℕ) → step_line_at f (chain_of form64 f).order i ≡ step_line_at g (chain_of form64 f).order i
-  step_so i =
-      let order = (chain_of form64 f).order in
-      ap (λ (r : List ℕ). step_line r (get_or order i 0)) (same (get_or order i 0) (all-at (OnChain form64 f) order first (reached-all form64 f g same) i))
+  step_so : (order : List ℕ) → All (OnChain form64 f) order → (i : ℕ) → step_line_at f order i ≡ step_line_at g order i
+  step_so order p i =
+      ap (λ (r : List ℕ). step_line r (get_or order i 0)) (same (get_or order i 0) (all-at (OnChain form64 f) order first p i))
 
-  followed-so : followed_text f (chain_of form64 f) ≡ followed_text g (chain_of form64 f)
+  text-by : (a : Result Chain Refusal) → All (OnChain form64 f) (order_in a) → chain_text_by a f ≡ chain_text_by a g
   unfolding followed_text
-  followed-so = let c = chain_of form64 f in ap (λ (t : List ℕ). t ++ end_line c.count) (joined-so (step_line_at f c.order) (step_line_at g c.order) step_so c.count)
-
-  text-by : (o : Outcome) → chain_text_by o f (chain_of form64 f) ≡ chain_text_by o g (chain_of form64 f)
-  text-by Outcome.Answered = followed-so
-  text-by (Outcome.Refused r) = refl
+  text-by (Ok c) p = ap (λ (t : List ℕ). t ++ end_line c.count) (joined-so (step_line_at f c.order) (step_line_at g c.order) (step_so c.order p) c.count)
+  text-by (Err r) p = refl
 
   text-so : chain_of form64 f ≡ chain_of form64 g → chain_text f ≡ chain_text g
   unfolding chain_text
-  text-so e = text-by (chain_of form64 f).outcome ∙ ap (λ (c : Chain). chain_text_by c.outcome g c) e
+  text-so e =
+      text-by (chain_of form64 f) (reached-all form64 f g same) ∙ ap (λ (a : Result Chain Refusal). chain_text_by a g) e
 
 pub printed-alike : PrintedAlike
 printed-alike f g long same = text-so f g same (same-chain form64 f g long same)

@@ -4,7 +4,7 @@ use mathlib.Core.List.{List}
 use Prim.Native.Nat.{ℕ, ◌+◌, ◌*◌, ◌≤◌}
 use native.Mathlib.Omega.{arith}
 use lib.ListN.{length, get_or}
-use Rattle.refusal.specs.declared.Outcome.{Outcome}
+use Rattle.std.specs.Prelude.{Ok}
 use Rattle.lines.proofs.Sizes.{AtMost, ◌then◌, word, line-feed, decimal, field, times}
 use Rattle.record_chain.specs.declared.Chain.{Chain}
 use Rattle.records.specs.Record.{form64, record_at, kind_of, next_of}
@@ -13,11 +13,11 @@ use Rattle.records.proofs.Lists.{fit64}
 use Rattle.record_chain.proofs.Followed.{Followed, followed, there, count-range}
 use Rattle.chain_text.specs.ChainText.{step_line, step_line_at, end_word, end_line, followed_text}
 
-pub within : (f : List ℕ) (k : Chain) → k ≡ chain_of form64 f → k.outcome ≡ Outcome.Answered
+pub within : (f : List ℕ) (k : Chain) → chain_of form64 f ≡ Ok k
     → (k.count ≤ 64) × ((i : ℕ) → 64 * get_or k.order i 0 + 64 ≤ length f)
-within f k e a =
-    let t : Followed form64 f k = rw e (followed form64 fit64 f (rw (← e) a)) in
-    let n = count-range form64 f k t a in
+within f k e =
+    let t : Followed form64 f k = followed form64 fit64 f k e in
+    let n = count-range form64 f k t in
     (omega (arith, t.head.most, n.1), there form64 f k t)
 
 step-most : (r : List ℕ) (n : ℕ) → AtMost (step_line r n) 63
@@ -28,9 +28,9 @@ end-most : (n : ℕ) → AtMost (end_line n) 25
 unfolding end_line
 end-most n = word end_word then decimal n then line-feed
 
-pub followed-most : (f : List ℕ) (k : Chain) → k ≡ chain_of form64 f → k.outcome ≡ Outcome.Answered → AtMost (followed_text f k) 4057
+pub followed-most : (f : List ℕ) (k : Chain) → chain_of form64 f ≡ Ok k → AtMost (followed_text f k) 4057
 unfolding followed_text
-followed-most f k e a =
+followed-most f k e =
     let steps = times (step_line_at f k.order) 63 k.count (λ i l. step-most (record_at form64 f (get_or k.order i 0)) (get_or k.order i 0)) in
     let t = steps then end-most k.count in
-    record { most = omega (arith, t.most, (within f k e a).0) }
+    record { most = omega (arith, t.most, (within f k e).0) }

@@ -1,6 +1,6 @@
 -- What `chain` prints: record, kind and next index for each step of the chain, then `end` and the count; of a refused file only the refusal.
-use Rattle.std.specs.Prelude.{List, [], ◌∷◌, ◌++◌, ℕ, get_or}
-use Rattle.refusal.specs.declared.Outcome.{Outcome}
+use Rattle.std.specs.Prelude.{List, [], ◌∷◌, ◌++◌, ℕ, get_or, Result, Ok, Err}
+use Rattle.refusal.specs.declared.Refusal.{Refusal}
 use Rattle.lines.specs.Text.{space, line_feed, decimal_of, field_of, refused_text, joined}
 use Rattle.record_chain.specs.declared.Chain.{Chain}
 use Rattle.records.specs.Record.{form64, record_at, kind_of, next_of}
@@ -24,9 +24,9 @@ end_line count = end_word ++ (decimal_of count ++ (line_feed ∷ []))
 unfoldable pub followed_text : List ℕ → Chain → List ℕ
 followed_text f c = joined (step_line_at f c.order) c.count ++ end_line c.count
 
-abbrev pub chain_text_by : Outcome → List ℕ → Chain → List ℕ
-chain_text_by Outcome.Answered f c = followed_text f c
-chain_text_by (Outcome.Refused r) f c = refused_text r
+abbrev pub chain_text_by : Result Chain Refusal → List ℕ → List ℕ
+chain_text_by (Ok c) f = followed_text f c
+chain_text_by (Err r) f = refused_text r
 
 unfoldable pub chain_text : List ℕ → List ℕ
-chain_text f = let c = chain_of form64 f in chain_text_by c.outcome f c
+chain_text f = chain_text_by (chain_of form64 f) f

@@ -1,8 +1,7 @@
 // What `chain` prints of a circuit file, as bytes.
 #![tactic(auto)]
 
-ghost use Rattle.std.specs.Prelude.{ℕ, ◌+◌, ◌*◌, ◌≤◌, ◌≡◌, length, get_or};
-ghost use Rattle.refusal.specs.declared.Outcome.{Outcome};
+ghost use Rattle.std.specs.Prelude.{Ok, ℕ, ◌+◌, ◌*◌, ◌≤◌, ◌≡◌, length, get_or};
 ghost use Rattle.io.specs.Counts.{IsPrefixLen};
 ghost use Rattle.lines.specs.Text.{joined, Clipped, Put};
 ghost use Rattle.records.specs.Record.{form64};
@@ -10,7 +9,6 @@ ghost use Rattle.record_chain.specs.Chain.{chain_of};
 ghost use Rattle.chain_text.specs.ChainText.{step_line, step_line_at, end_line, followed_text, chain_text};
 
 use record_chain::Chain;
-use refusal::Outcome;
 
 // A step of the chain: the record's number, its kind and its next index.
 fn put_step(out: &mut [u8], at: usize, r: &[u8], n: usize) -> usize
@@ -46,7 +44,7 @@ fn put_end(out: &mut [u8], at: usize, count: usize) -> usize
 }
 
 fn put_chain(out: &mut [u8], file: &[u8], c: Chain) -> usize
-    requires { (c ≡ chain_of form64 file.now) × (c.outcome ≡ Outcome.Answered) }
+    requires { chain_of form64 file.now ≡ Ok c }
     ensures { Clipped (followed_text file.now c) out.old 0 out.new result }
 {
     let order = c.order;
@@ -67,10 +65,8 @@ pub fn chain_text(file: &[u8], out: &mut [u8; ROOM]) -> usize
     ensures put { Put (chain_text file.now) out.old 0 out.new result }
     ensures room { IsPrefixLen result out.new }
 {
-    let c = record_chain::follow(file);
-    let outcome = c.outcome;
-    match outcome {
-        Outcome::Answered => put_chain(out, file, c),
-        Outcome::Refused(r) => lines::put_refused(out, 0, r),
+    match record_chain::follow(file) {
+        Ok(c) => put_chain(out, file, c),
+        Err(r) => lines::put_refused(out, 0, r),
     }
 }

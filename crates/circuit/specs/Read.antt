@@ -1,10 +1,9 @@
 -- The circuit that a file holds, or where the file is turned away.
-use Rattle.std.specs.Prelude.{ℕ, zero, suc, ◌+◌, ◌*◌, ◌-◌, List, [], ◌++◌, get_or, drop, replicate}
-use Rattle.refusal.specs.declared.Outcome.{Outcome}
+use Rattle.std.specs.Prelude.{ℕ, zero, suc, ◌+◌, ◌*◌, ◌-◌, List, [], ◌++◌, get_or, drop, replicate, Result, Ok, Err}
+use Rattle.refusal.specs.declared.Refusal.{Refusal}
 use Rattle.record_chain.specs.declared.Chain.{Chain}
 use Rattle.circuit.specs.declared.Circuit.{Circuit}
 use Rattle.records.specs.declared.Form.{Form}
-use Rattle.circuit.specs.declared.ReadAnswer.{ReadAnswer}
 use Rattle.records.specs.Record.{record_at, word_at, record_words}
 use Rattle.record_chain.specs.Chain.{chain_of, km_of, shape_of, padded}
 
@@ -50,20 +49,23 @@ no_circuit =
       deciles = replicate 576 0;
     }
 
-abbrev pub read_by : Outcome → Circuit → ReadAnswer
-read_by Outcome.Answered c = record { outcome = Outcome.Answered; circuit = c }
-read_by (Outcome.Refused r) c = record { outcome = Outcome.Refused r; circuit = no_circuit }
+abbrev pub read_by : Result Chain Refusal → (Chain → Circuit) → Result Circuit Refusal
+read_by (Ok c) circuit = Ok (circuit c)
+read_by (Err r) circuit = Err r
 
-unfoldable pub read_of : Form → List ℕ → ReadAnswer
-read_of o f = let c = chain_of o f in read_by c.outcome (circuit_of o f c)
+unfoldable pub read_of : Form → List ℕ → Result Circuit Refusal
+read_of o f = read_by (chain_of o f) (circuit_of o f)
+
+-- the circuit, for every case of the answer: at a refusal every number is zero
+abbrev pub circuit_in : Result Circuit Refusal → Circuit
+circuit_in (Ok c) = c
+circuit_in (Err r) = no_circuit
 
 -- What a file holds beside its circuit: the words that the form adds to its km points, then zeros, room for five points in
 -- all; beside a refusal all are zero. In the paper's form it is empty.
-abbrev pub beside_by : Form → Outcome → List ℕ → List ℕ
-beside_by o Outcome.Answered added = padded (5 * o.extra) added
-beside_by o (Outcome.Refused r) added = replicate (5 * o.extra) 0
+abbrev pub beside_by : Form → Result Chain Refusal → (Chain → List ℕ) → List ℕ
+beside_by o (Ok c) added = padded (5 * o.extra) (added c)
+beside_by o (Err r) added = replicate (5 * o.extra) 0
 
 unfoldable pub beside_of : Form → List ℕ → List ℕ
-beside_of o f =
-    let c = chain_of o f in
-    beside_by o c.outcome (numbers_of o f c.order 1 15 o.extra (km_of (record_at o f 0)))
+beside_of o f = beside_by o (chain_of o f) (λ c. numbers_of o f c.order 1 15 o.extra (km_of (record_at o f 0)))

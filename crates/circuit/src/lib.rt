@@ -14,7 +14,7 @@ ghost use Rattle.circuit.specs.Point.{point_number};
 
 pub use numbers::{all_zero, joined, nothing, read_deciles, read_point};
 use record_chain::follow;
-use refusal::Outcome;
+use refusal::Refusal;
 
 // A point is fifteen words: fi, yi, hi and Es fs, three each, hs, clat, clck. The words past the km points are no part of the
 // circuit: the reader leaves them zero, the writer does not look at them.
@@ -30,35 +30,12 @@ pub struct Circuit {
     pub deciles: [u32; 576],
 }
 
-// Beside a refusal every number of the circuit is zero.
-#[derive(Drop)]
-pub struct ReadAnswer {
-    pub outcome: Outcome,
-    pub circuit: Circuit,
-}
-
 // The circuit of a file, or where it is turned away. Records off the chain are not looked at.
-pub fn read(file: &[u8]) -> ReadAnswer
+pub fn read(file: &[u8]) -> Result<Circuit, Refusal>
     ensures { result ≡ read_of form64 file.now }
 {
-    let c = follow(file);
-    let outcome = c.outcome;
-    match outcome {
-        Outcome::Answered => {
-            let circuit = numbers::circuit(file, c);
-            ReadAnswer {
-                outcome: Outcome::Answered,
-                circuit,
-            }
-        }
-        Outcome::Refused(r) => {
-            let circuit = numbers::nothing();
-            ReadAnswer {
-                outcome: Outcome::Refused(r),
-                circuit,
-            }
-        }
-    }
+    let c = follow(file)?;
+    Ok(numbers::circuit(file, c))
 }
 
 // Whether a circuit has deciles to write: some number of the 576 is not +0.
@@ -86,10 +63,8 @@ pub fn decile_table(c: Circuit) -> [f32; 576]
     if numbers::all_zero(&d) {
         return table;
     }
-    let mut i = 0;
-    while i < 576 {
+    for i in 0..576 {
         table[i] = scalar::number(d[i]);
-        i += 1;
     }
     table
 }

@@ -1,7 +1,6 @@
 // The numbers of a circuit, read along its chain. `read_point`, `read_deciles` and `joined` take a record of any form; `points`,
 // `deciles` and `circuit` hand them those of a file with 64-byte records.
-ghost use Rattle.std.specs.Prelude.{◌≡◌, ℕ, ◌+◌, ◌*◌, ◌≤◌, length, get_or};
-ghost use Rattle.refusal.specs.declared.Outcome.{Outcome};
+ghost use Rattle.std.specs.Prelude.{◌≡◌, Ok, ℕ, ◌+◌, ◌*◌, ◌≤◌, length, get_or};
 ghost use Rattle.records.specs.Record.{form64, record_words, all_zero};
 ghost use Rattle.record_chain.specs.Chain.{chain_of, padded};
 ghost use Rattle.circuit.specs.Read.{numbers_of, circuit_by, circuit_of, no_circuit};
@@ -26,29 +25,22 @@ pub fn read_deciles(r: &[u8], out: &mut [u32])
 }
 
 // Whether every word is +0.
+// Stays: beside the one for bytes, one call of the library's generic method each; a shared one would need a trait for its zero.
 pub fn all_zero(s: &[u32]) -> bool
     ensures { result ≡ all_zero s.now }
 {
-    let mut i = 0;
-    while i < s.len() {
-        if s[i] != 0 {
-            return false;
-        }
-        i += 1;
-    }
-    true
+    s.iter().all(|w| *w == 0)
 }
 
+// Stays: the part of the file by its 64 bytes, as this form's readers are handed it; the wide form has the same loops by 128.
 fn points(file: &[u8], order: &[usize], km: usize) -> [u32; 75]
     requires { (km ≤ 5) × (length order.now ≡ 64) × ((i : ℕ) → 64 * get_or order.now i 0 + 64 ≤ length file.now) }
     ensures { result ≡ padded 75 (numbers_of form64 file.now order.now 1 0 15 km) }
 {
     let mut out = [0u32; 75];
-    let mut i = 0;
-    while i < km {
+    for i in 0..km {
         let n = order[1 + i];
         read_point(&file[64 * n..64 * n + 64], &mut out[15 * i..15 * i + 15]);
-        i += 1;
     }
     out
 }
@@ -58,11 +50,9 @@ fn deciles(file: &[u8], order: &[usize], from: usize, count: usize) -> [u32; 576
     ensures { result ≡ padded 576 (numbers_of form64 file.now order.now from 0 12 count) }
 {
     let mut out = [0u32; 576];
-    let mut i = 0;
-    while i < count {
+    for i in 0..count {
         let n = order[from + i];
         read_deciles(&file[64 * n..64 * n + 64], &mut out[12 * i..12 * i + 12]);
-        i += 1;
     }
     out
 }
@@ -85,7 +75,7 @@ pub fn joined(head: &[u8], points: [u32; 75], deciles: [u32; 576]) -> Circuit
 }
 
 pub fn circuit(file: &[u8], c: Chain) -> Circuit
-    requires { (c ≡ chain_of form64 file.now) × (c.outcome ≡ Outcome.Answered) }
+    requires { chain_of form64 file.now ≡ Ok c }
     ensures { result ≡ circuit_of form64 file.now c }
 {
     let head = &file[0..64];
@@ -97,7 +87,7 @@ pub fn circuit(file: &[u8], c: Chain) -> Circuit
     joined(head, points, deciles)
 }
 
-// The circuit beside a refusal.
+// The circuit before anything is read.
 pub fn nothing() -> Circuit
     ensures { result ≡ no_circuit }
 {

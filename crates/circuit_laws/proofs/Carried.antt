@@ -6,14 +6,13 @@ use mathlib.Core.List.{List, [], ◌∷◌}
 use native.Mathlib.Omega.{arith}
 use lib.ListN.{length, get_or, take, drop, replicate}
 use lib.Seq.{take_at}
-use Rattle.refusal.specs.declared.Outcome.{Outcome}
+use Rattle.std.specs.Prelude.{IsOk}
 use Rattle.record_chain.specs.declared.Chain.{Chain}
 use Rattle.circuit.specs.declared.Circuit.{Circuit}
 use Rattle.records.specs.declared.Form.{Form}
-use Rattle.circuit.specs.declared.ReadAnswer.{ReadAnswer}
 use Rattle.records.specs.Record.{Fit, record_at, word_at, record_words}
-use Rattle.record_chain.specs.Chain.{km_of, padded, chain_of}
-use Rattle.circuit.specs.Read.{numbers_of, circuit_of, read_of}
+use Rattle.record_chain.specs.Chain.{km_of, padded}
+use Rattle.circuit.specs.Read.{numbers_of, circuit_of, read_of, circuit_in}
 use Rattle.circuit.proofs.Lists.{length-numbers, length-read}
 use Rattle.record_chain.proofs.Followed.{Followed, followed, count-range}
 use Rattle.circuit.proofs.Answers.{read-answered}
@@ -53,7 +52,7 @@ module _ (o : Form) (f : List ℕ) (p : Each 256 f) where
   padded-small : (N : ℕ) (l : List ℕ) → Each (2 ^ 32) l → Each (2 ^ 32) (padded N l)
   padded-small N l q = each_append (2 ^ 32) l (replicate (N - length l) 0) q (each-zero (2 ^ 32) (N - length l) (omega arith))
 
-  module _ (k : Chain) (t : Followed o f k) (a : k.outcome ≡ Outcome.Answered) where
+  module _ (k : Chain) (t : Followed o f k) where
     km : ℕ
     km = km_of (record_at o f 0)
 
@@ -62,7 +61,7 @@ module _ (o : Form) (f : List ℕ) (p : Each 256 f) where
     whole =
         let r = record_at o f 0 in
         let b = record-bytes 0 in
-        let n = count-range o f k t a in
+        let n = count-range o f k t in
         let h = t.head.most in
         record {
           gcd = word_small r 8 b;
@@ -84,20 +83,19 @@ module _ (o : Form) (f : List ℕ) (p : Each 256 f) where
         rw (take_at X (replicate (75 - length X) 0) (15 * km) (length-numbers o f k.order 1 0 15 km)) refl
 
 -- so is what the reader answers
-pub whole-read : (o : Form) → Fit o → (f : List ℕ) → Each 256 f → (read_of o f).outcome ≡ Outcome.Answered
-    → Whole (read_of o f).circuit
+pub whole-read : (o : Form) → Fit o → (f : List ℕ) → Each 256 f → IsOk (read_of o f)
+    → Whole (circuit_in (read_of o f))
 whole-read o fit f b a =
-    let k = chain_of o f in
     let g = chain-answered o f a in
-    rw (read-answered o f k refl g) (whole o f b k (followed o fit f g) g)
+    rw (read-answered o f g.0 g.1) (whole o f b g.0 (followed o fit f g.0 g.1))
 
 pub carried : EveryForm (λ o. EveryForm (Carried o))
 carried o fit p fits f beside out n b a x e =
-    let k = chain_of o f in
     let g = chain-answered o f a in
-    let t = followed o fit f g in
+    let k = g.0 in
+    let t = followed o fit f k g.1 in
     let c = circuit_of o f k in
-    let i : (read_of o f).circuit ≡ c = ap (λ (r : ReadAnswer). r.circuit) (read-answered o f k refl g) in
+    let i : circuit_in (read_of o f) ≡ c = ap circuit_in (read-answered o f k g.1) in
     rw i
-    (subst (λ (d : Circuit). ReadBack p d (held_beside p c beside) (take n (left_of p c beside out))) (held o f b k t g)
-    (read-written p fits c beside out n (whole o f b k t g) x (rw i at e)))
+    (subst (λ (d : Circuit). ReadBack p d (held_beside p c beside) (take n (left_of p c beside out))) (held o f b k t)
+    (read-written p fits c beside out n (whole o f b k t) x (rw i at e)))

@@ -12,21 +12,20 @@ use lib.Seq.{get_or_at}
 use lib.Dec.{eqb, leb, ltb}
 use borrow.Author.Tests.{eqb-true}
 use Rattle.refusal.specs.declared.Refusal.{Refusal}
-use Rattle.refusal.specs.declared.Outcome.{Outcome}
 use Rattle.record_chain.specs.declared.Chain.{Chain}
-use Rattle.record_chain.specs.declared.Step.{Step}
+use Rattle.std.specs.Prelude.{Some, None, Result, Ok}
 use Rattle.records.specs.declared.Form.{Form}
 use Rattle.records.specs.Record.{record_at, next_of}
 use Rattle.record_chain.specs.Chain.{record_count, member, step_by, step_of, sound_by, answered_chain, walk}
 use Rattle.record_chain.proofs.Steps.{step-next}
-use Rattle.record_chain.proofs.Followed.{walk-ind}
+use Rattle.record_chain.proofs.Followed.{walk-ind, Unrefused}
 
-end_by : (b g : Bool) (m : ℕ) → step_by b g m ≡ Step.End → b ≡ true
+end_by : (b g : Bool) (m : ℕ) → step_by b g m ≡ Ok None → b ≡ true
 end_by true g m e = refl
 end_by false true m e = absurd (let z : ◌≡◌ {A = ℕ} 0 1 = cc in omega arith)
 end_by false false m e = absurd (let z : ◌≡◌ {A = ℕ} 0 1 = cc in omega arith)
 
-step_end : (o : Form) (f order : List ℕ) (at : ℕ) → step_of o f order at ≡ Step.End → next_of (record_at o f at) ≡ 0
+step_end : (o : Form) (f order : List ℕ) (at : ℕ) → step_of o f order at ≡ Ok None → next_of (record_at o f at) ≡ 0
 unfolding step_of
 step_end o f order at e =
     let m = next_of (record_at o f at) in
@@ -45,10 +44,13 @@ module _ (o : Form) (f : List ℕ) (total : ℕ) where
     last : get_or order (length order - 1) 0 ≡ at
     links : (i : ℕ) → i + 1 < length order → Link order i
 
-  -- beside a refusal nothing is said
-  pub record Ends (c : Chain) : Type 0 where
-    pub links : c.outcome ≡ Outcome.Answered → (i : ℕ) → i + 1 < c.count → Link c.order i
-    pub last : c.outcome ≡ Outcome.Answered → next_of (record_at o f (get_or c.order (c.count - 1) 0)) ≡ 0
+  pub record Ended (c : Chain) : Type 0 where
+    pub links : (i : ℕ) → i + 1 < c.count → Link c.order i
+    pub last : next_of (record_at o f (get_or c.order (c.count - 1) 0)) ≡ 0
+
+  -- of a refusal nothing is said
+  abbrev pub Ends : Result Chain Refusal → Type 0
+  Ends = Unrefused Ended
 
   moved : (order tail : List ℕ) (i : ℕ) → i + 1 < length order → Link order i → Link (order ++ tail) i
   moved order tail i h l =
@@ -56,7 +58,7 @@ module _ (o : Form) (f : List ℕ) (total : ℕ) where
       let b = get_or-append order tail 0 (i + 1) h in
       record { next = rw (a, b) l.next; sound = rw b l.sound }
 
-  goes : (left : ℕ) (order : List ℕ) (at n : ℕ) → Along (suc left) order at → step_of o f order at ≡ Step.To n
+  goes : (left : ℕ) (order : List ℕ) (at n : ℕ) → Along (suc left) order at → step_of o f order at ≡ Ok (Some n)
       → sound_by o (leb 48 left) (record_at o f n) ≡ true → Along left (order ++ (n ∷ [])) n
   goes left order at n p e t =
       let len : length (order ++ (n ∷ [])) ≡ length order + 1 = length-append order (n ∷ []) in
@@ -77,21 +79,17 @@ module _ (o : Form) (f : List ℕ) (total : ℕ) where
             (λ q. moved order (n ∷ []) i q (p.links i q)) (eq-or-lt_of_le {n = i + 1} {m = length order} (omega arith));
       }
 
-  never : (r : Refusal) → Outcome.Refused r ≡ Outcome.Answered → ⊥
-  never r e = let z : ◌≡◌ {A = ℕ} 0 1 = cc in omega arith
-
-  ends : (left : ℕ) (order : List ℕ) (at : ℕ) → Along left order at → step_of o f order at ≡ Step.End
+  ends : (left : ℕ) (order : List ℕ) (at : ℕ) → Along left order at → step_of o f order at ≡ Ok None
       → (eqb left 48 || eqb left 0) ≡ true → Ends (answered_chain order)
   ends left order at p e t =
       let z : List ℕ = replicate (64 - length order) 0 in
       record {
-        links = λ a i h. moved order z i h (p.links i h);
-        last =
-            λ a. rw (get_or-append order z 0 (length order - 1) (omega (arith, p.some)), p.last) (step_end o f order at e);
+        links = λ i h. moved order z i h (p.links i h);
+        last = rw (get_or-append order z 0 (length order - 1) (omega (arith, p.some)), p.last) (step_end o f order at e);
       }
 
   pub linked : (left at : ℕ) → 1 + left ≡ total → Ends (walk o f left (at ∷ []) at)
   linked left at h =
       walk-ind o f Along Ends goes ends
-      (λ r. record { links = λ a. absurd (never r a); last = λ a. absurd (never r a) }) left (at ∷ []) at
+      (λ r. tt) left (at ∷ []) at
       (record { long = h; some = omega arith; last = refl; links = λ i q. absurd (omega arith) })

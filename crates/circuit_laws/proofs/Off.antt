@@ -5,25 +5,26 @@ use mathlib.Core.Path.{◌≡◌, refl, ap, ◌∙◌}
 use mathlib.Core.List.{List, [], ◌∷◌, ◌++◌}
 use lib.ListN.{length, get_or, replicate}
 use Rattle.record_chain.specs.declared.Chain.{Chain}
-use Rattle.record_chain.specs.declared.Step.{Step}
+use Rattle.std.specs.Prelude.{Option, Some, None, Result, Ok, Err}
+use Rattle.refusal.specs.declared.Refusal.{Refusal}
 use Rattle.records.specs.declared.Form.{Form}
 use Rattle.records.specs.Record.{record_at}
-use Rattle.record_chain.specs.Chain.{length_good, head_good, km_of, step_of, by_step, walk, chain_of}
-use Rattle.circuit.specs.Read.{numbers_of, circuit_of, read_of, beside_of}
+use Rattle.record_chain.specs.Chain.{length_good, head_good, km_of, step_of, by_step, walk, chain_of, order_in}
+use Rattle.circuit.specs.Read.{numbers_of, circuit_of, read_by, read_of, beside_by, beside_of}
 use Rattle.record_chain.proofs.Steps.{step-to, step-next}
 use Rattle.record_chain.proofs.Followed.{walk-ind, by-pick}
 use Rattle.circuit_laws.specs.Laws.{OffChain}
 use Rattle.circuit_laws.specs.OnChain.{OnChain}
 use Rattle.circuit_laws.specs.OnChain.OnChain.{first, after}
 
-pub by-same : (s t : Step) (e : Chain) (on on' : ℕ → Chain) → s ≡ t → ((n : ℕ) → s ≡ Step.To n → on n ≡ on' n)
+pub by-same : (s t : Result (Option ℕ) Refusal) (e : Result Chain Refusal) (on on' : ℕ → Result Chain Refusal) → s ≡ t → ((n : ℕ) → s ≡ Ok (Some n) → on n ≡ on' n)
     → by_step s e on ≡ by_step t e on'
-by-same s t e on on' p h = by_one s h ∙ ap (λ (x : Step). by_step x e on') p
+by-same s t e on on' p h = by_one s h ∙ ap (λ (x : Result (Option ℕ) Refusal). by_step x e on') p
   where
-    by_one : (s : Step) → ((n : ℕ) → s ≡ Step.To n → on n ≡ on' n) → by_step s e on ≡ by_step s e on'
-    by_one Step.End h = refl
-    by_one (Step.To n) h = h n refl
-    by_one Step.Astray h = refl
+    by_one : (s : Result (Option ℕ) Refusal) → ((n : ℕ) → s ≡ Ok (Some n) → on n ≡ on' n) → by_step s e on ≡ by_step s e on'
+    by_one (Ok None) h = refl
+    by_one (Ok (Some n)) h = h n refl
+    by_one (Err r) h = refl
 
 abbrev pub All : (ℕ → Type 0) → List ℕ → Type 0
 All P [] = Unit
@@ -44,14 +45,14 @@ all-at P (x ∷ l) z p (suc i) = all-at P l z p.1 i
 
 -- what follows of files that agree on the first one's chain, whatever their lengths
 module _ (o : Form) (f g : List ℕ) (same : (n : ℕ) → OnChain o f n → record_at o f n ≡ record_at o g n) where
-  pub reached : (order : List ℕ) (at n : ℕ) → OnChain o f at → step_of o f order at ≡ Step.To n → OnChain o f n
+  pub reached : (order : List ℕ) (at n : ℕ) → OnChain o f at → step_of o f order at ≡ Ok (Some n) → OnChain o f n
   reached order at n on e = after on (step-next o f order at n e) (step-to o f order at n e)
 
   -- every record of the order is reached
-  pub reached-all : All (OnChain o f) (chain_of o f).order
+  pub reached-all : All (OnChain o f) (order_in (chain_of o f))
   unfolding chain_of
   reached-all =
-      let Q : Chain → Type 0 = λ c. All (OnChain o f) c.order in
+      let Q : Result Chain Refusal → Type 0 = λ c. All (OnChain o f) (order_in c) in
       let z = all-zeros (OnChain o f) 64 first in
       by-pick Q (length_good o f) _ _
       (λ e.
@@ -73,32 +74,39 @@ module _ (o : Form) (f g : List ℕ) (same : (n : ℕ) → OnChain o f n → rec
   same_numbers order from skip words (suc n) p =
       rw (same_numbers order from skip words n p, same (get_or order (from + n) 0) (all-at (OnChain o f) order first p (from + n)))
 
-  same-circuit : circuit_of o f (chain_of o f) ≡ circuit_of o g (chain_of o f)
+  same-circuit : (c : Chain) → All (OnChain o f) c.order → circuit_of o f c ≡ circuit_of o g c
   unfolding circuit_of
-  same-circuit =
-      let c = chain_of o f in
+  same-circuit c p =
       let km = km_of (record_at o g 0) in
       rw (
         same 0 first,
-        same_numbers c.order 1 0 15 km reached-all,
-        same_numbers c.order (1 + km) 0 12 (c.count - (1 + km)) reached-all,
+        same_numbers c.order 1 0 15 km p,
+        same_numbers c.order (1 + km) 0 12 (c.count - (1 + km)) p,
       )
       refl
+
+  read-by-same : (a : Result Chain Refusal) → All (OnChain o f) (order_in a)
+      → read_by a (circuit_of o f) ≡ read_by a (circuit_of o g)
+  read-by-same (Ok c) p = ap Ok (same-circuit c p)
+  read-by-same (Err r) p = refl
+
+  beside-by-same : (a : Result Chain Refusal) → All (OnChain o f) (order_in a)
+      → beside_by o a (λ c. numbers_of o f c.order 1 15 o.extra (km_of (record_at o f 0)))
+      ≡ beside_by o a (λ c. numbers_of o g c.order 1 15 o.extra (km_of (record_at o g 0)))
+  beside-by-same (Ok c) p = rw (same 0 first, same_numbers c.order 1 15 o.extra (km_of (record_at o g 0)) p) refl
+  beside-by-same (Err r) p = refl
 
   -- where the chains are the same, so is what is read along them
   pub read-so : chain_of o f ≡ chain_of o g → read_of o f ≡ read_of o g
   unfolding read_of
-  read-so e = rw (same-circuit, e) refl
+  read-so e =
+      read-by-same (chain_of o f) reached-all ∙ ap (λ (a : Result Chain Refusal). read_by a (circuit_of o g)) e
 
   pub beside-so : chain_of o f ≡ chain_of o g → beside_of o f ≡ beside_of o g
   unfolding beside_of
   beside-so e =
-      rw (
-        same 0 first,
-        same_numbers (chain_of o f).order 1 15 o.extra (km_of (record_at o g 0)) reached-all,
-        e,
-      )
-      refl
+      beside-by-same (chain_of o f) reached-all
+      ∙ ap (λ (a : Result Chain Refusal). beside_by o a (λ c. numbers_of o g c.order 1 15 o.extra (km_of (record_at o g 0)))) e
 
 -- files of one length
 module _ (o : Form) (f g : List ℕ) (long : length f ≡ length g)

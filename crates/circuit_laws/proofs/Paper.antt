@@ -5,10 +5,12 @@ use mathlib.Core.List.{List, [], ◌∷◌}
 use native.Mathlib.Omega.{arith}
 use native.Mathlib.Nat.{zero-mul}
 use lib.ListN.{length, take}
-use Rattle.refusal.specs.declared.Outcome.{Outcome}
+use Rattle.std.specs.Prelude.{Result, Ok, Err}
+use Rattle.refusal.specs.declared.Refusal.{Refusal}
+use Rattle.record_chain.specs.declared.Chain.{Chain}
 use Rattle.records.specs.Record.{form64, record_at}
 use Rattle.record_chain.specs.Chain.{km_of, chain_of}
-use Rattle.circuit.specs.Read.{numbers_of, read_of, beside_by, beside_of}
+use Rattle.circuit.specs.Read.{numbers_of, read_of, circuit_in, beside_by, beside_of}
 use Rattle.record_chain.proofs.Members.{length-padded}
 use Rattle.circuit.proofs.Lists.{length-numbers}
 use Rattle.records.proofs.Lists.{fit64}
@@ -23,16 +25,16 @@ no_words : (l : List ℕ) → length l ≡ 0 → l ≡ []
 no_words [] e = refl
 no_words (x ∷ l) e = absurd (omega arith)
 
-none-by : (a : Outcome) (l : List ℕ) → length l ≤ 0 → beside_by form64 a l ≡ []
-none-by Outcome.Answered l h = no_words _ (length-padded 0 l h)
-none-by (Outcome.Refused r) l h = refl
+none-by : (a : Result Chain Refusal) (l : Chain → List ℕ) → ((c : Chain) → length (l c) ≤ 0) → beside_by form64 a l ≡ []
+none-by (Ok c) l h = no_words _ (length-padded 0 (l c) (h c))
+none-by (Err r) l h = refl
 
 none_beside : (f : List ℕ) → beside_of form64 f ≡ []
 unfolding beside_of
 none_beside f =
-    let c = chain_of form64 f in
     let km = km_of (record_at form64 f 0) in
-    none-by c.outcome (numbers_of form64 f c.order 1 15 0 km) (omega (arith, length-numbers form64 f c.order 1 15 0 km))
+    none-by (chain_of form64 f) (λ c. numbers_of form64 f c.order 1 15 0 km)
+    (λ c. omega (arith, length-numbers form64 f c.order 1 15 0 km))
 
 none : Beside form64 []
 none = record { words = tt; five = refl }
@@ -45,9 +47,9 @@ paper-laws =
       written-length = written-length form64 fit64;
       written-in-form = λ c out n w e. written-in-form form64 fit64 c [] out n w none e;
       file-again =
-          λ f w. ap (file_of form64 (read_of form64 f).circuit) (sym (none_beside f)) ∙ (written_read form64 fit64 f w).file;
+          λ f w. ap (file_of form64 (circuit_in (read_of form64 f))) (sym (none_beside f)) ∙ (written_read form64 fit64 f w).file;
       answer-again = λ f out w h. (written_read form64 fit64 f w).answer out h;
       bytes-again =
-          λ f out w h. ap (λ (l : List ℕ). take (length f) (left_of form64 (read_of form64 f).circuit l out)) (sym (none_beside f))
+          λ f out w h. ap (λ (l : List ℕ). take (length f) (left_of form64 (circuit_in (read_of form64 f)) l out)) (sym (none_beside f))
           ∙ (written_read form64 fit64 f w).bytes out h;
     }

@@ -12,18 +12,15 @@ use lib.ListN.{length, get_or, take, drop, replicate, length-append, length-drop
 use lib.Seq.{drop-append-le, take-append-le, drop_at, take_at, take_all, get_or_at, take-add, length-take-le}
 use lib.Dec.{eqb, leb}
 use borrow.Author.Tests.{eq-eqb, ne_eqb, le-leb, lt-leb, lt-ltb, leb-true, leb-false}
-use Rattle.refusal.specs.declared.Outcome.{Outcome}
+use Rattle.std.specs.Prelude.{Some, None, Ok}
 use Rattle.circuit.specs.declared.Circuit.{Circuit}
-use Rattle.circuit.specs.declared.ReadAnswer.{ReadAnswer}
-use Rattle.record_chain.specs.declared.Step.{Step}
 use Rattle.records.specs.declared.Form.{Form}
 use Rattle.records.specs.Record.{Fit, record_at, half_at, word_at, next_of, record_words, all_zero}
-use Rattle.record_chain.specs.Chain.{head_good, record_count, km_of, shape_of, member, step_of, sound_by, answered_chain, padded, walk, chain_of}
+use Rattle.record_chain.specs.Chain.{head_good, record_count, km_of, shape_of, member, step_of, sound_by, chain_along, answered_chain, padded, walk, chain_of}
 use Rattle.circuit.specs.Read.{numbers_of, circuit_of, read_of, beside_of}
 use Rattle.records.proofs.Lists.{both, zeros, length-words}
 use Rattle.record_chain.proofs.Steps.{walk_end, walk-on}
 use Rattle.circuit.proofs.Answers.{read-answered}
-use Rattle.circuit_write.specs.declared.WriteAnswer.{WriteAnswer}
 use Rattle.record_put.specs.Bytes.{bytes_of, head_of, record_of}
 use Rattle.circuit_write.specs.Written.{good_of, write_answer_by, write_answer_of, left_of, point_at, extra_at, twelve_at, decile_records, records_of, next_index_by, next_in, entry_by, entry_of, entries_of, file_of}
 use Rattle.circuit_write.proofs.Cells.{part-within, length-entry, length-entries, length-file, records-most, size-most, write-good}
@@ -189,7 +186,7 @@ module _ (o : Form) (fit : Fit o) (c : Circuit) (beside : List ℕ) (w : Whole c
     twelve-long : (i : ℕ) → i < 48 → length (twelve_at c i) ≡ 12
     twelve-long i h = length-take-le 12 (drop (12 * i) c.deciles) (simp length-drop (omega (arith, w.all)))
 
-    step-file : (i : ℕ) → i + 1 < N → step_of o file (indices_below (i + 1)) i ≡ Step.To (i + 1)
+    step-file : (i : ℕ) → i + 1 < N → step_of o file (indices_below (i + 1)) i ≡ Ok (Some (i + 1))
     unfolding step_of
     step-file i h =
         let e : next_of (record_at o file i) ≡ i + 1
@@ -201,7 +198,7 @@ module _ (o : Form) (fit : Fit o) (c : Circuit) (beside : List ℕ) (w : Whole c
           fresh (i + 1) (i + 1) (omega arith),
         )
 
-    end-file : (i : ℕ) → i + 1 ≡ N → step_of o file (indices_below (i + 1)) i ≡ Step.End
+    end-file : (i : ℕ) → i + 1 ≡ N → step_of o file (indices_below (i + 1)) i ≡ Ok None
     unfolding step_of
     end-file i h =
         let e : next_of (record_at o file i) ≡ 0
@@ -360,7 +357,7 @@ module _ (o : Form) (fit : Fit o) (c : Circuit) (beside : List ℕ) (w : Whole c
         ap (λ (n : ℕ). padded 576 (numbers_of o file order (1 + c.km) 0 12 (n - (1 + c.km)))) (length_up N)
         ∙ deciles-file (all_zero c.deciles) refl
 
-    circuit-file : circuit_of o file (answered_chain (indices_below N)) ≡ held_circuit c
+    circuit-file : circuit_of o file (chain_along (indices_below N)) ≡ held_circuit c
     unfolding circuit_of held_circuit
     circuit-file =
         rw (
@@ -374,21 +371,19 @@ module _ (o : Form) (fit : Fit o) (c : Circuit) (beside : List ℕ) (w : Whole c
           deciles-counted,
         )
 
-    pub read-file : read_of o file ≡ record { outcome = Outcome.Answered; circuit = held_circuit c }
-    read-file =
-        read-answered o file (answered_chain (indices_below N)) (sym chain-file) refl
-        ∙ ap {B = ReadAnswer} (λ (x : Circuit). record { outcome = Outcome.Answered; circuit = x }) circuit-file
+    pub read-file : read_of o file ≡ Ok (held_circuit c)
+    read-file = read-answered o file (chain_along (indices_below N)) chain-file ∙ ap Ok circuit-file
 
     pub beside-file : beside_of o file ≡ held_beside o c beside
     unfolding beside_of held_beside
     beside-file = rw (chain-file, head-km, extras-back c.km (omega arith))
 
-written-by : (g r : Bool) (m n : ℕ) → write_answer_by g r m ≡ WriteAnswer.Written n → (g ≡ true) × (r ≡ true) × (m ≡ n)
+written-by : (g r : Bool) (m n : ℕ) → write_answer_by g r m ≡ Ok n → (g ≡ true) × (r ≡ true) × (m ≡ n)
 written-by true true m n e = (refl, refl, cc)
 written-by true false m n e = absurd (let z : ◌≡◌ {A = ℕ} 0 1 = cc in omega arith)
 written-by false r m n e = absurd (let z : ◌≡◌ {A = ℕ} 0 1 = cc in omega arith)
 
-module _ (o : Form) (fit : Fit o) (c : Circuit) (out : List ℕ) (n : ℕ) (e : write_answer_of o c out ≡ WriteAnswer.Written n) where
+module _ (o : Form) (fit : Fit o) (c : Circuit) (out : List ℕ) (n : ℕ) (e : write_answer_of o c out ≡ Ok n) where
   taken : (good_of c ≡ true) × (leb (o.size * records_of c) (length out) ≡ true) × (o.size * records_of c ≡ n)
   unfolding write_answer_of
   taken = written-by (good_of c) (leb (o.size * records_of c) (length out)) (o.size * records_of c) n e
@@ -440,6 +435,6 @@ read_same o fit c beside out n w x e z y =
     record {
       answer =
           r.answer
-          ∙ ap {B = ReadAnswer} (λ (x : Circuit). record { outcome = Outcome.Answered; circuit = x }) (held_same o fit c out n e w z);
+          ∙ ap Ok (held_same o fit c out n e w z);
       words = r.words ∙ beside_same o fit c out n e beside x y;
     }

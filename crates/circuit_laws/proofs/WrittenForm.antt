@@ -1,19 +1,18 @@
 -- The writer's files are in the writer's form: each entry is made of bytes, the chain is 0, 1, 2, .., and the deciles are
 -- written only where one is not +0. So `Written-Read` speaks of every file that the writer wrote.
 use Prim.Native.Nat.{ℕ, zero, suc, ◌+◌, ◌*◌, ◌-◌, ◌≤◌, ◌<◌}
-use mathlib.Core.Path.{◌≡◌, refl, ap}
+use mathlib.Core.Path.{◌≡◌, refl}
 use mathlib.Core.List.{List, [], ◌∷◌, ◌++◌}
 use mathlib.Core.Bool.{Bool, true, false}
 use native.Mathlib.Omega.{arith}
 use lib.ListN.{length, take, replicate}
 use lib.Seq.{take_at}
 use lib.Dec.{eqb, leb}
-use Rattle.refusal.specs.declared.Outcome.{Outcome}
+use Rattle.std.specs.Prelude.{Ok}
 use Rattle.circuit.specs.declared.Circuit.{Circuit}
-use Rattle.circuit.specs.declared.ReadAnswer.{ReadAnswer}
 use Rattle.records.specs.declared.Form.{Form}
 use Rattle.records.specs.Record.{Fit, all_zero}
-use Rattle.record_chain.specs.Chain.{record_count, chain_of}
+use Rattle.record_chain.specs.Chain.{record_count, order_in, count_in, chain_of}
 use Rattle.circuit.specs.Read.{read_of}
 use Rattle.record_put.specs.Bytes.{half_of, word_bytes, bytes_of, head_of, record_of}
 use Rattle.circuit_write.specs.Written.{point_at, extra_at, twelve_at, decile_records, records_of, next_in, entry_by, entry_of, entries_of, file_of}
@@ -73,13 +72,13 @@ module _ (o : Form) (fit : Fit o) (c : Circuit) (beside : List ℕ) (w : Whole c
     unfolding file_of
     file-bytes = entries-bytes (records_of c) (records_of c)
 
-    read_is : read_of o (file_of o c beside) ≡ record { outcome = Outcome.Answered; circuit = held_circuit c }
+    read_is : read_of o (file_of o c beside) ≡ Ok (held_circuit c)
     read_is = read-file o fit c beside w x some most form
 
     records-are : record_count o (file_of o c beside) ≡ records_of c
     records-are = count-file o fit c beside w x some most form
 
-    order_is : take (chain_of o (file_of o c beside)).count (chain_of o (file_of o c beside)).order ≡ indices_below (record_count o (file_of o c beside))
+    order_is : take (count_in (chain_of o (file_of o c beside))) (order_in (chain_of o (file_of o c beside))) ≡ indices_below (record_count o (file_of o c beside))
     order_is =
         let n = records_of c in
         rw (chain-file o fit c beside w x some most form, records-are)
@@ -94,7 +93,7 @@ module _ (o : Form) (fit : Fit o) (c : Circuit) (beside : List ℕ) (w : Whole c
     file-in-form =
         record {
           bytes = file-bytes;
-          read = ap {B = Outcome} (λ (a : ReadAnswer). a.outcome) read_is;
+          read = rw read_is refl;
           order = order_is;
           deciles = λ h. rw read_is (written-deciles (all_zero c.deciles) refl (rw (read_is, records-are) at h));
         }

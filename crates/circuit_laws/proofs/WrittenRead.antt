@@ -3,7 +3,7 @@
 use Prim.Native.Nat.{ℕ, zero, suc, ◌+◌, ◌*◌, ◌-◌, ◌≤◌, ◌<◌}
 use mathlib.Core.Path.{◌≡◌, refl, ap, ◌∙◌, sym, subst}
 use mathlib.Core.List.{List, [], ◌++◌, append_assoc, append-nil}
-use mathlib.Core.Bool.{Bool, true, false}
+use mathlib.Core.Bool.{Bool, true, false, true≢false}
 use mathlib.Core.Logic.{⊎_elim}
 use native.Mathlib.Omega.{arith}
 use native.Mathlib.Nat.{eq-or-lt_of_le, mul-zero}
@@ -11,19 +11,18 @@ use lib.ListN.{length, get_or, take, drop, length-drop, take-append-drop}
 use lib.Seq.{take_at, drop_at, take_all, take-add, length-take-le, get_or-take}
 use lib.Dec.{eqb, leb}
 use borrow.Author.Tests.{eq-eqb, ne_eqb, eqb-true, eqb-false, le-leb, lt-leb, leb-true, leb-false}
-use Rattle.refusal.specs.declared.Outcome.{Outcome}
+use Rattle.std.specs.Prelude.{Result, Ok, Err, IsOk}
+use Rattle.refusal.specs.declared.Refusal.{Refusal}
 use Rattle.record_chain.specs.declared.Chain.{Chain}
 use Rattle.circuit.specs.declared.Circuit.{Circuit}
-use Rattle.circuit.specs.declared.ReadAnswer.{ReadAnswer}
 use Rattle.records.specs.declared.Form.{Form}
 use Rattle.records.specs.Record.{Fit, record_at, kind_of, next_of, record_words, all_zero, fits}
 use Rattle.record_chain.specs.Chain.{record_count, km_of, sound_by, padded, chain_of}
-use Rattle.circuit.specs.Read.{numbers_of, circuit_of, read_by, read_of, beside_of}
+use Rattle.circuit.specs.Read.{numbers_of, circuit_of, read_by, read_of, circuit_in, beside_of}
 use Rattle.records.proofs.Lists.{both, length-after}
 use Rattle.circuit.proofs.Lists.{length-numbers}
 use Rattle.record_chain.proofs.Followed.{Followed, followed, count-range}
 use Rattle.circuit.proofs.Answers.{read-answered}
-use Rattle.circuit_write.specs.declared.WriteAnswer.{WriteAnswer}
 use Rattle.record_put.specs.Bytes.{record_of, head_of}
 use Rattle.circuit_write.specs.Written.{point_at, extra_at, twelve_at, records_of, next_in, entry_of, entries_of, file_of, good_of, write_answer_of, left_of}
 use Rattle.circuit_write.proofs.Cells.{part-within, write-good, good-is}
@@ -31,17 +30,17 @@ use Rattle.circuit_laws.specs.Forms.{Each, InForm, indices_below}
 use Rattle.circuit_laws.specs.Laws.{EveryForm, WrittenRead}
 use Rattle.circuit_laws.proofs.Back.{all-zeros}
 use Rattle.circuit_laws.proofs.ReadWritten.{each_take, each-drop, words-took, length_up, up_at}
-use Rattle.circuit_laws.proofs.Linked.{Ends, linked}
+use Rattle.circuit_laws.proofs.Linked.{Ended, Ends, linked}
 use Rattle.circuit_laws.proofs.Again.{record-again, head-again}
 
-outcome-by : (o : Outcome) (c : Circuit) → (read_by o c).outcome ≡ o
-outcome-by Outcome.Answered c = refl
-outcome-by (Outcome.Refused r) c = refl
+answered-by : (a : Result Chain Refusal) (g : Chain → Circuit) → IsOk (read_by a g) → (k : Chain) × (a ≡ Ok k)
+answered-by (Ok k) g e = (k, refl)
+answered-by (Err r) g e = absurd (true≢false (sym e))
 
--- the reader's outcome is the chain's
-pub chain-answered : (o : Form) (f : List ℕ) → (read_of o f).outcome ≡ Outcome.Answered → (chain_of o f).outcome ≡ Outcome.Answered
+-- a circuit is read along a chain that was followed
+pub chain-answered : (o : Form) (f : List ℕ) → IsOk (read_of o f) → (k : Chain) × (chain_of o f ≡ Ok k)
 unfolding read_of
-chain-answered o f a = sym (outcome-by (chain_of o f).outcome (circuit_of o f (chain_of o f))) ∙ a
+chain-answered o f a = answered-by (chain_of o f) (circuit_of o f) a
 
 -- the words of record i of those read
 numbers-at : (o : Form) (f order tail : List ℕ) (from skip words n i : ℕ) → i < n
@@ -67,10 +66,7 @@ unfolding fits
 fits_both kind words r e =
     let t = both (eqb (kind_of r) kind) (all_zero (drop (4 + 4 * words) r)) e in (eqb-true (kind_of r) kind t.0, t.1)
 
-module _ (o : Form) (fit : Fit o) (f : List ℕ) (w : InForm o f) where
-  abbrev k : Chain
-  k = chain_of o f
-
+module _ (o : Form) (fit : Fit o) (f : List ℕ) (w : InForm o f) (k : Chain) (e₀ : chain_of o f ≡ Ok k) where
   abbrev c : Circuit
   c = circuit_of o f k
 
@@ -80,14 +76,14 @@ module _ (o : Form) (fit : Fit o) (f : List ℕ) (w : InForm o f) where
   abbrev km : ℕ
   km = km_of (record_at o f 0)
 
-  answered : k.outcome ≡ Outcome.Answered
-  answered = chain-answered o f w.read
+  read_is : circuit_in (read_of o f) ≡ c
+  read_is = ap circuit_in (read-answered o f k e₀)
 
-  read_is : (read_of o f).circuit ≡ c
-  read_is = ap (λ (a : ReadAnswer). a.circuit) (read-answered o f k refl answered)
+  order-is : take k.count k.order ≡ indices_below N
+  order-is = rw e₀ at w.order
 
   t : Followed o f k
-  t = followed o fit f answered
+  t = followed o fit f k e₀
 
   length-is : length f ≡ o.size * N
   length-is = t.whole
@@ -97,24 +93,24 @@ module _ (o : Form) (fit : Fit o) (f : List ℕ) (w : InForm o f) where
 
   count-is : k.count ≡ N
   count-is =
-      let r = count-range o f k t answered in
+      let r = count-range o f k t in
       sym (length-take-le k.count k.order (omega (arith, r.1, t.long.room, km-most)))
-      ∙ ap length w.order ∙ length_up N
+      ∙ ap length order-is ∙ length_up N
 
   order-at : (j : ℕ) → j < N → get_or k.order j 0 ≡ j
   order-at j h =
       sym (get_or-take k.count k.order j 0 (omega (arith, count-is)))
-      ∙ ap (λ (l : List ℕ). get_or l j 0) (w.order ∙ sym (append-nil (indices_below N)))
+      ∙ ap (λ (l : List ℕ). get_or l j 0) (order-is ∙ sym (append-nil (indices_below N)))
       ∙ up_at N j [] h
 
-  ends : Ends o f (km + 49) k
-  ends = subst (Ends o f (km + 49)) (sym t.is) (linked o f (km + 49) (km + 48) 0 (omega arith))
+  ends : Ended o f (km + 49) k
+  ends = subst (Ends o f (km + 49)) t.is (linked o f (km + 49) (km + 48) 0 (omega arith))
 
   N-least : 1 + km ≤ N
-  N-least = omega (arith, (count-range o f k t answered).0, count-is)
+  N-least = omega (arith, (count-range o f k t).0, count-is)
 
   N-most : N ≤ km + 49
-  N-most = omega (arith, (count-range o f k t answered).1, count-is)
+  N-most = omega (arith, (count-range o f k t).1, count-is)
 
   km-is : c.km ≡ km
   unfolding circuit_of
@@ -146,7 +142,7 @@ module _ (o : Form) (fit : Fit o) (f : List ℕ) (w : InForm o f) where
       (λ (e : k.count ≡ km + 49).
       rw (deciles-met (omega (arith, e, count-is, km-is)), km-is) (omega (arith, e, count-is)))
       (λ (e : k.count + 48 ≡ km + 49).
-      rw (no-deciles (omega (arith, e)), km-is) (omega (arith, e, count-is))) (t.long.count answered)
+      rw (no-deciles (omega (arith, e)), km-is) (omega (arith, e, count-is))) t.long.count
 
   point-is : (i : ℕ) → i < km → point_at c i ≡ record_words (record_at o f (1 + i)) 15
   point-is i h =
@@ -156,7 +152,7 @@ module _ (o : Form) (fit : Fit o) (f : List ℕ) (w : InForm o f) where
 
   beside-is : beside_of o f ≡ padded (5 * o.extra) (numbers_of o f k.order 1 15 o.extra km)
   unfolding beside_of
-  beside-is = rw answered
+  beside-is = rw e₀
 
   extra-is : (i : ℕ) → i < km → extra_at o (beside_of o f) i ≡ drop 15 (record_words (record_at o f (1 + i)) (15 + o.extra))
   extra-is i h =
@@ -184,11 +180,11 @@ module _ (o : Form) (fit : Fit o) (f : List ℕ) (w : InForm o f) where
       let q : k.count - 1 ≡ i = omega (arith, count-is) in
       rw (eq-eqb (i + 1) N e)
       (ap (λ (j : ℕ). next_of (record_at o f j)) (sym (ap (λ (j : ℕ). get_or k.order j 0) q ∙ order-at i h))
-      ∙ ends.last answered))
+      ∙ ends.last))
       (λ (j : i + 1 < N).
       rw (ne_eqb (i + 1) N (λ z. omega arith))
       (ap (λ (m : ℕ). next_of (record_at o f m)) (sym (order-at i h))
-      ∙ (ends.links answered i (omega (arith, count-is))).next
+      ∙ (ends.links i (omega (arith, count-is))).next
       ∙ order-at (i + 1) j))
       (eq-or-lt_of_le {n = i + 1} {m = N} (omega arith))
 
@@ -199,7 +195,7 @@ module _ (o : Form) (fit : Fit o) (f : List ℕ) (w : InForm o f) where
       let g : get_or k.order (j - 1 + 1) 0 ≡ j = ap (λ (m : ℕ). get_or k.order m 0) q ∙ order-at j h in
       ap (λ (m : ℕ). sound_by o (leb 48 m) (record_at o f j)) (sym d)
       ∙ ap (λ (m : ℕ). sound_by o (leb 48 (km + 49 - 1 - (j - 1 + 1))) (record_at o f m)) (sym g)
-      ∙ (ends.links answered (j - 1) (omega (arith, count-is))).sound
+      ∙ (ends.links (j - 1) (omega (arith, count-is))).sound
 
   record-long : (i : ℕ) → i < N → length (record_at o f i) ≡ o.size
   record-long i h =
@@ -266,7 +262,7 @@ module _ (o : Form) (fit : Fit o) (f : List ℕ) (w : InForm o f) where
   unfolding file_of
   file-is = rw records-are (entries-are N (omega arith) ∙ take_all (o.size * N) f (omega (arith, length-is)))
 
-  file-again : file_of o (read_of o f).circuit (beside_of o f) ≡ f
+  file-again : file_of o (circuit_in (read_of o f)) (beside_of o f) ≡ f
   file-again = ap (λ (x : Circuit). file_of o x (beside_of o f)) read_is ∙ file-is
 
   good : good_of c ≡ true
@@ -278,15 +274,15 @@ module _ (o : Form) (fit : Fit o) (f : List ℕ) (w : InForm o f) where
     size_is : o.size * records_of c ≡ length f
     size_is = ap (λ (n : ℕ). o.size * n) records-are ∙ sym length-is
 
-    wrote : (WriteAnswer.Written (o.size * records_of c) ≡ write_answer_of o c out)
+    wrote : (Ok (o.size * records_of c) ≡ write_answer_of o c out)
         × (file_of o c (beside_of o f) ++ drop (o.size * records_of c) out ≡ left_of o c (beside_of o f) out)
     wrote = write-good o fit c (beside_of o f) out good (rw size_is room)
 
-    answer-again : write_answer_of o (read_of o f).circuit out ≡ WriteAnswer.Written (length f)
+    answer-again : write_answer_of o (circuit_in (read_of o f)) out ≡ Ok (length f)
     answer-again =
-        ap (λ (x : Circuit). write_answer_of o x out) read_is ∙ sym wrote.0 ∙ ap WriteAnswer.Written size_is
+        ap (λ (x : Circuit). write_answer_of o x out) read_is ∙ sym wrote.0 ∙ ap Ok size_is
 
-    bytes-again : take (length f) (left_of o (read_of o f).circuit (beside_of o f) out) ≡ f
+    bytes-again : take (length f) (left_of o (circuit_in (read_of o f)) (beside_of o f) out) ≡ f
     bytes-again =
         ap (λ (x : Circuit). take (length f) (left_of o x (beside_of o f) out)) read_is
         ∙ ap (take (length f)) (sym wrote.1)
@@ -295,4 +291,9 @@ module _ (o : Form) (fit : Fit o) (f : List ℕ) (w : InForm o f) where
 
 pub written_read : EveryForm WrittenRead
 written_read o fit f w =
-    record { file = file-again o fit f w; answer = answer-again o fit f w; bytes = bytes-again o fit f w }
+    let g = chain-answered o f w.read in
+    record {
+      file = file-again o fit f w g.0 g.1;
+      answer = answer-again o fit f w g.0 g.1;
+      bytes = bytes-again o fit f w g.0 g.1;
+    }

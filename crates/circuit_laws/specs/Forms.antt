@@ -1,12 +1,11 @@
 -- What the laws of the circuit file speak of: a circuit and the words beside it that are values of their types, what a file
 -- holds of them, and a file in the writer's form.
-use Rattle.std.specs.Prelude.{ℕ, zero, suc, ◌+◌, ◌*◌, ◌^◌, ◌<◌, ◌≡◌, List, [], ◌∷◌, ◌++◌, false, length, take}
+use Rattle.std.specs.Prelude.{ℕ, zero, suc, ◌+◌, ◌*◌, ◌^◌, ◌<◌, ◌≡◌, List, [], ◌∷◌, ◌++◌, false, length, take, IsOk}
 use Rattle.circuit.specs.declared.Circuit.{Circuit}
 use Rattle.records.specs.declared.Form.{Form}
-use Rattle.refusal.specs.declared.Outcome.{Outcome}
 use Rattle.records.specs.Record.{all_zero}
-use Rattle.record_chain.specs.Chain.{padded, record_count, chain_of}
-use Rattle.circuit.specs.Read.{read_of}
+use Rattle.record_chain.specs.Chain.{padded, record_count, order_in, count_in, chain_of}
+use Rattle.circuit.specs.Read.{read_of, circuit_in}
 
 -- each number of a list is below n
 abbrev pub Each : ℕ → List ℕ → Type 0
@@ -58,6 +57,6 @@ indices_below (suc n) = indices_below n ++ (n ∷ [])
 -- record, and deciles are there only if not all are +0.
 pub record InForm (o : Form) (f : List ℕ) : Type 0 where
   pub bytes : Each 256 f
-  pub read : (read_of o f).outcome ≡ Outcome.Answered
-  pub order : take (chain_of o f).count (chain_of o f).order ≡ indices_below (record_count o f)
-  pub deciles : (read_of o f).circuit.km + 1 < record_count o f → all_zero (read_of o f).circuit.deciles ≡ false
+  pub read : IsOk (read_of o f)
+  pub order : take (count_in (chain_of o f)) (order_in (chain_of o f)) ≡ indices_below (record_count o f)
+  pub deciles : (circuit_in (read_of o f)).km + 1 < record_count o f → all_zero (circuit_in (read_of o f)).deciles ≡ false

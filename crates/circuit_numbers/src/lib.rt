@@ -43,10 +43,8 @@ pub fn es_rows(words: &[u32; 75]) -> [f32; 20]
     ensures { result ≡ es_of words.now }
 {
     let mut es = [0.0; 20];
-    let mut n = 0;
-    while n < 20 {
+    for n in 0..20 {
         es[n] = circuit::point_number(words, n / 4, 9 + n % 4);
-        n += 1;
     }
     es
 }

@@ -6,6 +6,7 @@ ghost use Rattle.circuit_plot.specs.CircuitPlot.{profile_of, profiles_of, plot_o
 
 use circuit_sheet::Sheet;
 use layers::IonoState;
+use refusal::Refusal;
 
 // Fifty heights in km, and at each the square of the plasma frequency, in MHz².
 #[derive(Clone, Copy)]
@@ -14,7 +15,7 @@ pub struct Profile {
     pub fnsq: [f32; 50],
 }
 
-// Of a refused file, and of a slot that is not there, nothing is drawn, whatever the profile is.
+// Of a slot that is not there nothing is drawn, whatever the profile is.
 #[derive(Drop)]
 pub struct Plot {
     pub sheet: Sheet,
@@ -40,13 +41,12 @@ fn profiles(s: IonoState) -> [Profile; 3]
     [p0, p1, p2]
 }
 
-pub fn of_file(file: &[u8]) -> Plot
+// What is drawn of a file, or where it is turned away.
+pub fn of_file(file: &[u8]) -> Result<Plot, Refusal>
     ensures { result ≡ plot_of file.now }
 {
-    let sheet = circuit_sheet::of_file(file);
-    let a = circuit::read(file);
-    let c = a.circuit;
-    let s = circuit_sheet::slots(c);
-    let profiles = profiles(s);
-    Plot { sheet, profiles }
+    let c = circuit::read(file)?;
+    let sheet = circuit_sheet::of_file(file)?;
+    let profiles = profiles(circuit_sheet::slots(c));
+    Ok(Plot { sheet, profiles })
 }

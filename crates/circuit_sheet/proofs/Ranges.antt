@@ -1,6 +1,6 @@
 -- A file that is not turned away has 1 to 5 points, they make at most three slots, and at most 40 angles are scanned. So neither `from_layers` nor `ionset` nor a slot sheet is refused, and the MUF's lists reach: 5, 6, 8 and 10 are no answer of `sheet`.
 use mathlib.Core.Bool.{Bool, true, false, false≢true, cond}
-use mathlib.Core.Path.{◌≡◌, refl, sym, ap, ◌∙◌}
+use mathlib.Core.Path.{◌≡◌, refl, ap, ◌∙◌}
 use mathlib.Core.List.{List, map}
 use Prim.Native.Nat.{ℕ, zero, suc, ◌+◌, ◌-◌, ◌*◌, ◌≤◌, ◌<◌}
 use native.Mathlib.Omega.{arith}
@@ -11,14 +11,16 @@ use lib.ListN.{get_or, length, length-map, replicate, take}
 use lib.Ieee.{Float, binary32, of_bits}
 use Rattle.scalar.specs.F32.{◌-f◌, ◌<f◌, ◌≤f◌, ◌>f◌, ◌≥f◌, at}
 use Rattle.scalar.specs.Literals.{f0, f8_5, f10}
-use Rattle.refusal.specs.declared.Outcome.{Outcome}
+use Rattle.std.proofs.Common.{Result, Ok, Err}
+use Rattle.std.specs.Result.{result_unwrap_or}
+use Rattle.refusal.specs.declared.Refusal.{Refusal}
 use Rattle.record_chain.specs.declared.Chain.{Chain}
 use Rattle.records.specs.Record.{form64}
 use Rattle.record_chain.specs.Chain.{chain_of}
-use Rattle.circuit.specs.Read.{read_of, circuit_of, no_circuit}
+use Rattle.circuit.specs.Read.{read_of, circuit_of}
 use Rattle.records.proofs.Lists.{fit64}
-use Rattle.record_chain.proofs.Followed.{Followed, followed, count-range}
-use Rattle.circuit.proofs.Answers.{read-answered, read-refused, small}
+use Rattle.record_chain.proofs.Followed.{followed, count-range}
+use Rattle.circuit.proofs.Answers.{read-answered, read-refused, small_read}
 use Rattle.circuit.proofs.Lists.{length-read}
 use Rattle.layers.specs.Owners.{disowned}
 use Rattle.layer_rules.specs.Rules.{count_taken, too_close}
@@ -27,15 +29,15 @@ use Rattle.slots.specs.Ionset.{layer_from, two_slots, three_slots, assigned_by, 
 use Rattle.layers.specs.declared.IonoState.{IonoState}
 use Rattle.layers.specs.declared.LayerParams.{LayerParams}
 use Rattle.layers.specs.declared.LayerMuf.{LayerMuf}
-use Rattle.layers.specs.declared.StateAnswer.{StateAnswer}
+use Rattle.layers.specs.State.{zero_state}
 use Rattle.slots.proofs.Counts.{three-at-most}
 use Rattle.slots.proofs.OwnersLeft.{disowned-only}
 use Rattle.controlling_slot.specs.Controlling.{compare_e, controlling_of}
 use Rattle.controlling_slot.proofs.Small.{controlling-small}
 use Rattle.scan_angles.specs.Angles.{ANG, NANGX, distance_step_of, raised_by, raised_from, angle_count_by, angle_count_of, scan_by, sang_of}
 use Rattle.reflectrix.specs.Fobby.{room_for}
-use Rattle.scan_angles.specs.declared.Scan.{Scan}
 use Rattle.scan_angles.proofs.Counts.{step_range, nangx-range}
+use Rattle.slot_sheet.specs.declared.SlotSheet.{SlotSheet}
 use Rattle.slot_sheet.specs.Sheet.{slot_sheet_with, slot_sheet_of}
 use Rattle.muf.specs.Curmuf.{lists_reach}
 use Rattle.circuit_numbers.specs.Numbers.{params_of, column_of, shaped_of}
@@ -44,18 +46,16 @@ use Rattle.circuit_sheet.specs.CircuitSheet.{Circuit, slots_of}
 
 -- ---- points
 
-some-km : (f : List ℕ) (k : Chain) → k ≡ chain_of form64 f → (o : Outcome) → k.outcome ≡ o → (read_of form64 f).outcome ≡ Outcome.Answered → 1 ≤ (read_of form64 f).circuit.km
-unfolding circuit_of
-some-km f k e Outcome.Answered a q =
-    let h = (followed form64 fit64 f (ap (λ (c : Chain). c.outcome) (sym e) ∙ a)).head in
-    rw (read-answered form64 f k e a) h.some
-some-km f k e (Outcome.Refused r) a q =
-    let n : Outcome.Refused r ≡ Outcome.Answered = rw (read-refused form64 f k e r a) at q in
-    let z : ◌≡◌ {A = ℕ} 0 1 = cc in
-    absurd (omega arith)
+-- what is read is read along a chain
+read-by : (f : List ℕ) (a : Result Chain Refusal) (c : Circuit) → chain_of form64 f ≡ a → read_of form64 f ≡ Ok c → (k : Chain) × (chain_of form64 f ≡ Ok k) × (c ≡ circuit_of form64 f k)
+read-by f (Ok k) c e q = let r = read-answered form64 f k e in (k, e, cc)
+read-by f (Err r) c e q = let p = read-refused form64 f r e in absurd cc
 
-pub points-some : (f : List ℕ) → (read_of form64 f).outcome ≡ Outcome.Answered → 1 ≤ (read_of form64 f).circuit.km
-points-some f a = some-km f (chain_of form64 f) refl (chain_of form64 f).outcome refl a
+pub points-some : (f : List ℕ) (c : Circuit) → read_of form64 f ≡ Ok c → 1 ≤ c.km
+unfolding circuit_of
+points-some f c q =
+    let w = read-by f (chain_of form64 f) c refl q in
+    rw w.2 (followed form64 fit64 f w.0 w.1).head.some
 
 -- ---- slots
 
@@ -75,7 +75,7 @@ settled-kfx s (suc n) = let t = slots_settled s n in f1-kfx (at t.fi (3 * n + 1)
 disowned-kfx : (s : IonoState) → (disowned s).kfx ≡ s.kfx
 disowned-kfx s = ap (λ (r : IonoState). r.kfx) (disowned-only s)
 
-set-by : (b : Bool) (s : IonoState) → s.kfx ≤ 3 → (ionset_by b s).state.kfx ≤ 3
+set-by : (b : Bool) (s : IonoState) → s.kfx ≤ 3 → (result_unwrap_or (ionset_by b s) s).kfx ≤ 3
 set-by true s h = rw (disowned-kfx (slots_settled (assigned_of s) (assigned_of s).kfx), settled-kfx (assigned_of s) (assigned_of s).kfx) (three-at-most s)
 set-by false s h = h
 
@@ -84,7 +84,7 @@ unfolding points_set point_set
 points-kfx s params zero = refl
 points-kfx s params (suc n) = points-kfx s params n
 
-from-by : (b : Bool) (params : List LayerParams) (n : ℕ) → (from_layers_by b params n).state.kfx ≤ 3
+from-by : (b : Bool) (params : List LayerParams) (n : ℕ) → (result_unwrap_or (from_layers_by b params n) zero_state).kfx ≤ 3
 unfolding empty_of
 from-by true params n = rw (points-kfx (empty_of n) params n) (omega arith)
 from-by false params n = omega arith
@@ -92,7 +92,7 @@ from-by false params n = omega arith
 pub slots-most : (c : Circuit) → (slots_of c).kfx ≤ 3
 unfolding slots_of ionset_of shaped_of from_layers_of
 slots-most c =
-    let s = (from_layers_of (params_of c.points) c.km).state in
+    let s = result_unwrap_or (from_layers_of (params_of c.points) c.km) zero_state in
     set-by (count_taken s.km) (shaped_of s c.shape) (from-by (count_taken c.km) (params_of c.points) c.km)
 
 -- ---- angles
@@ -112,9 +112,9 @@ count_by true true amind i h = raised-most amind 40 0 (omega arith)
 count_by true false amind i h = h
 count_by false q amind i h = h
 
-abbrev Few : Scan → Type 0
-Few (Scan.Angles nang) = nang ≤ 40
-Few (Scan.Refused r) = Unit {0}
+abbrev Few : Result ℕ Refusal → Type 0
+Few (Ok nang) = nang ≤ 40
+Few (Err r) = Unit {0}
 
 scan-by : (b : Bool) (amind : Float) (id : ℕ) → eqb id 0 ≡ b → id ≤ 8 → Few (scan_by b amind id)
 unfolding angle_count_of
@@ -128,7 +128,7 @@ few : (gcdkm amind : Float) → Few (sang_of gcdkm amind)
 unfolding sang_of
 few gcdkm amind = scan-by (eqb (distance_step_of gcdkm) 0) amind (distance_step_of gcdkm) refl (step_range gcdkm)
 
-pub angles-most : (gcdkm amind : Float) (nang : ℕ) → sang_of gcdkm amind ≡ Scan.Angles nang → nang ≤ 40
+pub angles-most : (gcdkm amind : Float) (nang : ℕ) → sang_of gcdkm amind ≡ Ok nang → nang ≤ 40
 angles-most gcdkm amind nang e = rw e at (few gcdkm amind)
 
 -- ---- the controlling slot is one of those that the points make, and these are no more than the points
@@ -161,22 +161,21 @@ under-points true q km e f h = h
 under-points false true km e f h = let l = leb-false km 1 e in omega arith
 under-points false false km e f h = let l = leb-false km 3 f in omega arith
 
-set-by-km : (b : Bool) (t : IonoState) → b ≡ true → (ionset_by b t).state.kfx ≡ slots-for (leb t.km 1) (leb t.km 3)
+set-by-km : (b : Bool) (t : IonoState) → b ≡ true → (result_unwrap_or (ionset_by b t) t).kfx ≡ slots-for (leb t.km 1) (leb t.km 3)
 unfolding assigned_of
 set-by-km true t e = disowned-kfx (slots_settled (assigned_of t) (assigned_of t).kfx) ∙ settled-kfx (assigned_of t) (assigned_of t).kfx ∙ assigned-kfx (leb t.km 1) (leb t.km 3) t
 set-by-km false t e = absurd (false≢true e)
 
-set-kfx : (t : IonoState) (n : ℕ) → t.km ≡ n → count_taken n ≡ true → (ionset_of t).state.kfx ≡ slots-for (leb n 1) (leb n 3)
+set-kfx : (t : IonoState) (n : ℕ) → t.km ≡ n → count_taken n ≡ true → (result_unwrap_or (ionset_of t) t).kfx ≡ slots-for (leb n 1) (leb n 3)
 unfolding ionset_of
 set-kfx t n e k = set-by-km (count_taken t.km) t (ap count_taken e ∙ k) ∙ ap (λ (n : ℕ). slots-for (leb n 1) (leb n 3)) e
 
-deciles-by : (f : List ℕ) (k : Chain) → k ≡ chain_of form64 f → (o : Outcome) → k.outcome ≡ o → length (read_of form64 f).circuit.deciles ≡ 576
-unfolding circuit_of no_circuit
-deciles-by f k e Outcome.Answered a =
-    let t : Followed form64 f k = rw e (followed form64 fit64 f (rw (← e) a)) in
-    let n = count-range form64 f k t a in
-    rw (read-answered form64 f k e a) (length-read form64 f k.order _ 0 12 576 _ (omega arith))
-deciles-by f k e (Outcome.Refused r) a = rw (read-refused form64 f k e r a)
+deciles-read : (f : List ℕ) (c : Circuit) → read_of form64 f ≡ Ok c → length c.deciles ≡ 576
+unfolding circuit_of
+deciles-read f c q =
+    let w = read-by f (chain_of form64 f) c refl q in
+    let n = count-range form64 f w.0 (followed form64 fit64 f w.0 w.1) in
+    rw w.2 (length-read form64 f w.0.order _ 0 12 576 _ (omega arith))
 
 -- ---- so nothing is refused but by the file, `sang`, and the MUF's input, hops and deciles
 
@@ -185,48 +184,45 @@ unfolding points_set point_set
 points-km s params zero = refl
 points-km s params (suc n) = points-km s params n
 
-module _ (f : List ℕ) (answered : (read_of form64 f).outcome ≡ Outcome.Answered) where
-  abbrev circuit : Circuit
-  circuit = (read_of form64 f).circuit
+module _ (f : List ℕ) (c : Circuit) (answered : read_of form64 f ≡ Ok c) where
+  abbrev made : IonoState
+  made = result_unwrap_or (from_layers_of (params_of c.points) c.km) zero_state
 
-  abbrev made : StateAnswer
-  made = from_layers_of (params_of circuit.points) circuit.km
-
-  taken : count_taken circuit.km ≡ true
+  taken : count_taken c.km ≡ true
   unfolding count_taken
-  taken = rw (le-leb _ _ (points-some f answered), le-leb _ _ (small form64 fit64 f).0)
+  taken = rw (le-leb _ _ (points-some f c answered), le-leb _ _ (small_read form64 fit64 f c answered).0)
 
-  pub made-answered : made.outcome ≡ Outcome.Answered
+  pub made-answered : from_layers_of (params_of c.points) c.km ≡ Ok (points_set (empty_of c.km) (params_of c.points) c.km)
   unfolding from_layers_of
   made-answered = rw taken
 
-  pub set-answered : (ionset_of (shaped_of made.state circuit.shape)).outcome ≡ Outcome.Answered
+  pub set-answered : (t : IonoState) × (ionset_of (shaped_of made c.shape) ≡ Ok t)
   unfolding ionset_of shaped_of from_layers_of empty_of
-  set-answered = rw (taken, points-km (empty_of circuit.km) (params_of circuit.points) circuit.km, taken)
+  set-answered = rw (taken, points-km (empty_of c.km) (params_of c.points) c.km, taken) (_, refl)
 
-  made-km : (shaped_of made.state circuit.shape).km ≡ circuit.km
+  made-km : (shaped_of made c.shape).km ≡ c.km
   unfolding shaped_of from_layers_of empty_of
-  made-km = rw taken (points-km (empty_of circuit.km) (params_of circuit.points) circuit.km)
+  made-km = rw taken (points-km (empty_of c.km) (params_of c.points) c.km)
 
-  slots-are : (slots_of circuit).kfx ≡ slots-for (leb circuit.km 1) (leb circuit.km 3)
+  slots-are : (slots_of c).kfx ≡ slots-for (leb c.km 1) (leb c.km 3)
   unfolding slots_of
-  slots-are = set-kfx _ circuit.km made-km taken
+  slots-are = set-kfx _ c.km made-km taken
 
-  controlling-under : controlling_of (slots_of circuit) < circuit.km
+  controlling-under : controlling_of (slots_of c) < c.km
   controlling-under =
-      let p = leb circuit.km 1 in
-      let q = leb circuit.km 3 in
-      omega (arith, controlling-by p q (slots_of circuit) slots-are, under-points p q circuit.km refl refl (points-some f answered))
+      let p = leb c.km 1 in
+      let q = leb c.km 3 in
+      omega (arith, controlling-by p q (slots_of c) slots-are, under-points p q c.km refl refl (points-some f c answered))
 
-  pub lists-reach : lists_reach (controlling_of (slots_of circuit)) (length (map (of_bits binary32) circuit.deciles)) (length (take circuit.km (column_of circuit.points 13))) (length (take circuit.km (column_of circuit.points 14))) ≡ true
+  pub lists-reach : lists_reach (controlling_of (slots_of c)) (length (map (of_bits binary32) c.deciles)) (length (take c.km (column_of c.points 13))) (length (take c.km (column_of c.points 14))) ≡ true
   unfolding lists_reach
   lists-reach =
-      let d = length-map circuit.deciles (of_bits binary32) ∙ deciles-by f (chain_of form64 f) refl (chain_of form64 f).outcome refl in
-      let m = (small form64 fit64 f).0 in
+      let d = length-map c.deciles (of_bits binary32) ∙ deciles-read f c answered in
+      let m = (small_read form64 fit64 f c answered).0 in
       let u = controlling-under in
-      rw (eq-eqb _ _ d, ← column-lent circuit.points 13 _ circuit.km refl m, ← column-lent circuit.points 14 _ circuit.km refl m, lt-ltb _ _ u)
+      rw (eq-eqb _ _ d, ← column-lent c.points 13 _ c.km refl m, ← column-lent c.points 14 _ c.km refl m, lt-ltb _ _ u)
 
 pub sheet-answered : (s : IonoState) (k nang : ℕ) (lines : List LayerMuf) → k ≤ 2 → nang ≤ 40
-    → (slot_sheet_of s k nang lines (replicate 1200 (pos 0))).outcome ≡ Outcome.Answered
+    → (a : SlotSheet) × (slot_sheet_of s k nang lines (replicate 1200 (pos 0)) ≡ Ok a)
 unfolding slot_sheet_with room_for
-sheet-answered s k nang lines h n = rw (le-leb k 2 h, le-leb nang 40 n, le-leb (30 * nang) 1200 (omega arith))
+sheet-answered s k nang lines h n = rw (le-leb k 2 h, le-leb nang 40 n, le-leb (30 * nang) 1200 (omega arith)) (_, refl)

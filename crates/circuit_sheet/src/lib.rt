@@ -2,46 +2,40 @@
 #![tactic(auto)]
 
 ghost use Rattle.std.specs.Prelude.{◌≡◌, ◌≤◌};
-ghost use Rattle.circuit_sheet.specs.CircuitSheet.{slots_of, muf_of, no_slot, slot_rows_of, refused_circuit_sheet, answered_of, scanned_of, circuit_sheet_of, sheet_of};
+ghost use Rattle.circuit_sheet.specs.CircuitSheet.{slots_of, muf_of, no_slot, slot_rows_of, answered_of, circuit_sheet_of, sheet_of};
 
 use layers::{IonoState, LayerMuf};
 use muf::{MufAnswer, MufHour};
 use reflectrix::Ionogram;
-use refusal::{Outcome, Refusal};
-use scan_angles::Scan;
-use shapes::HeightMark;
+use refusal::Refusal;
+use shapes::Mark;
 
 // What the sheet has of a slot: its ionogram, and the marks of its fifty heights.
 #[derive(Clone, Copy)]
 pub struct SlotRows {
     pub ion: Ionogram,
-    pub marks: [HeightMark; 50],
+    pub marks: [Mark; 50],
 }
 
-// Beside a refusal there is no slot, and every number is +0; so are the rows of a slot that is not there,
-// and it has no marks.
+// The rows of a slot that is not there are +0, and it has no marks.
 #[derive(Clone, Copy)]
 pub struct Sheet {
-    pub outcome: Outcome,
     pub hour: MufHour,
     pub slots: usize,
     pub rows: [SlotRows; 3],
 }
 
-// The slots as `ionset` leaves them.
+// The slots as `ionset` leaves them. Of a circuit with no points, which no file has, they are those of the empty state.
 pub fn slots(c: circuit::Circuit) -> IonoState
     ensures { result ≡ slots_of c }
 {
-    let words = c.points;
-    let points = circuit_numbers::params(&words);
-    let made = slots::from_layers(points, c.km);
-    let s = made.state;
-    let s = circuit_numbers::shaped(s, c.shape);
-    let set = slots::ionset(s);
-    set.state
+    let points = circuit_numbers::params(&c.points);
+    let made = slots::from_layers(points, c.km).unwrap_or(layers::zero_state());
+    let s = circuit_numbers::shaped(made, c.shape);
+    slots::ionset(s).unwrap_or(s)
 }
 
-fn circuit_muf(c: circuit::Circuit, s: IonoState) -> MufAnswer
+fn circuit_muf(c: circuit::Circuit, s: IonoState) -> Result<MufAnswer, Refusal>
     requires { c.km ≤ 5 }
     ensures { result ≡ muf_of c s }
 {
@@ -69,28 +63,16 @@ fn no_slot() -> SlotRows
 fn slot_rows(s: IonoState, k: usize, nang: usize, lines: [LayerMuf; 4]) -> SlotRows
     ensures { result ≡ slot_rows_of s k nang lines }
 {
-    if k < s.kfx {
-        let mut cells = [0i32; 1200];
-        let a = slot_sheet::slot_sheet(s, k, nang, lines, &mut cells);
+    if k >= s.kfx {
+        return no_slot();
+    }
+    let mut cells = [0i32; 1200];
+    if let Ok(a) = slot_sheet::slot_sheet(s, k, nang, lines, &mut cells) {
         let ion = a.ion;
         let marks = a.marks;
         return SlotRows { ion, marks };
     }
     no_slot()
-}
-
-fn refused(r: Refusal) -> Sheet
-    ensures { result ≡ refused_circuit_sheet r }
-{
-    let m = muf::refused(layers::zero_state(), r);
-    let hour = m.hour;
-    let none = no_slot();
-    Sheet {
-        outcome: Outcome::Refused(r),
-        hour,
-        slots: 0,
-        rows: [none, none, none],
-    }
 }
 
 fn answered(s: IonoState, nang: usize, hour: MufHour) -> Sheet
@@ -103,50 +85,26 @@ fn answered(s: IonoState, nang: usize, hour: MufHour) -> Sheet
         slot_rows(s, 2, nang, lines),
     ];
     Sheet {
-        outcome: Outcome::Answered,
         hour,
         slots: s.kfx,
         rows,
     }
 }
 
-// Once the angles are counted.
-fn scanned(c: circuit::Circuit, nang: usize) -> Sheet
-    requires { c.km ≤ 5 }
-    ensures { result ≡ scanned_of c nang }
-{
-    let s = slots(c);
-    let m = circuit_muf(c, s);
-    let outcome = m.outcome;
-    let hour = m.hour;
-    match outcome {
-        Outcome::Answered => answered(s, nang, hour),
-        Outcome::Refused(r) => refused(r),
-    }
-}
-
-fn of_circuit(c: circuit::Circuit) -> Sheet
+fn of_circuit(c: circuit::Circuit) -> Result<Sheet, Refusal>
     requires { c.km ≤ 5 }
     ensures { result ≡ circuit_sheet_of c }
 {
-    let gcdkm = scalar::number(c.gcdkm);
-    let amind = scalar::number(c.amind);
-    let scan = scan_angles::sang(gcdkm, amind);
-    match scan {
-        Scan::Angles(nang) => scanned(c, nang),
-        Scan::Refused(r) => refused(r),
-    }
+    let nang = scan_angles::sang(scalar::number(c.gcdkm), scalar::number(c.amind))?;
+    let s = slots(c);
+    let m = circuit_muf(c, s)?;
+    Ok(answered(s, nang, m.hour))
 }
 
 // The sheet of a file, or where it is turned away.
-pub fn of_file(file: &[u8]) -> Sheet
+pub fn of_file(file: &[u8]) -> Result<Sheet, Refusal>
     ensures { result ≡ sheet_of file.now }
 {
-    let a = circuit::read(file);
-    let outcome = a.outcome;
-    let c = a.circuit;
-    match outcome {
-        Outcome::Answered => of_circuit(c),
-        Outcome::Refused(r) => refused(r),
-    }
+    let c = circuit::read(file)?;
+    of_circuit(c)
 }

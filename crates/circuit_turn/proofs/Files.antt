@@ -10,13 +10,14 @@ use lib.ListN.{length, drop}
 use lib.Seq.{sets-eq}
 use lib.Dec.{leb}
 use borrow.Author.Tests.{leb-true}
-use Rattle.refusal.specs.declared.Outcome.{Outcome}
+use Rattle.std.specs.Prelude.{Result, Ok, Err, IsOk}
+use Rattle.std.specs.Result.{result_unwrap_or}
+use Rattle.refusal.specs.declared.Refusal.{Refusal}
 use Rattle.lines.specs.Text.{Clipped}
 use Rattle.circuit.specs.declared.Circuit.{Circuit}
 use Rattle.records.specs.declared.Form.{Form}
 use Rattle.records.specs.Record.{Fit, all_zero}
-use Rattle.record_chain.specs.Chain.{chain_of}
-use Rattle.circuit.specs.Read.{read_of, circuit_of}
+use Rattle.circuit.specs.Read.{read_of, circuit_of, circuit_in}
 use Rattle.records.proofs.Lists.{both}
 use Rattle.record_chain.proofs.Followed.{followed}
 use Rattle.circuit.proofs.Answers.{read-answered}
@@ -37,17 +38,25 @@ good-most c g =
     leb-true c.km 5 (both (leb c.km 5) (leb c.shape 1) t.1).0
 
 -- what is read has km and shape in range
-pub read-range : (o : Form) → Fit o → (f : List ℕ) → (read_of o f).outcome ≡ Outcome.Answered
-    → (1 ≤ (read_of o f).circuit.km) × ((read_of o f).circuit.km ≤ 5) × ((read_of o f).circuit.shape ≤ 1)
+pub read-range : (o : Form) → Fit o → (f : List ℕ) → IsOk (read_of o f)
+    → (1 ≤ (circuit_in (read_of o f)).km) × ((circuit_in (read_of o f)).km ≤ 5) × ((circuit_in (read_of o f)).shape ≤ 1)
 unfolding circuit_of
 read-range o fit f a =
     let g = chain-answered o f a in
-    let h = (followed o fit f g).head in
-    rw (read-answered o f (chain_of o f) refl g) (h.some, h.most, h.form)
+    let h = (followed o fit f g.0 g.1).head in
+    rw (read-answered o f g.0 g.1) (h.some, h.most, h.form)
 
-pub read-good : (o : Form) → Fit o → (f : List ℕ) → (read_of o f).outcome ≡ Outcome.Answered
-    → good_of (read_of o f).circuit ≡ true
-read-good o fit f a = let t = read-range o fit f a in good-is (read_of o f).circuit t.0 t.1 t.2
+pub read-good : (o : Form) → Fit o → (f : List ℕ) → IsOk (read_of o f)
+    → good_of (circuit_in (read_of o f)) ≡ true
+read-good o fit f a = let t = read-range o fit f a in good-is (circuit_in (read_of o f)) t.0 t.1 t.2
+
+pub good_read : (o : Form) → Fit o → (f : List ℕ) (c : Circuit) → read_of o f ≡ Ok c → good_of c ≡ true
+good_read o fit f c e = rw e at (read-good o fit f (rw e refl))
+
+-- what the writer says it wrote
+pub unwrapped : (a : Result ℕ Refusal) → result_unwrap_or a 0 ≡ length_in a
+unwrapped (Ok n) = refl
+unwrapped (Err r) = refl
 
 module _ (o : Form) (fit : Fit o) (c : Circuit) (g : good_of c ≡ true) where
   pub size-most : o.size * records_of c ≤ o.size * 54

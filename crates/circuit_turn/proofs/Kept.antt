@@ -5,13 +5,12 @@ use mathlib.Core.List.{List, ◌∷◌}
 use native.Mathlib.Omega.{arith}
 use native.Mathlib.Nat.{sub-zero, suc-sub-suc}
 use lib.ListN.{take, replicate, length-replicate}
-use Rattle.refusal.specs.declared.Outcome.{Outcome}
 use Rattle.circuit.specs.declared.Circuit.{Circuit}
 use Rattle.records.specs.declared.Form.{Form}
 use Rattle.records.specs.Record.{Fit}
 use Rattle.record_chain.specs.Chain.{padded}
-use Rattle.circuit.specs.Read.{read_of}
-use Rattle.circuit_write.specs.declared.WriteAnswer.{WriteAnswer}
+use Rattle.circuit.specs.Read.{read_of, circuit_in}
+use Rattle.std.specs.Prelude.{Ok, IsOk}
 use Rattle.circuit_write.specs.Written.{records_of, file_of, write_answer_of}
 use Rattle.circuit_write.proofs.Cells.{write-good}
 use Rattle.circuit_laws.specs.Forms.{Each, Beside, held_beside, InForm}
@@ -23,10 +22,10 @@ use Rattle.wide_circuit.specs.Wide.{form128}
 use Rattle.circuit_turn.proofs.Files.{read-range, read-good}
 
 module _ (o : Form) (fit : Fit o) (p : Form) (fits : Fit p) (f beside : List ℕ) (bytes : Each 256 f)
-    (a : (read_of o f).outcome ≡ Outcome.Answered) (x : Beside p beside)
+    (a : IsOk (read_of o f)) (x : Beside p beside)
   where
     c : Circuit
-    c = (read_of o f).circuit
+    c = (circuit_in (read_of o f))
 
     n : ℕ
     n = p.size * records_of c
@@ -34,20 +33,20 @@ module _ (o : Form) (fit : Fit o) (p : Form) (fits : Fit p) (f beside : List ℕ
     out : List ℕ
     out = replicate n 0
 
-    written : write_answer_of p c out ≡ WriteAnswer.Written n
+    written : write_answer_of p c out ≡ Ok n
     unfolding c n out
     written = sym (write-good p fits c beside out (read-good o fit f a) (omega (arith, length-replicate {A = ℕ} n 0))).0
 
-    pub kept : ReadBack p (read_of o f).circuit (held_beside p (read_of o f).circuit beside) (file_of p (read_of o f).circuit beside)
+    pub kept : ReadBack p (circuit_in (read_of o f)) (held_beside p (circuit_in (read_of o f)) beside) (file_of p (circuit_in (read_of o f)) beside)
     unfolding c
     kept =
         subst (λ (g : List ℕ). ReadBack p c (held_beside p c beside) g) (written-file p fits c out n written beside)
         (carried o fit p fits f beside out n bytes a x written)
 
-    pub kept-in-form : InForm p (file_of p (read_of o f).circuit beside)
+    pub kept-in-form : InForm p (file_of p (circuit_in (read_of o f)) beside)
     kept-in-form =
         let t = read-range o fit f a in
-        file-in-form p fits (read_of o f).circuit beside (whole-read o fit f bytes a) x t.0 t.1 t.2
+        file-in-form p fits (circuit_in (read_of o f)) beside (whole-read o fit f bytes a) x t.0 t.1 t.2
 
 -- F2M3 that is +0 at five points
 pub zero-beside : Beside form128 (replicate 5 0)

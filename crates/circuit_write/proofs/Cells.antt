@@ -12,7 +12,7 @@ use lib.Dec.{eqb, leb}
 use borrow.Author.Tests.{eq-eqb, ne_eqb, le-leb, lt-leb}
 use Rattle.refusal.specs.declared.Refusal.{Refusal}
 use Rattle.circuit.specs.declared.Circuit.{Circuit}
-use Rattle.circuit_write.specs.declared.WriteAnswer.{WriteAnswer}
+use Rattle.std.specs.Prelude.{Ok, Err}
 use Rattle.records.specs.declared.Form.{Form}
 use Rattle.records.specs.Record.{Fit, all_zero}
 use Rattle.record_put.specs.Bytes.{bytes_of, record_of, head_of}
@@ -110,17 +110,17 @@ module _ (o : Form) (fit : Fit o) (c : Circuit) (beside : List ℕ) where
   -- the answer and the cells left, by the tests
   module _ (out : List ℕ) where
     pub write-bad : good_of c ≡ false
-        → (WriteAnswer.Refused Refusal.RecordZero ≡ write_answer_of o c out) × (out ≡ left_of o c beside out)
+        → (Err Refusal.RecordZero ≡ write_answer_of o c out) × (out ≡ left_of o c beside out)
     unfolding write_answer_of left_of
     write-bad e = (rw e, rw e)
 
     pub write-small : good_of c ≡ true → length out < o.size * records_of c
-        → (WriteAnswer.Refused Refusal.Length ≡ write_answer_of o c out) × (out ≡ left_of o c beside out)
+        → (Err Refusal.Length ≡ write_answer_of o c out) × (out ≡ left_of o c beside out)
     unfolding write_answer_of left_of
     write-small e h = let t = lt-leb (o.size * records_of c) (length out) h in (rw (e, t), rw (e, t))
 
     pub write-good : good_of c ≡ true → o.size * records_of c ≤ length out
-        → (WriteAnswer.Written (o.size * records_of c) ≡ write_answer_of o c out)
+        → (Ok (o.size * records_of c) ≡ write_answer_of o c out)
         × (file_of o c beside ++ drop (o.size * records_of c) out ≡ left_of o c beside out)
     unfolding write_answer_of left_of
     write-good e h =

@@ -1,12 +1,10 @@
 -- The file that holds a circuit, and what the writer answers and leaves (the paper, "Circuit file").
-use Rattle.std.specs.Prelude.{ℕ, zero, suc, ◌+◌, ◌*◌, ◌-◌, List, [], ◌++◌, Bool, true, false, ◌&&◌, length, take, drop, eqb, leb}
+use Rattle.std.specs.Prelude.{ℕ, zero, suc, ◌+◌, ◌*◌, ◌-◌, List, [], ◌++◌, Bool, true, false, ◌&&◌, length, take, drop, eqb, leb, Result, Ok, Err}
 use Rattle.refusal.specs.declared.Refusal.{Refusal}
-use Rattle.refusal.specs.Number.{number_of}
 use Rattle.circuit.specs.declared.Circuit.{Circuit}
 use Rattle.records.specs.declared.Form.{Form}
 use Rattle.records.specs.Record.{all_zero}
 use Rattle.record_put.specs.Bytes.{record_of, head_of}
-use Rattle.circuit_write.specs.declared.WriteAnswer.{WriteAnswer}
 
 -- the point, the words that the form adds to it, and the twelve deciles of a place, counted from 0
 abbrev pub point_at : Circuit → ℕ → List ℕ
@@ -59,23 +57,19 @@ size_of o c = o.size * records_of c
 abbrev pub good_of : Circuit → Bool
 good_of c = leb 1 c.km && (leb c.km 5 && leb c.shape 1)
 
-abbrev pub write_answer_by : Bool → Bool → ℕ → WriteAnswer
-write_answer_by false room n = WriteAnswer.Refused Refusal.RecordZero
-write_answer_by true false n = WriteAnswer.Refused Refusal.Length
-write_answer_by true true n = WriteAnswer.Written n
+abbrev pub write_answer_by : Bool → Bool → ℕ → Result ℕ Refusal
+write_answer_by false room n = Err Refusal.RecordZero
+write_answer_by true false n = Err Refusal.Length
+write_answer_by true true n = Ok n
 
 -- km and shape first, then the room lent
-unfoldable pub write_answer_of : Form → Circuit → List ℕ → WriteAnswer
+unfoldable pub write_answer_of : Form → Circuit → List ℕ → Result ℕ Refusal
 write_answer_of o c out = write_answer_by (good_of c) (leb (size_of o c) (length out)) (size_of o c)
 
--- the paper's number, and the bytes written, for every case of the answer
-abbrev pub write_number : WriteAnswer → ℕ
-write_number (WriteAnswer.Written n) = 0
-write_number (WriteAnswer.Refused r) = number_of r
-
-abbrev pub length_in : WriteAnswer → ℕ
-length_in (WriteAnswer.Written n) = n
-length_in (WriteAnswer.Refused r) = 0
+-- the bytes written, for every case of the answer
+abbrev pub length_in : Result ℕ Refusal → ℕ
+length_in (Ok n) = n
+length_in (Err r) = 0
 
 -- the cells lent, afterwards: as many as were written hold the file, those past its end, and all of them at a refusal, are as
 -- they were

@@ -3,28 +3,11 @@
 
 ghost use Rattle.std.specs.Prelude.{◌≡◌, ◌+◌, ◌*◌, ◌≤◌, ◌<◌, length, drop, [], ◌++◌};
 ghost use Rattle.records.specs.Record.{form64, Fit};
-ghost use Rattle.circuit_write.specs.Written.{records_of, next_in, entry_of, file_of, write_answer_of, left_of, write_number};
+ghost use Rattle.circuit_write.specs.Written.{records_of, next_in, entry_of, file_of, write_answer_of, left_of};
 
 use circuit::Circuit;
 use records::Form;
 use refusal::Refusal;
-
-#[derive(Drop)]
-pub enum WriteAnswer {
-    // the file's length in bytes
-    Written(usize),
-    Refused(Refusal),
-}
-
-// 0 for a file that was written, else the refusal's number.
-pub fn number(a: WriteAnswer) -> u32
-    ensures { result ≡ write_number a }
-{
-    match a {
-        WriteAnswer::Written(_) => 0,
-        WriteAnswer::Refused(r) => refusal::number(r),
-    }
-}
 
 // How many records the file of a circuit has.
 fn records(c: Circuit) -> usize
@@ -76,39 +59,37 @@ fn entries(o: Form, c: Circuit, beside: &[u32], n: usize, out: &mut [u8])
     ensures { out.new ≡ file_of o c beside.now ++ drop (o.size * n) out.old }
 {
     let size = o.size;
-    let mut i = 0;
-    while i < n {
+    for i in 0..n {
         entry(o, c, beside, n, i, &mut out[size * i..size * i + size]);
-        i += 1;
     }
 }
 
-// The writer, in any form.
-pub fn write_form(o: Form, c: Circuit, beside: &[u32], out: &mut [u8]) -> WriteAnswer
+// The writer, in any form: how many bytes the file has.
+pub fn write_form(o: Form, c: Circuit, beside: &[u32], out: &mut [u8]) -> Result<usize, Refusal>
     requires { Fit o × (length beside.now ≡ 5 * o.extra) }
     ensures value { result ≡ write_answer_of o c out.old }
     ensures out_after { out.new ≡ left_of o c beside.now out.old }
 {
     if c.km < 1 {
-        return WriteAnswer::Refused(Refusal::RecordZero);
+        return Err(Refusal::RecordZero);
     }
     if c.km > 5 {
-        return WriteAnswer::Refused(Refusal::RecordZero);
+        return Err(Refusal::RecordZero);
     }
     if c.shape > 1 {
-        return WriteAnswer::Refused(Refusal::RecordZero);
+        return Err(Refusal::RecordZero);
     }
     let n = records(c);
     let length = o.size * n;
     if out.len() < length {
-        return WriteAnswer::Refused(Refusal::Length);
+        return Err(Refusal::Length);
     }
     entries(o, c, beside, n, out);
-    WriteAnswer::Written(length)
+    Ok(length)
 }
 
-// Writes a circuit's file into the cells lent. Cells past its end, and all cells at a refusal, stay.
-pub fn write(c: Circuit, out: &mut [u8]) -> WriteAnswer
+// Writes a circuit's file into the cells lent, and answers its length in bytes. Cells past its end, and all cells at a refusal, stay.
+pub fn write(c: Circuit, out: &mut [u8]) -> Result<usize, Refusal>
     ensures value { result ≡ write_answer_of form64 c out.old }
     ensures out_after { out.new ≡ left_of form64 c [] out.old }
 {

@@ -1,4 +1,4 @@
 -- The laws of composed texts.
-pub mod Written
 mod Held
+pub mod Written
 pub mod ReadBack

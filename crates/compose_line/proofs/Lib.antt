@@ -1,2 +1,3 @@
 -- The words of a line by their places.
 mod WordPlaces
+pub mod Then

@@ -10,7 +10,8 @@ use lib.Seq.{drop-cons, drop-drop, get_or-drop}
 use Rattle.words.specs.Words.{blank, run, in_word, other, up_to, words_of}
 use Rattle.words.proofs.Split.{blanks-first, word_first}
 use Rattle.compose_line.specs.declared.Row.{Row}
-use Rattle.compose_line.specs.Row.{with_word, with_words}
+use Rattle.std.specs.Prelude.{Option, Some, Ok}
+use Rattle.compose_line.specs.Row.{then, with_word, with_words}
 
 -- a run ends at a byte of another kind
 stops : (p : ℕ → Bool) (l : List ℕ) → run p l < length l → p (get_or l (run p l) 0) ≡ false
@@ -52,11 +53,12 @@ one_word l at e s h b f g =
     let r : words_of (drop k (drop at l)) ≡ words_of (drop s l) = ap words_of (drop-drop k at l) ∙ ap (λ (x : ℕ). words_of (drop x l)) (sym f) ∙ sym (from_start l e s g) in
     record { forward = omega arith; words = w ∙ rw (d, r) }
 
-pub taken_word : (r : Row) (l : List ℕ) (at e s : ℕ) → Word l at e s → with_words (with_word r (take (e - at) (drop at l))) (words_of (drop s l)) ≡ with_words r (words_of (drop at l))
+pub taken_word : (r : Option Row) (l : List ℕ) (at e s : ℕ) → Word l at e s
+    → then (λ (x : Row). with_words (Some x) (words_of (drop s l))) (with_word r (take (e - at) (drop at l))) ≡ with_words r (words_of (drop at l))
 unfolding with_words
 taken_word r l at e s w = sym (ap (with_words r) w.words)
 
-pub no_words : (r : Row) (l : List ℕ) (at : ℕ) → length l ≤ at → with_words r (words_of (drop at l)) ≡ r
+pub no_words : (r : Option Row) (l : List ℕ) (at : ℕ) → length l ≤ at → with_words r (words_of (drop at l)) ≡ Ok r
 unfolding with_words words_of
 no_words r l at h = rw (drop_of_length-le l h)
 

@@ -1,13 +1,20 @@
 -- The words that begin a line, and the names of fields with the places of their numbers.
-use Rattle.std.specs.Prelude.{ℕ, cond, List, [], ◌∷◌, eqb, ltb}
+use Rattle.std.specs.Prelude.{ℕ, Bool, true, false, cond, List, [], ◌∷◌, ltb, Option, Some, None}
 use Rattle.first_difference.specs.Difference.{same_bytes}
+use Rattle.compose_line.specs.declared.names.LineKind.{LineKind}
 
--- `path` 1, `point` 2, `deciles` 3, as the kinds of the file's records are numbered; 0 for any other word
-unfoldable pub line_kind_of : List ℕ → ℕ
+-- the number of a line's kind, as the kinds of the file's records are numbered
+abbrev pub kind_number : LineKind → ℕ
+kind_number LineKind.Path = 1
+kind_number LineKind.Point = 2
+kind_number LineKind.Deciles = 3
+
+-- `path`, `point`, `deciles`; no kind for any other word
+unfoldable pub line_kind_of : List ℕ → Option LineKind
 line_kind_of w =
-    cond (same_bytes w (112 ∷ 97 ∷ 116 ∷ 104 ∷ [])) 1
-    (cond (same_bytes w (112 ∷ 111 ∷ 105 ∷ 110 ∷ 116 ∷ [])) 2
-    (cond (same_bytes w (100 ∷ 101 ∷ 99 ∷ 105 ∷ 108 ∷ 101 ∷ 115 ∷ [])) 3 0))
+    cond (same_bytes w (112 ∷ 97 ∷ 116 ∷ 104 ∷ [])) (Some LineKind.Path)
+    (cond (same_bytes w (112 ∷ 111 ∷ 105 ∷ 110 ∷ 116 ∷ [])) (Some LineKind.Point)
+    (cond (same_bytes w (100 ∷ 101 ∷ 99 ∷ 105 ∷ 108 ∷ 101 ∷ 115 ∷ [])) (Some LineKind.Deciles) None))
 
 -- `shape`, `gcd`, `gcdkm`, `amind`, `ssn`, one number each; 15 for any other word
 unfoldable pub path_place : List ℕ → ℕ
@@ -30,20 +37,28 @@ point_place w =
     (cond (same_bytes w (99 ∷ 108 ∷ 99 ∷ 107 ∷ [])) 14 15))))))
 
 -- a line of deciles has no fields
-unfoldable pub field_place_of : ℕ → List ℕ → ℕ
-field_place_of kind w = cond (eqb kind 1) (path_place w) (cond (eqb kind 2) (point_place w) 15)
+unfoldable pub field_place_of : LineKind → List ℕ → ℕ
+field_place_of LineKind.Path w = path_place w
+field_place_of LineKind.Point w = point_place w
+field_place_of LineKind.Deciles w = 15
 
 -- how many numbers the field at a place has
-unfoldable pub width_of : ℕ → ℕ → ℕ
-width_of kind place = cond (eqb kind 2) (cond (ltb place 12) 3 1) 1
+unfoldable pub width_of : LineKind → ℕ → ℕ
+width_of LineKind.Path place = 1
+width_of LineKind.Point place = cond (ltb place 12) 3 1
+width_of LineKind.Deciles place = 1
 
--- a 1 for each number that a line of the kind has
-unfoldable pub wanted_of : ℕ → List ℕ
-wanted_of kind =
-    cond (eqb kind 1) (1 ∷ 1 ∷ 1 ∷ 1 ∷ 1 ∷ 0 ∷ 0 ∷ 0 ∷ 0 ∷ 0 ∷ 0 ∷ 0 ∷ 0 ∷ 0 ∷ 0 ∷ [])
-    (cond (eqb kind 2) (1 ∷ 1 ∷ 1 ∷ 1 ∷ 1 ∷ 1 ∷ 1 ∷ 1 ∷ 1 ∷ 1 ∷ 1 ∷ 1 ∷ 1 ∷ 1 ∷ 1 ∷ [])
-    (1 ∷ 1 ∷ 1 ∷ 1 ∷ 1 ∷ 1 ∷ 1 ∷ 1 ∷ 1 ∷ 1 ∷ 1 ∷ 1 ∷ 0 ∷ 0 ∷ 0 ∷ []))
+-- a true for each number that a line of the kind has
+unfoldable pub wanted_of : LineKind → List Bool
+wanted_of LineKind.Path =
+    true ∷ true ∷ true ∷ true ∷ true ∷ false ∷ false ∷ false ∷ false ∷ false ∷ false ∷ false ∷ false ∷ false ∷ false ∷ []
+wanted_of LineKind.Point =
+    true ∷ true ∷ true ∷ true ∷ true ∷ true ∷ true ∷ true ∷ true ∷ true ∷ true ∷ true ∷ true ∷ true ∷ true ∷ []
+wanted_of LineKind.Deciles =
+    true ∷ true ∷ true ∷ true ∷ true ∷ true ∷ true ∷ true ∷ true ∷ true ∷ true ∷ true ∷ false ∷ false ∷ false ∷ []
 
 -- the twelve numbers of a line of deciles follow its first word
-unfoldable pub at_once : ℕ → ℕ
-at_once kind = cond (eqb kind 3) 12 0
+unfoldable pub at_once : LineKind → ℕ
+at_once LineKind.Path = 0
+at_once LineKind.Point = 0
+at_once LineKind.Deciles = 12

@@ -1,49 +1,30 @@
 -- What a line of a circuit's text says: its kind and its numbers, or what is wrong. What stands from a `#` on is not looked at. The first word is the
 -- line's kind; then names of fields, in any order, each followed by its numbers; a line of deciles has twelve numbers and no names.
-use Rattle.std.specs.Prelude.{ℕ, ◌+◌, ◌-◌, cond, List, [], ◌∷◌, eqb, ltb, get_or, set, replicate}
-use Rattle.records.specs.Record.{all_zero}
+use Rattle.std.specs.Prelude.{ℕ, ◌+◌, ◌-◌, false, cond, List, [], ◌∷◌, eqb, ltb, get_or, set, replicate, Option, Some, None, Result, Ok, Err}
+use Rattle.std.specs.List.{list_any}
 use Rattle.words.specs.Words.{up_to, words_of}
-use Rattle.decimals.specs.declared.Decimal.{Decimal}
 use Rattle.decimals.specs.Decimal.{decimal_read}
 use Rattle.compose_line.specs.declared.Row.{Row}
+use Rattle.compose_line.specs.declared.names.LineKind.{LineKind}
+use Rattle.compose_line.specs.declared.faults.Fault.{Fault}
 use Rattle.compose_line.specs.Names.{line_kind_of, field_place_of, width_of, wanted_of, at_once}
 
--- what can be wrong with a line: 0 is nothing
-abbrev pub unknown_line : ℕ
-unknown_line = 1
-
-abbrev pub unknown_field : ℕ
-unknown_field = 2
-
-abbrev pub field_twice : ℕ
-field_twice = 3
-
-abbrev pub not_anumber : ℕ
-not_anumber = 4
-
-abbrev pub number_missing : ℕ
-number_missing = 5
-
-abbrev pub field_missing : ℕ
-field_missing = 6
+-- an answer to go on from, where nothing is wrong
+abbrev pub then : {A B E : Type 0} → (A → Result B E) → Result A E → Result B E
+then f (Ok a) = f a
+then f (Err e) = Err e
 
 -- no word yet
-unfoldable pub blank_row : Row
-blank_row = record { kind = 0; values = replicate 15 0; missing = replicate 15 0; at = 0; left = 0; fault = 0 }
-
-unfoldable pub faulted : Row → ℕ → Row
-faulted r f =
-    record { kind = r.kind; values = r.values; missing = r.missing; at = r.at; left = r.left; fault = f }
+abbrev pub blank_row : Option Row
+blank_row = None
 
 -- the first word says which kind of line it is
-unfoldable pub begun : Row → ℕ → Row
-begun r k =
-    record { kind = k; values = r.values; missing = wanted_of k; at = 0; left = at_once k; fault = r.fault }
+unfoldable pub begun : LineKind → Row
+begun k = record { kind = k; values = replicate 15 0; missing = wanted_of k; at = 0; left = at_once k }
 
 -- a name: the next numbers, so many, go to the places from p on
 unfoldable pub named : Row → ℕ → ℕ → Row
-named r p n =
-    record { kind = r.kind; values = r.values; missing = r.missing; at = p; left = n; fault = r.fault }
+named r p n = record { kind = r.kind; values = r.values; missing = r.missing; at = p; left = n }
 
 -- a number: it goes to its place, which is then no longer missing; there are fifteen places
 unfoldable pub stored : Row → ℕ → Row
@@ -52,42 +33,41 @@ stored r v =
     (record {
       kind = r.kind;
       values = set r.values r.at v;
-      missing = set r.missing r.at 0;
+      missing = set r.missing r.at false;
       at = r.at + 1;
       left = r.left - 1;
-      fault = r.fault;
     }) r
 
-unfoldable pub first_word : Row → ℕ → Row
-first_word r k = cond (eqb k 0) (faulted r unknown_line) (begun r k)
+abbrev pub first_word : Option LineKind → Result Row Fault
+first_word (Some k) = Ok (begun k)
+first_word None = Err Fault.UnknownLine
 
 -- a field whose number is no longer missing was there before
-unfoldable pub field_word : Row → ℕ → Row
+unfoldable pub field_word : Row → ℕ → Result Row Fault
 field_word r p =
-    cond (ltb p 15) (cond (eqb (get_or r.missing p 0) 0) (faulted r field_twice) (named r p (width_of r.kind p)))
-    (faulted r unknown_field)
+    cond (ltb p 15) (cond (get_or r.missing p false) (Ok (named r p (width_of r.kind p))) (Err Fault.FieldTwice))
+    (Err Fault.UnknownField)
 
-abbrev pub number_by : Decimal → Row → Row
-number_by (Decimal.Bits b) r = stored r b
-number_by Decimal.Wrong r = faulted r not_anumber
+abbrev pub number_by : Option ℕ → Row → Result Row Fault
+number_by (Some b) r = Ok (stored r b)
+number_by None r = Err Fault.NotANumber
 
--- one word more; after something wrong nothing counts
-unfoldable pub with_word : Row → List ℕ → Row
-with_word r w =
-    cond (eqb r.fault 0)
-    (cond (eqb r.kind 0) (first_word r (line_kind_of w))
-    (cond (eqb r.left 0) (field_word r (field_place_of r.kind w)) (number_by (decimal_read w) r))) r
+-- one word more
+unfoldable pub with_word : Option Row → List ℕ → Result Row Fault
+with_word None w = first_word (line_kind_of w)
+with_word (Some r) w = cond (eqb r.left 0) (field_word r (field_place_of r.kind w)) (number_by (decimal_read w) r)
 
-unfoldable pub with_words : Row → List (List ℕ) → Row
-with_words r [] = r
-with_words r (w ∷ ws) = with_words (with_word r w) ws
+-- after something wrong nothing counts
+unfoldable pub with_words : Option Row → List (List ℕ) → Result (Option Row) Fault
+with_words r [] = Ok r
+with_words r (w ∷ ws) = then (λ s. with_words (Some s) ws) (with_word r w)
 
 -- at the end of the line no number is awaited, and none is missing
-unfoldable pub ended_row : Row → Row
-ended_row r =
-    cond (eqb r.fault 0)
-    (cond (eqb r.left 0) (cond (all_zero r.missing) r (faulted r field_missing)) (faulted r number_missing)) r
+unfoldable pub ended_row : Option Row → Result (Option Row) Fault
+ended_row None = Ok None
+ended_row (Some r) =
+    cond (eqb r.left 0) (cond (list_any (λ m. m) r.missing) (Err Fault.FieldMissing) (Ok (Some r))) (Err Fault.NumberMissing)
 
--- 35 is `#`
-unfoldable pub row_of : List ℕ → Row
-row_of line = ended_row (with_words blank_row (words_of (up_to 35 line)))
+-- 35 is `#`; no row is a line without a word
+unfoldable pub row_of : List ℕ → Result (Option Row) Fault
+row_of line = then ended_row (with_words blank_row (words_of (up_to 35 line)))

@@ -1,22 +1,31 @@
 // The words that begin a line, and the names of fields.
 ghost use Rattle.std.specs.Prelude.{◌≡◌};
+ghost use Rattle.std.specs.List.{list_any};
 ghost use Rattle.compose_line.specs.Names.{line_kind_of, path_place, point_place, field_place_of, width_of, wanted_of, at_once};
 
 use words::same;
 
-pub fn kind(w: &[u8]) -> u32
+// The kinds of a line, numbered as those of the file's records.
+#[derive(Clone, Copy, Debug, PartialEq, Eq)]
+pub enum LineKind {
+    Path = 1,
+    Point = 2,
+    Deciles = 3,
+}
+
+pub fn kind(w: &[u8]) -> Option<LineKind>
     ensures { result ≡ line_kind_of w.now }
 {
     if same(w, b"path") {
-        return 1;
+        return Some(LineKind::Path);
     }
     if same(w, b"point") {
-        return 2;
+        return Some(LineKind::Point);
     }
     if same(w, b"deciles") {
-        return 3;
+        return Some(LineKind::Deciles);
     }
-    0
+    None
 }
 
 fn path_place(w: &[u8]) -> usize
@@ -67,47 +76,62 @@ fn point_place(w: &[u8]) -> usize
     15
 }
 
-pub fn place(kind: u32, w: &[u8]) -> usize
+#[tactic(auto, unfolding(crate::specs::Names::field_place_of))]
+pub fn place(kind: LineKind, w: &[u8]) -> usize
     ensures { result ≡ field_place_of kind w.now }
 {
-    if kind == 1 {
-        return path_place(w);
+    match kind {
+        LineKind::Path => path_place(w),
+        LineKind::Point => point_place(w),
+        LineKind::Deciles => 15,
     }
-    if kind == 2 {
-        return point_place(w);
-    }
-    15
 }
 
-pub fn width(kind: u32, place: usize) -> usize
+#[tactic(auto, unfolding(crate::specs::Names::width_of))]
+pub fn width(kind: LineKind, place: usize) -> usize
     ensures { result ≡ width_of kind place }
 {
-    if kind != 2 {
-        return 1;
+    match kind {
+        LineKind::Point => {
+            if place < 12 {
+                return 3;
+            }
+            1
+        }
+        LineKind::Path | LineKind::Deciles => 1,
     }
-    if place < 12 {
-        return 3;
-    }
-    1
 }
 
-pub fn wanted(kind: u32) -> [u32; 15]
+#[tactic(auto, unfolding(crate::specs::Names::wanted_of))]
+pub fn wanted(kind: LineKind) -> [bool; 15]
     ensures { result ≡ wanted_of kind }
 {
-    if kind == 1 {
-        return [1, 1, 1, 1, 1, 0, 0, 0, 0, 0, 0, 0, 0, 0, 0];
+    match kind {
+        LineKind::Path => [
+            true, true, true, true, true, false, false, false, false, false, false, false, false,
+            false, false,
+        ],
+        LineKind::Point => [true; 15],
+        LineKind::Deciles => [
+            true, true, true, true, true, true, true, true, true, true, true, true, false, false,
+            false,
+        ],
     }
-    if kind == 2 {
-        return [1; 15];
-    }
-    [1, 1, 1, 1, 1, 1, 1, 1, 1, 1, 1, 1, 0, 0, 0]
 }
 
-pub fn at_once(kind: u32) -> usize
+#[tactic(auto, unfolding(crate::specs::Names::at_once))]
+pub fn at_once(kind: LineKind) -> usize
     ensures { result ≡ at_once kind }
 {
-    if kind == 3 {
-        return 12;
+    match kind {
+        LineKind::Deciles => 12,
+        LineKind::Path | LineKind::Point => 0,
     }
-    0
+}
+
+// Whether some number is still to come.
+pub fn any(missing: &[bool]) -> bool
+    ensures { result ≡ list_any (λ m. m) missing.now }
+{
+    missing.iter().any(|m| *m)
 }

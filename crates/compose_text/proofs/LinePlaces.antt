@@ -11,7 +11,9 @@ use Rattle.first_difference.specs.Lines.{lines_of}
 use Rattle.words.specs.Words.{run, other}
 use Rattle.words.proofs.Split.{line_length, line_first}
 use Rattle.compose_text.specs.declared.Draft.{Draft}
-use Rattle.compose_text.specs.Draft.{with_line, with_lines, ended_draft}
+use Rattle.std.specs.Prelude.{Option}
+use Rattle.compose_line.specs.Row.{then}
+use Rattle.compose_text.specs.Draft.{at_line, with_line, with_lines, ended_draft}
 
 -- a line is what stands before the line feed, and that
 line-run : (l : List ℕ) → line_length l ≡ min (suc (run (other 10) l)) (length l)
@@ -37,11 +39,11 @@ one_line l at e h f =
     let r : lines_of (drop k (drop at l)) ≡ lines_of (drop e l) = ap lines_of (drop-drop k at l) ∙ ap (λ (x : ℕ). lines_of (drop x l)) (sym f) in
     w ∙ rw (d, r)
 
-pub taken-line : (d : Draft) (n : ℕ) (l : List ℕ) (at e : ℕ) → at < length l → e ≡ at + line_length (drop at l)
-    → with_lines (with_line d n (take (e - at) (drop at l))) (n + 1) (lines_of (drop e l)) ≡ with_lines d n (lines_of (drop at l))
+pub taken-line : (d : Option Draft) (n : ℕ) (l : List ℕ) (at e : ℕ) → at < length l → e ≡ at + line_length (drop at l)
+    → then (λ (x : Option Draft). with_lines x (n + 1) (lines_of (drop e l))) (at_line n (with_line d (take (e - at) (drop at l)))) ≡ with_lines d n (lines_of (drop at l))
 unfolding with_lines
 taken-line d n l at e h f = sym (ap (with_lines d n) (one_line l at e h f))
 
-pub no_lines : (d : Draft) (n : ℕ) (l : List ℕ) (at : ℕ) → length l ≤ at → with_lines d n (lines_of (drop at l)) ≡ ended_draft d n
+pub no_lines : (d : Option Draft) (n : ℕ) (l : List ℕ) (at : ℕ) → length l ≤ at → with_lines d n (lines_of (drop at l)) ≡ at_line n (ended_draft d)
 unfolding with_lines lines_of
 no_lines d n l at h = rw (drop_of_length-le l h)

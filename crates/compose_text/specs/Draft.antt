@@ -1,52 +1,25 @@
 -- The circuit that a text says, line by line: one line of the path first, one to five of points, then none or 48 of deciles; lines without a word
 -- anywhere. The first line with something wrong decides, and the end of the text counts as a line.
-use Rattle.std.specs.Prelude.{ℕ, ◌+◌, ◌*◌, Bool, cond, ◌||◌, List, [], ◌∷◌, eqb, ltb, get_or, take}
+use Rattle.std.specs.Prelude.{ℕ, ◌+◌, ◌*◌, Bool, cond, ◌||◌, List, [], ◌∷◌, eqb, ltb, get_or, take, Option, Some, None, Result, Ok, Err}
 use Rattle.std.proofs.lemmas.List.Edits.{sets}
 use Rattle.first_difference.specs.Lines.{lines_of}
 use Rattle.circuit.specs.declared.Circuit.{Circuit}
 use Rattle.circuit.specs.Read.{no_circuit}
 use Rattle.compose_line.specs.declared.Row.{Row}
-use Rattle.compose_line.specs.Row.{row_of}
+use Rattle.compose_line.specs.declared.names.LineKind.{LineKind}
+use Rattle.compose_line.specs.declared.faults.Fault.{Fault}
+use Rattle.compose_line.specs.declared.faults.Wrong.{Wrong}
+use Rattle.compose_line.specs.Row.{then, row_of}
 use Rattle.compose_text.specs.declared.Draft.{Draft}
 
--- what can be wrong beside what a line alone shows (1 to 6)
-abbrev pub second_path : ℕ
-second_path = 7
-
-abbrev pub bad_shape : ℕ
-bad_shape = 8
-
-abbrev pub no_path_yet : ℕ
-no_path_yet = 9
-
-abbrev pub point_too_late : ℕ
-point_too_late = 10
-
-abbrev pub too_many_points : ℕ
-too_many_points = 11
-
-abbrev pub no_point_yet : ℕ
-no_point_yet = 12
-
-abbrev pub too_many_deciles : ℕ
-too_many_deciles = 13
-
-abbrev pub no_path : ℕ
-no_path = 14
-
-abbrev pub no_point : ℕ
-no_point = 15
-
-abbrev pub too_few_deciles : ℕ
-too_few_deciles = 16
-
--- no line yet
-unfoldable pub no_draft : Draft
-no_draft = record { circuit = no_circuit; paths = 0; twelves = 0; line = 0; fault = 0 }
+-- no path yet
+abbrev pub no_draft : Option Draft
+no_draft = None
 
 -- what is wrong, and in which line
-unfoldable pub failed : Draft → ℕ → ℕ → Draft
-failed d n f = record { circuit = d.circuit; paths = d.paths; twelves = d.twelves; line = n; fault = f }
+abbrev pub at_line : {A : Type 0} → ℕ → Result A Fault → Result A Wrong
+at_line n (Ok a) = Ok a
+at_line n (Err f) = Err (record { line = n; fault = f })
 
 -- the bits of 0 and of 1, and which shape they are
 unfoldable pub is_shape : ℕ → Bool
@@ -105,70 +78,65 @@ pointed c v = point_added c (sets c.points (15 * c.km) v)
 unfoldable pub deciled : Circuit → ℕ → List ℕ → Circuit
 deciled c n v = deciles_set c (sets c.deciles (12 * n) (take 12 v))
 
-unfoldable pub given_path : Draft → List ℕ → Draft
-given_path d v =
-    record { circuit = pathed d.circuit v; paths = 1; twelves = d.twelves; line = d.line; fault = d.fault }
+unfoldable pub given_path : List ℕ → Draft
+given_path v = record { circuit = pathed no_circuit v; twelves = 0 }
 
 unfoldable pub given_point : Draft → List ℕ → Draft
-given_point d v =
-    record { circuit = pointed d.circuit v; paths = d.paths; twelves = d.twelves; line = d.line; fault = d.fault }
+given_point d v = record { circuit = pointed d.circuit v; twelves = d.twelves }
 
 unfoldable pub given_deciles : Draft → List ℕ → Draft
-given_deciles d v =
-    record {
-      circuit = deciled d.circuit d.twelves v;
-      paths = d.paths;
-      twelves = d.twelves + 1;
-      line = d.line;
-      fault = d.fault;
-    }
+given_deciles d v = record { circuit = deciled d.circuit d.twelves v; twelves = d.twelves + 1 }
 
--- line n is the path's: the only one, with shape 0 or 1
-unfoldable pub with_path : Draft → ℕ → List ℕ → Draft
-with_path d n v =
-    cond (eqb d.paths 0) (cond (is_shape (get_or v 0 0)) (given_path d v) (failed d n bad_shape)) (failed d n second_path)
+-- the path's line: the only one, with shape 0 or 1
+unfoldable pub with_path : Option Draft → List ℕ → Result Draft Fault
+with_path None v = cond (is_shape (get_or v 0 0)) (Ok (given_path v)) (Err Fault.BadShape)
+with_path (Some d) v = Err Fault.SecondPath
 
--- line n is a point's: after the path and before the deciles, the fifth at most
-unfoldable pub with_point : Draft → ℕ → List ℕ → Draft
-with_point d n v =
-    cond (eqb d.paths 0) (failed d n no_path_yet)
-    (cond (eqb d.twelves 0) (cond (ltb d.circuit.km 5) (given_point d v) (failed d n too_many_points))
-    (failed d n point_too_late))
+-- a point's line: after the path and before the deciles, the fifth at most
+unfoldable pub with_point : Option Draft → List ℕ → Result Draft Fault
+with_point None v = Err Fault.NoPathYet
+with_point (Some d) v =
+    cond (eqb d.twelves 0) (cond (ltb d.circuit.km 5) (Ok (given_point d v)) (Err Fault.TooManyPoints)) (Err Fault.PointTooLate)
 
--- line n is one of deciles: after a point, the 48th at most
-unfoldable pub with_deciles : Draft → ℕ → List ℕ → Draft
-with_deciles d n v =
-    cond (eqb d.circuit.km 0) (failed d n no_point_yet)
-    (cond (ltb d.twelves 48) (given_deciles d v) (failed d n too_many_deciles))
+-- a line of deciles: after a point, the 48th at most
+unfoldable pub with_deciles : Option Draft → List ℕ → Result Draft Fault
+with_deciles None v = Err Fault.NoPointYet
+with_deciles (Some d) v =
+    cond (eqb d.circuit.km 0) (Err Fault.NoPointYet)
+    (cond (ltb d.twelves 48) (Ok (given_deciles d v)) (Err Fault.TooManyDeciles))
+
+-- the three kinds
+abbrev pub with_kind : LineKind → Option Draft → List ℕ → Result Draft Fault
+with_kind LineKind.Path d v = with_path d v
+with_kind LineKind.Point d v = with_point d v
+with_kind LineKind.Deciles d v = with_deciles d v
+
+unfoldable pub with_row : Option Draft → Row → Result Draft Fault
+with_row d r = with_kind r.kind d r.values
+
+-- a line without a word says nothing
+abbrev pub with_row_if : Option Draft → Option Row → Result (Option Draft) Fault
+with_row_if d None = Ok d
+with_row_if d (Some r) = then (λ e. Ok (Some e)) (with_row d r)
 
 -- a line with something wrong in itself, one without a word, and the three kinds
-unfoldable pub with_row : Draft → ℕ → Row → Draft
-with_row d n r =
-    cond (eqb r.fault 0)
-    (cond (eqb r.kind 0) d
-    (cond (eqb r.kind 1) (with_path d n r.values)
-    (cond (eqb r.kind 2) (with_point d n r.values) (with_deciles d n r.values))))
-    (failed d n r.fault)
-
--- after something wrong nothing counts
-unfoldable pub with_line : Draft → ℕ → List ℕ → Draft
-with_line d n line = cond (eqb d.fault 0) (with_row d n (row_of line)) d
+unfoldable pub with_line : Option Draft → List ℕ → Result (Option Draft) Fault
+with_line d line = then (with_row_if d) (row_of line)
 
 -- none or all lines of deciles
 unfoldable pub is_whole : ℕ → Bool
 is_whole t = eqb t 0 || eqb t 48
 
--- the end of the text, as line n
-unfoldable pub ended_draft : Draft → ℕ → Draft
-ended_draft d n =
-    cond (eqb d.fault 0)
-    (cond (eqb d.paths 0) (failed d n no_path)
-    (cond (eqb d.circuit.km 0) (failed d n no_point) (cond (is_whole d.twelves) d (failed d n too_few_deciles)))) d
+-- the end of the text
+unfoldable pub ended_draft : Option Draft → Result Circuit Fault
+ended_draft None = Err Fault.NoPath
+ended_draft (Some d) =
+    cond (eqb d.circuit.km 0) (Err Fault.NoPoint) (cond (is_whole d.twelves) (Ok d.circuit) (Err Fault.TooFewDeciles))
 
--- the lines from number n on
-unfoldable pub with_lines : Draft → ℕ → List (List ℕ) → Draft
-with_lines d n [] = ended_draft d n
-with_lines d n (l ∷ ls) = with_lines (with_line d n l) (n + 1) ls
+-- the lines from number n on; after something wrong nothing counts
+unfoldable pub with_lines : Option Draft → ℕ → List (List ℕ) → Result Circuit Wrong
+with_lines d n [] = at_line n (ended_draft d)
+with_lines d n (l ∷ ls) = then (λ e. with_lines e (n + 1) ls) (at_line n (with_line d l))
 
-unfoldable pub composed_of : List ℕ → Draft
+unfoldable pub composed_of : List ℕ → Result Circuit Wrong
 composed_of text = with_lines no_draft 1 (lines_of text)

@@ -21,12 +21,13 @@ fn put_all(out: &mut [u32], at: usize, words: &[u32]) -> usize
     ensures { Clipped words.now out.old at out.new result }
 {
     let mut e = at;
-    for i in 0..words.len() {
-        e = put(out, e, words[i]);
+    for w in words {
+        e = put(out, e, *w);
     }
     e
 }
 
+#[tactic(auto, unfolding(crate::specs::Draft::shape_in))]
 fn shape_in(b: u32) -> usize
     ensures { result ≡ shape_in b }
 {
@@ -39,17 +40,13 @@ fn shape_in(b: u32) -> usize
 fn with_path(c: Circuit, values: [u32; 15]) -> Circuit
     ensures { result ≡ pathed c values }
 {
-    let points = c.points;
-    let deciles = c.deciles;
     Circuit {
-        km: c.km,
         shape: shape_in(values[0]),
         gcd: values[1],
         gcdkm: values[2],
         amind: values[3],
         ssn: values[4],
-        points,
-        deciles,
+        ..c
     }
 }
 
@@ -58,17 +55,11 @@ fn with_point(c: Circuit, values: [u32; 15]) -> Circuit
     ensures { result ≡ pointed c values }
 {
     let mut points = c.points;
-    let deciles = c.deciles;
     put_all(&mut points, 15 * c.km, &values);
     Circuit {
         km: c.km + 1,
-        shape: c.shape,
-        gcd: c.gcd,
-        gcdkm: c.gcdkm,
-        amind: c.amind,
-        ssn: c.ssn,
         points,
-        deciles,
+        ..c
     }
 }
 
@@ -76,58 +67,39 @@ fn with_deciles(c: Circuit, n: usize, values: [u32; 15]) -> Circuit
     requires { n < 48 }
     ensures { result ≡ deciled c n values }
 {
-    let points = c.points;
     let mut deciles = c.deciles;
     put_all(&mut deciles, 12 * n, &values[..12]);
-    Circuit {
-        km: c.km,
-        shape: c.shape,
-        gcd: c.gcd,
-        gcdkm: c.gcdkm,
-        amind: c.amind,
-        ssn: c.ssn,
-        points,
-        deciles,
-    }
+    Circuit { deciles, ..c }
 }
 
-pub fn path(d: Draft, values: [u32; 15]) -> Draft
-    ensures { result ≡ given_path d values }
+#[tactic(auto, unfolding(crate::specs::Draft::given_path))]
+pub fn path(values: [u32; 15]) -> Draft
+    ensures { result ≡ given_path values }
 {
-    let circuit = with_path(d.circuit, values);
     Draft {
-        circuit,
-        paths: 1,
-        twelves: d.twelves,
-        line: d.line,
-        fault: d.fault,
+        circuit: with_path(circuit::nothing(), values),
+        twelves: 0,
     }
 }
 
+#[tactic(auto, unfolding(crate::specs::Draft::given_point))]
 pub fn point(d: Draft, values: [u32; 15]) -> Draft
     requires { d.circuit.km < 5 }
     ensures { result ≡ given_point d values }
 {
-    let circuit = with_point(d.circuit, values);
     Draft {
-        circuit,
-        paths: d.paths,
+        circuit: with_point(d.circuit, values),
         twelves: d.twelves,
-        line: d.line,
-        fault: d.fault,
     }
 }
 
+#[tactic(auto, unfolding(crate::specs::Draft::given_deciles))]
 pub fn deciles(d: Draft, values: [u32; 15]) -> Draft
     requires { d.twelves < 48 }
     ensures { result ≡ given_deciles d values }
 {
-    let circuit = with_deciles(d.circuit, d.twelves, values);
     Draft {
-        circuit,
-        paths: d.paths,
+        circuit: with_deciles(d.circuit, d.twelves, values),
         twelves: d.twelves + 1,
-        line: d.line,
-        fault: d.fault,
     }
 }

@@ -5,172 +5,128 @@ mod given;
 
 ghost use Rattle.std.specs.Prelude.{◌≡◌, ◌+◌, ◌≤◌, ◌<◌, min, length, drop};
 ghost use Rattle.words.specs.Words.{run, other};
-ghost use Rattle.compose_text.specs.Draft.{no_draft, failed, is_shape, with_path, with_point, with_deciles, with_row, with_line, is_whole, ended_draft, composed_of};
+ghost use Rattle.compose_text.specs.Draft.{no_draft, is_shape, with_path, with_point, with_deciles, with_row, with_line, at_line, is_whole, ended_draft, composed_of};
 
 use circuit::Circuit;
-use compose_line::Row;
+use compose_line::{Fault, LineKind, Row, Wrong};
 
-pub const SECOND_PATH: u32 = 7;
-
-pub const BAD_SHAPE: u32 = 8;
-
-pub const NO_PATH_YET: u32 = 9;
-
-pub const POINT_TOO_LATE: u32 = 10;
-
-pub const TOO_MANY_POINTS: u32 = 11;
-
-pub const NO_POINT_YET: u32 = 12;
-
-pub const TOO_MANY_DECILES: u32 = 13;
-
-pub const NO_PATH: u32 = 14;
-
-pub const NO_POINT: u32 = 15;
-
-pub const TOO_FEW_DECILES: u32 = 16;
-
-// The circuit so far, the lines of the path and of deciles so far, and what is wrong, numbered, 0 for nothing, with the number
-// of its line.
-#[derive(Drop)]
+// What the lines say from that of the path on: the circuit so far, and the lines of deciles so far.
+#[derive(Clone, Copy)]
 pub struct Draft {
     pub circuit: Circuit,
-    pub paths: u32,
     pub twelves: usize,
-    pub line: usize,
-    pub fault: u32,
 }
 
-fn no_draft() -> Draft
-    ensures { result ≡ no_draft }
-{
-    let circuit = circuit::nothing();
-    Draft {
-        circuit,
-        paths: 0,
-        twelves: 0,
-        line: 0,
-        fault: 0,
-    }
-}
-
-fn fail(d: Draft, n: usize, fault: u32) -> Draft
-    ensures { result ≡ failed d n fault }
-{
-    let circuit = d.circuit;
-    Draft {
-        circuit,
-        paths: d.paths,
-        twelves: d.twelves,
-        line: n,
-        fault,
-    }
-}
-
+#[tactic(auto, unfolding(crate::specs::Draft::is_shape))]
 fn is_shape(b: u32) -> bool
     ensures { result ≡ is_shape b }
 {
-    if b == 0 {
-        return true;
-    }
-    b == 0x3f80_0000
+    b == 0 || b == 0x3f80_0000
 }
 
-fn with_path(d: Draft, n: usize, values: [u32; 15]) -> Draft
-    ensures { result ≡ with_path d n values }
+#[tactic(auto, unfolding(crate::specs::Draft::with_path))]
+fn with_path(draft: Option<Draft>, values: [u32; 15]) -> Result<Draft, Fault>
+    ensures { result ≡ with_path draft values }
 {
-    if d.paths != 0 {
-        return fail(d, n, SECOND_PATH);
+    match draft {
+        Some(_) => Err(Fault::SecondPath),
+        None => {
+            if is_shape(values[0]) {
+                return Ok(given::path(values));
+            }
+            Err(Fault::BadShape)
+        }
     }
-    if is_shape(values[0]) {
-        return given::path(d, values);
-    }
-    fail(d, n, BAD_SHAPE)
 }
 
-fn with_point(d: Draft, n: usize, values: [u32; 15]) -> Draft
-    ensures { result ≡ with_point d n values }
+#[tactic(auto, unfolding(crate::specs::Draft::with_point))]
+fn with_point(draft: Option<Draft>, values: [u32; 15]) -> Result<Draft, Fault>
+    ensures { result ≡ with_point draft values }
 {
-    if d.paths == 0 {
-        return fail(d, n, NO_PATH_YET);
+    match draft {
+        None => Err(Fault::NoPathYet),
+        Some(d) => {
+            if d.twelves != 0 {
+                return Err(Fault::PointTooLate);
+            }
+            if d.circuit.km < 5 {
+                return Ok(given::point(d, values));
+            }
+            Err(Fault::TooManyPoints)
+        }
     }
-    if d.twelves != 0 {
-        return fail(d, n, POINT_TOO_LATE);
-    }
-    let c = d.circuit;
-    if c.km < 5 {
-        return given::point(d, values);
-    }
-    fail(d, n, TOO_MANY_POINTS)
 }
 
-fn with_deciles(d: Draft, n: usize, values: [u32; 15]) -> Draft
-    ensures { result ≡ with_deciles d n values }
+#[tactic(auto, unfolding(crate::specs::Draft::with_deciles))]
+fn with_deciles(draft: Option<Draft>, values: [u32; 15]) -> Result<Draft, Fault>
+    ensures { result ≡ with_deciles draft values }
 {
-    let c = d.circuit;
-    if c.km == 0 {
-        return fail(d, n, NO_POINT_YET);
+    match draft {
+        None => Err(Fault::NoPointYet),
+        Some(d) => {
+            if d.circuit.km == 0 {
+                return Err(Fault::NoPointYet);
+            }
+            if d.twelves < 48 {
+                return Ok(given::deciles(d, values));
+            }
+            Err(Fault::TooManyDeciles)
+        }
     }
-    if d.twelves < 48 {
-        return given::deciles(d, values);
-    }
-    fail(d, n, TOO_MANY_DECILES)
 }
 
-fn with_row(d: Draft, n: usize, r: Row) -> Draft
-    ensures { result ≡ with_row d n r }
+#[tactic(auto, unfolding(crate::specs::Draft::with_row))]
+fn with_row(draft: Option<Draft>, r: Row) -> Result<Draft, Fault>
+    ensures { result ≡ with_row draft r }
 {
-    if r.fault != 0 {
-        return fail(d, n, r.fault);
+    match r.kind {
+        LineKind::Path => with_path(draft, r.values),
+        LineKind::Point => with_point(draft, r.values),
+        LineKind::Deciles => with_deciles(draft, r.values),
     }
-    if r.kind == 0 {
-        return d;
-    }
-    let values = r.values;
-    if r.kind == 1 {
-        return with_path(d, n, values);
-    }
-    if r.kind == 2 {
-        return with_point(d, n, values);
-    }
-    with_deciles(d, n, values)
 }
 
-fn with_line(d: Draft, n: usize, line: &[u8]) -> Draft
-    ensures { result ≡ with_line d n line.now }
+// A line without a word says nothing.
+#[tactic(auto, unfolding(crate::specs::Draft::with_line))]
+fn with_line(draft: Option<Draft>, line: &[u8]) -> Result<Option<Draft>, Fault>
+    ensures { result ≡ with_line draft line.now }
 {
-    if d.fault != 0 {
-        return d;
+    match compose_line::read(line)? {
+        None => Ok(draft),
+        Some(r) => Ok(Some(with_row(draft, r)?)),
     }
-    with_row(d, n, compose_line::read(line))
 }
 
+#[tactic(auto, unfolding(crate::specs::Draft::is_whole))]
 fn is_whole(twelves: usize) -> bool
     ensures { result ≡ is_whole twelves }
 {
-    if twelves == 0 {
-        return true;
-    }
-    twelves == 48
+    twelves == 0 || twelves == 48
 }
 
-fn ended(d: Draft, n: usize) -> Draft
-    ensures { result ≡ ended_draft d n }
+#[tactic(auto, unfolding(crate::specs::Draft::ended_draft))]
+fn ended(draft: Option<Draft>) -> Result<Circuit, Fault>
+    ensures { result ≡ ended_draft draft }
 {
-    if d.fault != 0 {
-        return d;
+    match draft {
+        None => Err(Fault::NoPath),
+        Some(d) => {
+            if d.circuit.km == 0 {
+                return Err(Fault::NoPoint);
+            }
+            if is_whole(d.twelves) {
+                return Ok(d.circuit);
+            }
+            Err(Fault::TooFewDeciles)
+        }
     }
-    if d.paths == 0 {
-        return fail(d, n, NO_PATH);
-    }
-    let c = d.circuit;
-    if c.km == 0 {
-        return fail(d, n, NO_POINT);
-    }
-    if is_whole(d.twelves) {
-        return d;
-    }
-    fail(d, n, TOO_FEW_DECILES)
+}
+
+// What is wrong, and in which line.
+fn at_line<T>(line: usize, answer: Result<T, Fault>) -> Result<T, Wrong>
+    ensures { result ≡ at_line line answer }
+{
+    answer.map_err(|fault| Wrong { line, fault })
 }
 
 // Past the line feed that ends the line, or the end.
@@ -179,23 +135,20 @@ fn line_end(text: &[u8], at: usize) -> usize
     ensures { (result ≤ length text.now) × (at < result) × (result ≡ min (at + run (other 10) (drop at text.now) + 1) (length text.now)) }
 {
     let e = words::until(text, at, b'\n');
-    if e < text.len() {
-        return e + 1;
-    }
-    e
+    (e + 1).min(text.len())
 }
 
-pub fn compose(text: &[u8]) -> Draft
+pub fn compose(text: &[u8]) -> Result<Circuit, Wrong>
     ensures { result ≡ composed_of text.now }
 {
-    let mut d = no_draft();
-    let mut n = 1;
+    let mut draft = None;
+    let mut line = 1;
     let mut at = 0;
     while at < text.len() {
         let e = line_end(text, at);
-        d = with_line(d, n, &text[at..e]);
-        n += 1;
+        draft = at_line(line, with_line(draft, &text[at..e]))?;
+        line += 1;
         at = e;
     }
-    ended(d, n)
+    at_line(line, ended(draft))
 }

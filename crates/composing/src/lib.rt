@@ -2,12 +2,11 @@
 #![tactic(auto)]
 
 ghost use Rattle.std.specs.Prelude.{◌≡◌, ◌≤◌, length};
-ghost use Rattle.circuit_write.specs.Written.{length_in};
 ghost use Rattle.io.specs.Counts.{IsPrefixLen};
 ghost use Rattle.composing.specs.Composing.{said_length, said_held, length_of, composed_held};
 
-use circuit_write::WriteAnswer;
-use compose_text::Draft;
+use circuit::Circuit;
+use compose_line::Wrong;
 use fault_text::put_wrong;
 use lines::put_word;
 
@@ -16,25 +15,15 @@ pub const INPUT: usize = 32769;
 // Room for every file and every line.
 pub const ROOM: usize = 4096;
 
-fn length_in(a: WriteAnswer) -> usize
-    ensures { result ≡ length_in a }
-{
-    match a {
-        WriteAnswer::Written(n) => n,
-        WriteAnswer::Refused(_) => 0,
-    }
-}
-
-fn said(d: Draft, out: &mut [u8]) -> usize
-    ensures value { result ≡ said_length d out.old }
-    ensures out_after { out.new ≡ said_held d out.old }
+fn said(composed: Result<Circuit, Wrong>, out: &mut [u8]) -> usize
+    ensures value { result ≡ said_length composed out.old }
+    ensures out_after { out.new ≡ said_held composed out.old }
     ensures upper_bound { result ≤ length out.old }
 {
-    if d.fault != 0 {
-        return put_wrong(out, d.line, d.fault);
+    match composed {
+        Ok(c) => circuit_write::write(c, out).unwrap_or(0),
+        Err(wrong) => put_wrong(out, wrong),
     }
-    let a = circuit_write::write(d.circuit, out);
-    length_in(a)
 }
 
 // The file of the circuit that a text says, or what is wrong with the text; how many bytes that is.

@@ -1,6 +1,6 @@
 -- The numbers of a column, one after the other: the test of what is left, and the cells written so far. An answer is a trace.
 use Prim.Native.Nat.{ℕ, zero, suc, ◌+◌, ◌≤◌, ◌<◌}
-use mathlib.Core.Path.{◌≡◌, refl, ap, ◌∙◌, sym}
+use mathlib.Core.Path.{◌≡◌, refl, ap, ◌∙◌, sym, subst}
 use mathlib.Core.Bool.{Bool, true, false, ◌&&◌}
 use mathlib.Core.List.{List, [], ◌∷◌, ◌++◌, map, append-nil}
 use native.Mathlib.Omega.{arith}
@@ -8,13 +8,14 @@ use native.Mathlib.Numerals.{add-one}
 use lib.Ieee.{Float, nan}
 use lib.ListN.{length, get_or, drop, set, length-map, drop_of_length-le}
 use borrow.Author.Tests.{lt-ltb, le-ltb, eq-eqb, le-leb}
-use Rattle.refusal.specs.declared.Outcome.{Outcome}
+use Rattle.std.specs.Prelude.{Ok, Err}
+use Rattle.refusal.specs.declared.Refusal.{Refusal}
 use Rattle.scalar.specs.F32.{◌<f◌}
 use Rattle.scalar.specs.Literals.{f0}
 use Rattle.figures.specs.Nearest.{past, times_of}
 use Rattle.trace_lines.specs.Trace.{rises, fit}
-use Rattle.computed_trace.specs.Computed.{fit_number, all_fit, khz_rows, height_rows, trace_by, trace_of, TraceFits}
-use Rattle.computed_trace.specs.declared.TraceAnswer.{TraceAnswer}
+use Rattle.computed_trace.specs.Computed.{fit_number, all_fit, khz_rows, height_rows, scaled_of, trace_by, trace_of, TraceFits}
+use Rattle.computed_trace.specs.declared.ComputedTrace.{ComputedTrace}
 use Rattle.trace_lines.proofs.Places.{both}
 use Rattle.traces.proofs.Cells.{sofar, sofar-more, sofar-all, sofar-length}
 
@@ -65,50 +66,31 @@ module _ (k : ℕ) where
       → out ≡ sofar (times_of k) x i out₀ → length out ≡ length out₀
   same-room x out₀ out i h e p = ap length p ∙ sofar-length (times_of k) x i out₀ h (omega arith)
 
+  pub unfit : (x : List Float) → all_fit k x ≡ false → Err Refusal.Traces ≡ scaled_of k x
+  unfit x e = rw e
+
+  pub all_scaled : (x : List Float) (out : List ℕ) → all_fit k x ≡ true → out ≡ map (times_of k) x → Ok out ≡ scaled_of k x
+  all_scaled x out e p = rw (e, p)
+
 -- ---- an answer is a trace
 
 rows_fit : (khz height : List ℕ) → length khz ≡ 30 → length height ≡ 30 → rises khz ≡ true → fit khz height ≡ true
 rows_fit khz height p q r =
     rw (eq-eqb (length khz) (length height) (omega arith), le-leb (length khz) 512 (omega arith)) r
 
-by_fits : (fvert hprim : List Float) → length fvert ≡ 30 → length hprim ≡ 30 → (t : Bool)
-    → (t ≡ true → rises (khz_rows fvert) ≡ true) → (trace_by t (khz_rows fvert) (height_rows hprim)).outcome ≡ Outcome.Answered
-    → fit (trace_by t (khz_rows fvert) (height_rows hprim)).khz (trace_by t (khz_rows fvert) (height_rows hprim)).height ≡ true
-by_fits fvert hprim p q true r e =
-    rows_fit (khz_rows fvert) (height_rows hprim) (length-map fvert (times_of 1000) ∙ p) (length-map hprim (times_of 10) ∙ q) (r refl)
-by_fits fvert hprim p q false r e = let z : ◌≡◌ {A = ℕ} 0 1 = cc in absurd (omega arith)
+by_fits : (fvert hprim : List Float) (t : ComputedTrace) → length fvert ≡ 30 → length hprim ≡ 30 → (b : Bool)
+    → (b ≡ true → rises (khz_rows fvert) ≡ true) → trace_by b (khz_rows fvert) (height_rows hprim) ≡ Ok t
+    → fit t.khz t.height ≡ true
+by_fits fvert hprim t p q true r e =
+    let s : record { khz = khz_rows fvert; height = height_rows hprim } ≡ t = cc in
+    subst (λ (u : ComputedTrace). fit u.khz u.height ≡ true) s
+    (rows_fit (khz_rows fvert) (height_rows hprim) (length-map fvert (times_of 1000) ∙ p) (length-map hprim (times_of 10) ∙ q) (r refl))
+by_fits fvert hprim t p q false r e = let z : ◌≡◌ {A = ℕ} 0 1 = cc in absurd (omega arith)
 
 pub trace-fits : TraceFits
 unfolding trace_of
-trace-fits fvert hprim p q e =
-    by_fits fvert hprim p q (all_fit 1000 fvert && (all_fit 10 hprim && rises (khz_rows fvert)))
-    (λ t.
+trace-fits fvert hprim t p q e =
+    by_fits fvert hprim t p q (all_fit 1000 fvert && (all_fit 10 hprim && rises (khz_rows fvert)))
+    (λ b.
     (both (all_fit 10 hprim) (rises (khz_rows fvert))
-    (both (all_fit 1000 fvert) (all_fit 10 hprim && rises (khz_rows fvert)) t).1).1) e
-
--- ---- what the tests of a whole ionogram come to
-
-module _ (fvert hprim : List Float) where
-  pub fvert-unfit : (r : TraceAnswer) → all_fit 1000 fvert ≡ false → r ≡ trace_by false [] [] → r ≡ trace_of fvert hprim
-  unfolding trace_of
-  fvert-unfit r p e = rw p e
-
-  pub hprim-unfit : (r : TraceAnswer) → all_fit 1000 fvert ≡ true → all_fit 10 hprim ≡ false → r ≡ trace_by false [] []
-      → r ≡ trace_of fvert hprim
-  unfolding trace_of
-  hprim-unfit r p q e = rw (p, q) e
-
-  pub khz-unfit : (r : TraceAnswer) (khz : List ℕ) → all_fit 1000 fvert ≡ true → all_fit 10 hprim ≡ true → rises khz ≡ false
-      → khz ≡ khz_rows fvert → r ≡ trace_by false [] [] → r ≡ trace_of fvert hprim
-  unfolding trace_of
-  khz-unfit r khz p q s k e = let s' : rises (khz_rows fvert) ≡ false = sym (ap rises k) ∙ s in rw (p, q, s') e
-
-  pub answered : (khz height : List ℕ) → all_fit 1000 fvert ≡ true → all_fit 10 hprim ≡ true → rises khz ≡ true
-      → khz ≡ khz_rows fvert → height ≡ height_rows hprim
-      → record { outcome = Outcome.Answered; khz = khz; height = height } ≡ trace_of fvert hprim
-  unfolding trace_of
-  answered khz height p q s k h =
-      let s' : rises (khz_rows fvert) ≡ true = sym (ap rises k) ∙ s in
-      rw (p, q, s')
-      (ap (λ (l : List ℕ). record { outcome = Outcome.Answered; khz = l; height = height }) k
-      ∙ ap (λ (l : List ℕ). record { outcome = Outcome.Answered; khz = khz_rows fvert; height = l }) h)
+    (both (all_fit 1000 fvert) (all_fit 10 hprim && rises (khz_rows fvert)) b).1).1) e

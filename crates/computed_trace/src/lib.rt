@@ -1,71 +1,45 @@
 // A computed ionogram's rows as a trace.
 #![tactic(auto)]
 
-ghost use Rattle.std.specs.Prelude.{◌≡◌, true, false, [], map, length};
-ghost use Rattle.figures.specs.Nearest.{times_of};
-ghost use Rattle.computed_trace.specs.Computed.{all_fit, trace_by, trace_of};
+ghost use Rattle.std.specs.Prelude.{◌≡◌};
+ghost use Rattle.computed_trace.specs.Computed.{scaled_of, trace_of};
 
-use refusal::{Outcome, Refusal};
+use refusal::Refusal;
 
-// A trace of thirty rows; zeros where it is refused.
-#[derive(Drop)]
-pub struct TraceAnswer {
-    pub outcome: Outcome,
+// A trace of thirty rows.
+#[derive(Clone, Copy, Debug, PartialEq, Eq)]
+pub struct ComputedTrace {
     pub khz: [u32; 30],
     // in tenths of a kilometre
     pub height: [u32; 30],
 }
 
-// k times each number, rounded; or no, where one is below zero or its multiple not a u32.
-fn scaled(x: &[f32], k: u32, out: &mut [u32]) -> bool
-    requires { length out.old ≡ length x.now }
-    ensures value { result ≡ all_fit k x.now }
-    ensures out_after { result ≡ true → out.new ≡ map (times_of k) x.now }
+// k times each number, rounded; refused where one is below zero or its multiple not a u32.
+fn scaled(x: &[f32; 30], k: u32) -> Result<[u32; 30], Refusal>
+    ensures { result ≡ scaled_of k x.now }
 {
-    let mut i: usize = 0;
-    while i < x.len() {
-        let v = x[i];
-        if v < 0.0 {
-            return false;
+    let mut out = [0u32; 30];
+    for (i, v) in x.iter().enumerate() {
+        if *v < 0.0 {
+            return Err(Refusal::Traces);
         }
-        let n = figures::times(v, k);
+        let n = figures::times(*v, k);
         if n >= 0x1_0000_0000 {
-            return false;
+            return Err(Refusal::Traces);
         }
         out[i] = n as u32;
-        i += 1;
     }
-    true
-}
-
-fn unfit() -> TraceAnswer
-    ensures { result ≡ trace_by false [] [] }
-{
-    TraceAnswer {
-        outcome: Outcome::Refused(Refusal::Traces),
-        khz: [0u32; 30],
-        height: [0u32; 30],
-    }
+    Ok(out)
 }
 
 // A computed ionogram's thirty frequencies in MHz and virtual heights in km, as a trace.
-pub fn trace_of(fvert: [f32; 30], hprim: [f32; 30]) -> TraceAnswer
+pub fn trace_of(fvert: [f32; 30], hprim: [f32; 30]) -> Result<ComputedTrace, Refusal>
     ensures { result ≡ trace_of fvert hprim }
 {
-    let mut khz = [0u32; 30];
-    let mut height = [0u32; 30];
-    if !scaled(&fvert, 1000, &mut khz) {
-        return unfit();
-    }
-    if !scaled(&hprim, 10, &mut height) {
-        return unfit();
-    }
+    let khz = scaled(&fvert, 1000)?;
+    let height = scaled(&hprim, 10)?;
     if !traces::rises(&khz) {
-        return unfit();
+        return Err(Refusal::Traces);
     }
-    TraceAnswer {
-        outcome: Outcome::Answered,
-        khz,
-        height,
-    }
+    Ok(ComputedTrace { khz, height })
 }

@@ -1,13 +1,12 @@
 -- `f2dis`: how far the F2 MUF spreads about its median, as a standard deviation. With no table (its first number at most 0) the classical value; else by time block, sunspot row, hemisphere, latitude and the half of the distribution in which `freq` lies.
-use Rattle.std.specs.Prelude.{Bool, true, false, cond, List, ◌≡◌, ℕ, ◌+◌, ◌*◌, ◌-◌, eqb, ℤ, pos, nat_abs, get_or, length, Float}
+use Rattle.std.specs.Prelude.{Bool, true, false, cond, List, ◌≡◌, ℕ, ◌+◌, ◌*◌, ◌-◌, eqb, Result, Ok, Err, ℤ, pos, nat_abs, get_or, length, Float}
 use Rattle.std.specs.Int.Signed.{lt_z}
 use Rattle.std.specs.Float.{nan}
 use Rattle.scalar.specs.F32.{◌+f◌, ◌-f◌, ◌*f◌, ◌/f◌, ◌≤f◌, ◌>f◌}
 use Rattle.scalar.specs.Literals.{f0, f0_001, f0_15, f1_28, f1_28155, f1_55, f4, f9_5, f10, f50, f57_29577, f100}
 use Rattle.scalar.specs.Scalar.{abs_of, max_of, trunc_of}
 use Rattle.refusal.specs.declared.Refusal.{Refusal}
-use Rattle.refusal.specs.Number.{number_of}
-use Rattle.deciles.specs.declared.Deviation.{Deviation}
+use Rattle.refusal.specs.Number.{answer_number}
 
 -- ssn <= 50, ssn > 100; NaN is neither
 abbrev pub sunspot_row_by : Bool → Bool → ℕ
@@ -65,7 +64,7 @@ unfoldable pub spread_of : Float → Float → Float
 spread_of fmuf decile = let sig = abs_of (fmuf -f decile *f fmuf) /f f1_28 in max_of sig f0_001
 
 -- 10 where the list has not 576 numbers; with no table the classical value; 12 where there is no time block
-unfoldable pub f2dis_of : List Float → Float → Float → Float → Float → Float → Deviation
+unfoldable pub f2dis_of : List Float → Float → Float → Float → Float → Float → Result Float Refusal
 f2dis_of f2d fmuf ssn clat freq abb =
     let cl = clat *f f57_29577 in
     let icc = icc_of abb in
@@ -73,28 +72,24 @@ f2dis_of f2d fmuf ssn clat freq abb =
     let j = j_of ssn cl in
     cond (eqb (length f2d) 576)
     (cond (get_or f2d 0 nan ≤f f0)
-    (Deviation.Value (classical_of fmuf))
+    (Ok (classical_of fmuf))
     (cond (eqb icc 0)
-    (Deviation.Refused Refusal.TimeBlock)
-    (Deviation.Value (spread_of fmuf (get_or f2d (place_of icc j iz) nan)))))
-    (Deviation.Refused Refusal.MufLists)
+    (Err Refusal.TimeBlock)
+    (Ok (spread_of fmuf (get_or f2d (place_of icc j iz) nan)))))
+    (Err Refusal.MufLists)
 
--- the paper's number of each case, 0 for an answer, and the value, +0 beside a refusal
-abbrev pub deviation_number : Deviation → ℕ
-deviation_number (Deviation.Value x) = 0
-deviation_number (Deviation.Refused r) = number_of r
-
-abbrev pub deviation_value : Deviation → Float
-deviation_value (Deviation.Value x) = x
-deviation_value (Deviation.Refused r) = f0
+-- the value, +0 beside a refusal
+abbrev pub deviation_value : Result Float Refusal → Float
+deviation_value (Ok x) = x
+deviation_value (Err r) = f0
 
 -- by these an answer says, its tests in order: 10, and +0, where the list has not 576 numbers; 0, and the classical value, with no table; 12, and +0, where the time block is below 1; else 0, and the spread of the decile that is looked up
-unfoldable pub DeviationSays : Deviation → List Float → Float → Float → Float → Float → Float → Type 0
+unfoldable pub DeviationSays : Result Float Refusal → List Float → Float → Float → Float → Float → Float → Type 0
 DeviationSays r f2d fmuf ssn clat freq abb =
     let cl = clat *f f57_29577 in
     let decile = get_or f2d (place_of (icc_of abb) (j_of ssn cl) (icl_of cl + i_of fmuf freq)) nan in
     let whole = eqb (length f2d) 576 in
     let none = get_or f2d 0 nan ≤f f0 in
     let below = lt_z (time_block_of abb) (pos 1) in
-    (deviation_number r ≡ cond whole (cond none 0 (cond below 12 0)) 10)
+    (answer_number r ≡ cond whole (cond none 0 (cond below 12 0)) 10)
     × (deviation_value r ≡ cond whole (cond none (classical_of fmuf) (cond below f0 (spread_of fmuf decile))) f0)

@@ -6,12 +6,6 @@ ghost use Rattle.deciles.specs.F2dis.{sunspot_row_of, j_of, i_of, icl_of, icc_of
 
 use refusal::Refusal;
 
-#[derive(Drop)]
-pub enum Deviation {
-    Value(f32),
-    Refused(Refusal),
-}
-
 // The next three are sums of yes-or-no numbers: no jump hangs on a test that can't be foreseen.
 
 // 1 up to a sunspot number of 50, 3 above 100, 2 between and for NaN. A NaN is not at most 50, but
@@ -93,23 +87,30 @@ fn spread(fmuf: f32, decile: f32) -> f32
 }
 
 // `abb` is the point's clock, in hours of local mean time, and `clat` its latitude in radians.
-pub fn f2dis(f2d: &[f32], fmuf: f32, ssn: f32, clat: f32, freq: f32, abb: f32) -> Deviation
+pub fn f2dis(
+    f2d: &[f32],
+    fmuf: f32,
+    ssn: f32,
+    clat: f32,
+    freq: f32,
+    abb: f32,
+) -> Result<f32, Refusal>
     ensures value { result ≡ f2dis_of f2d.now fmuf ssn clat freq abb }
     ensures deviation_says { DeviationSays result f2d.now fmuf ssn clat freq abb }
 {
     if f2d.len() != 576 {
-        return Deviation::Refused(Refusal::MufLists);
+        return Err(Refusal::MufLists);
     }
     if f2d[0] <= 0.0 {
-        return Deviation::Value(classical(fmuf));
+        return Ok(classical(fmuf));
     }
     let icc = time_block(abb);
     if icc == 0 {
-        return Deviation::Refused(Refusal::TimeBlock);
+        return Err(Refusal::TimeBlock);
     }
     let cl = clat * 57.29577;
     let iz = band(cl) + half(fmuf, freq);
     let j = row(ssn, cl);
     let at = place(icc, j, iz);
-    Deviation::Value(spread(fmuf, f2d[at]))
+    Ok(spread(fmuf, f2d[at]))
 }

@@ -1,14 +1,14 @@
 // A number in decimals, rounded by its exact value and put into a field of a given width.
 #![tactic(auto)]
 
-ghost use Rattle.std.specs.Prelude.{◌≡◌, true, false, ◌/◌, ◌%◌, ◌^◌, ◌≤◌};
+ghost use Rattle.std.specs.Prelude.{◌≡◌, true, ◌/◌, ◌%◌, ◌^◌, ◌≤◌};
 ghost use Rattle.io.specs.Digits.{hex_digit_ascii, last_digits};
 ghost use Rattle.lines.specs.Text.{decimal_of, Clipped};
 ghost use Rattle.aligned.specs.Aligned.{right};
 ghost use Rattle.decimal_text.specs.Number.{placed_text, signed_text, number_kind_of, number_text};
 
 // What a number is, beside its size.
-#[derive(Drop)]
+#[derive(Clone, Copy, Debug, PartialEq, Eq)]
 pub enum Kind {
     NotANumber,
     Infinity,
@@ -22,11 +22,7 @@ fn ten_power(k: usize) -> u32
     requires { k ≤ 9 }
     ensures { result ≡ 10 ^ k }
 {
-    let mut p = 1;
-    for i in 0..k {
-        p *= 10;
-    }
-    p
+    10u32.pow(k as u32)
 }
 
 // The digit of n that k others follow.
@@ -94,21 +90,22 @@ fn kind_of(v: f32) -> Kind
     Kind::Minus
 }
 
-fn put_plus_units(out: &mut [u8], at: usize, width: usize, places: usize, n: u64) -> usize
+fn put_signed(out: &mut [u8], at: usize, places: usize, minus: bool, n: u64) -> usize
     requires { places ≤ 9 }
-    ensures { Clipped (right width (signed_text false places n)) out.old at out.new result }
+    ensures { Clipped (signed_text minus places n) out.old at out.new result }
 {
-    let mut text = [0u8; 32];
-    let k = put_placed(&mut text, 0, places, n);
-    aligned::put_right(out, at, width, &text[..k])
+    if minus {
+        return put_minus(out, at, places, n);
+    }
+    put_placed(out, at, places, n)
 }
 
-fn put_minus_units(out: &mut [u8], at: usize, width: usize, places: usize, n: u64) -> usize
+fn put_units(out: &mut [u8], at: usize, width: usize, places: usize, minus: bool, n: u64) -> usize
     requires { places ≤ 9 }
-    ensures { Clipped (right width (signed_text true places n)) out.old at out.new result }
+    ensures { Clipped (right width (signed_text minus places n)) out.old at out.new result }
 {
     let mut text = [0u8; 32];
-    let k = put_minus(&mut text, 0, places, n);
+    let k = put_signed(&mut text, 0, places, minus, n);
     aligned::put_right(out, at, width, &text[..k])
 }
 
@@ -131,7 +128,7 @@ pub fn put_number(out: &mut [u8], at: usize, width: usize, places: usize, v: f32
         Kind::NotANumber => aligned::put_right(out, at, width, b"NaN"),
         Kind::Infinity => aligned::put_right(out, at, width, b"inf"),
         Kind::MinusInfinity => aligned::put_right(out, at, width, b"-inf"),
-        Kind::Plus => put_plus_units(out, at, width, places, n),
-        Kind::Minus => put_minus_units(out, at, width, places, n),
+        Kind::Plus => put_units(out, at, width, places, false, n),
+        Kind::Minus => put_units(out, at, width, places, true, n),
     }
 }

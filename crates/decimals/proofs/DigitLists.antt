@@ -1,16 +1,17 @@
 -- Digits from a place on, and the number that they go on to.
 use mathlib.Core.Path.{◌≡◌, refl, sym, ap, ◌∙◌}
 use mathlib.Core.Bool.{Bool, true, false, ◌&&◌}
-use mathlib.Core.List.{List}
+use mathlib.Core.List.{List, [], ◌∷◌}
 use Prim.Native.Nat.{ℕ, suc, ◌+◌, ◌-◌, ◌*◌, ◌^◌, ◌≤◌, ◌<◌, min}
 use native.Mathlib.Nat.{le_trans, le_of_eq, mul-le-mul_right, pow-succ', pow-le-pow_right, zero-add}
 use native.Mathlib.Numerals.{add-one}
 use native.Mathlib.Omega.{arith}
-use borrow.Author.Tests.{le-leb, lt-leb, leb-true, leb-false}
+use borrow.Author.Tests.{leb-true, leb-false}
 use lib.Dec.{leb}
 use lib.Pow.{pow-add}
 use lib.ListN.{length, get_or, take, drop, drop_of_length-le, length-drop}
 use lib.Seq.{drop-cons, drop-length, take_all}
+use Rattle.std.specs.List.{list_all}
 use Rattle.decimals.specs.Decimal.{is_digit, all_digits, value_from, fine_of, parts_of, unsigned_of}
 use Rattle.words.specs.Words.{run, other}
 
@@ -22,21 +23,10 @@ both false b e = absurd (no e)
     no e = let z : ◌≡◌ {A = ℕ} 0 1 = cc in omega arith
 
 -- ---- the test
-pub low : (t : List ℕ) (i : ℕ) → i < length t → get_or t i 0 < 48 → all_digits (drop i t) ≡ false
+pub all_listed : (t : List ℕ) → all_digits t ≡ list_all is_digit t
 unfolding all_digits
-low t i h e = rw (drop-cons t i 0 h, lt-leb 48 (get_or t i 0) e)
-
-pub high : (t : List ℕ) (i : ℕ) → i < length t → 48 ≤ get_or t i 0 → 57 < get_or t i 0 → all_digits (drop i t) ≡ false
-unfolding all_digits
-high t i h d e = rw (drop-cons t i 0 h, le-leb 48 (get_or t i 0) d, lt-leb (get_or t i 0) 57 e)
-
-pub on : (t : List ℕ) (i : ℕ) → i < length t → 48 ≤ get_or t i 0 → get_or t i 0 ≤ 57 → all_digits (drop i t) ≡ all_digits (drop (i + 1) t)
-unfolding all_digits
-on t i h d e = rw (add-one i, drop-cons t i 0 h, le-leb 48 (get_or t i 0) d, le-leb (get_or t i 0) 57 e)
-
-pub end : (t : List ℕ) (i : ℕ) → length t ≤ i → true ≡ all_digits (drop i t)
-unfolding all_digits
-end t i h = rw (drop_of_length-le t h)
+all_listed [] = refl
+all_listed (b ∷ t) = ap (λ (q : Bool). is_digit b && q) (all_listed t)
 
 -- ---- the number
 pub record Next (t : List ℕ) (i : ℕ) : Type 0 where

@@ -4,20 +4,6 @@ ghost use Rattle.std.specs.Float.{binary32};
 ghost use Rattle.std.specs.Float.Ieee.{round, to_bits};
 ghost use Rattle.std.specs.Float.Ieee.Nearest.{closest as closest_of};
 
-// 10^places
-fn ten(places: u32) -> u64
-    requires { places ≤ 9 }
-    ensures { result ≡ 10 ^ places }
-{
-    let mut r: u64 = 1;
-    let mut k = 0;
-    while k < places {
-        r *= 10;
-        k += 1;
-    }
-    r
-}
-
 // a / c to the nearest whole number, an exact half to the even one.
 fn closest(a: u64, c: u64) -> u64
     requires { (0 < c) × (c < 2 ^ 62) × (a < 2 ^ 24 * c) }
@@ -76,5 +62,5 @@ pub fn nearest(minus: bool, n: u32, places: u32) -> u32
     if n == 0 {
         return s;
     }
-    s + magnitude(n as u64, ten(places))
+    s + magnitude(u64::from(n), 10u64.pow(places))
 }

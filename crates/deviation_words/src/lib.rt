@@ -5,19 +5,18 @@
 ghost use Rattle.std.specs.Prelude.{◌≡◌, ◌≤◌, length};
 ghost use Rattle.deviation_words.specs.F2disWords.{deviation_into, f2dis_left};
 
-use deciles::Deviation;
+use refusal::Refusal;
 
-fn deviation_into(d: Deviation, out: &mut [u32]) -> u32
+fn deviation_into(d: Result<f32, Refusal>, out: &mut [u32]) -> u32
     requires { 1 ≤ length out.old }
     ensures { (result ≡ (deviation_into d out.old).number) × (out.new ≡ (deviation_into d out.old).words) }
 {
     match d {
-        Deviation::Value(v) => {
-            let x = [v];
-            port_state::floats_into(&x, out, 0);
+        Ok(x) => {
+            port_state::floats_into(&[x], out, 0);
             0
         }
-        Deviation::Refused(r) => refusal::number(r),
+        Err(r) => u32::from(r),
     }
 }
 

@@ -1,19 +1,17 @@
 -- A layer's line, and the E section of `curmuf`. t is the state as `lecden` of the controlling slot leaves it; `find` is the way of finding heights off its profile.
-use Rattle.std.specs.Prelude.{Bool, true, false, ℕ, pos, Float}
+use Rattle.refusal.specs.declared.Refusal.{Refusal}
+use Rattle.std.specs.Prelude.{Bool, true, false, pos, Float, Result, Ok, Err}
 use Rattle.scalar.specs.F32.{◌+f◌, ◌-f◌, ◌*f◌}
 use Rattle.scalar.specs.Literals.{f0, f0_01, f0_1, f1_28, f104_25, f125_3}
 use Rattle.scalar.specs.Scalar.{max_of, trunc_of}
 use Rattle.constants.specs.Constants.{R2D}
-use Rattle.refusal.specs.Number.{number_of}
 use Rattle.hops.specs.Geometry.{geometry_of}
-use Rattle.hops.specs.declared.Geometry.{Geometry}
 use Rattle.hops.specs.declared.HopGeometry.{HopGeometry}
 use Rattle.heights.specs.Gethp.{Finder, gethp_of}
 use Rattle.layers.specs.State.{profile_only}
 use Rattle.layers.specs.declared.IonoState.{IonoState}
 use Rattle.layers.specs.declared.LayerMuf.{LayerMuf}
 use Rattle.e_lines.specs.declared.HeightPair.{HeightPair}
-use Rattle.e_lines.specs.declared.LineAnswer.{LineAnswer}
 
 unfoldable pub tenth_of : Float → Float
 tenth_of muf = max_of (f0_1 *f muf) f0_01
@@ -27,14 +25,10 @@ layer_line_of sigl sigu del hp ht fv xhops muf =
 unfoldable pub zero_line : LayerMuf
 zero_line = record { sigl = f0; sigu = f0; delmuf = f0; hpmuf = f0; htmuf = f0; fvmuf = f0; afmuf = f0; nhopmf = pos 0; yfot = f0; ymuf = f0; yhpf = f0 }
 
--- the paper's number of each case, 0 for a line, and the line, of +0 beside a refusal
-abbrev pub line_number : LineAnswer → ℕ
-line_number (LineAnswer.Found m) = 0
-line_number (LineAnswer.Refused r) = number_of r
-
-abbrev pub line_value : LineAnswer → LayerMuf
-line_value (LineAnswer.Found m) = m
-line_value (LineAnswer.Refused r) = zero_line
+-- the line, of +0 beside a refusal
+abbrev pub line_value : Result LayerMuf Refusal → LayerMuf
+line_value (Ok m) = m
+line_value (Err r) = zero_line
 
 abbrev pub read_with : Finder → IonoState → Float → HeightPair
 read_with find t fx = let h = find t fx in record { hp = h.hp; ht = h.ht }
@@ -54,12 +48,12 @@ e_found_of g h fxe =
     let sig = tenth_of emuf in
     layer_line_of sig sig g.del h.hp h.ht fxe g.xhops emuf
 
-abbrev pub e_line_by : Geometry → HeightPair → Float → LineAnswer
-e_line_by (Geometry.Found g) h fxe = LineAnswer.Found (e_found_of g h fxe)
-e_line_by (Geometry.Refused r) h fxe = LineAnswer.Refused r
+abbrev pub e_line_by : Result HopGeometry Refusal → HeightPair → Float → Result LayerMuf Refusal
+e_line_by (Ok g) h fxe = Ok (e_found_of g h fxe)
+e_line_by (Err r) h fxe = Err r
 
-unfoldable pub e_line_with : Finder → IonoState → Float → Float → Float → LineAnswer
+unfoldable pub e_line_with : Finder → IonoState → Float → Float → Float → Result LayerMuf Refusal
 e_line_with find t fxe gcdkm amind = let h = e_heights_with find t fxe in e_line_by (geometry_of gcdkm amind h.hp h.ht true) h fxe
 
-abbrev pub e_line_of : IonoState → Float → Float → Float → LineAnswer
+abbrev pub e_line_of : IonoState → Float → Float → Float → Result LayerMuf Refusal
 e_line_of = e_line_with gethp_of

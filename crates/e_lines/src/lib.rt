@@ -7,7 +7,7 @@ ghost use Rattle.e_lines.specs.Lines.{tenth_of, layer_line_of, zero_line, e_heig
 ghost use Rattle.e_lines.specs.Says.{ESays};
 
 use constants::R2D;
-use hops::{Geometry, HopGeometry};
+use hops::HopGeometry;
 use layers::{IonoState, LayerMuf};
 use refusal::Refusal;
 
@@ -16,12 +16,6 @@ use refusal::Refusal;
 pub struct HeightPair {
     pub hp: f32,
     pub ht: f32,
-}
-
-#[derive(Drop)]
-pub enum LineAnswer {
-    Found(LayerMuf),
-    Refused(Refusal),
 }
 
 pub fn tenth(muf: f32) -> f32
@@ -101,17 +95,11 @@ fn e_found(g: HopGeometry, h: HeightPair, fxe: f32) -> LayerMuf
     line(sig, sig, g.del, h.hp, h.ht, fxe, g.xhops, emuf)
 }
 
-pub fn e_line(t: IonoState, fxe: f32, gcdkm: f32, amind: f32) -> LineAnswer
+pub fn e_line(t: IonoState, fxe: f32, gcdkm: f32, amind: f32) -> Result<LayerMuf, Refusal>
     ensures value { result ≡ e_line_of t fxe gcdkm amind }
     ensures e_says { ESays result t fxe gcdkm amind }
 {
     let h = e_heights(t, fxe);
-    let found = hops::hop_geometry(gcdkm, amind, h.hp, h.ht, true);
-    match found {
-        Geometry::Refused(r) => LineAnswer::Refused(r),
-        Geometry::Found(g) => {
-            let m = e_found(g, h, fxe);
-            LineAnswer::Found(m)
-        }
-    }
+    let g = hops::hop_geometry(gcdkm, amind, h.hp, h.ht, true)?;
+    Ok(e_found(g, h, fxe))
 }

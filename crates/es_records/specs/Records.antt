@@ -1,5 +1,6 @@
 -- The Es records after a MUF: the controlling row's lower decile is the one number that changes.
-use Rattle.std.specs.Prelude.{Bool, true, false, List, [], ℕ, get_or, set, Float}
+use Rattle.sporadic.specs.declared.Rewrite.{Rewrite}
+use Rattle.std.specs.Prelude.{List, [], get_or, set, Float, Option, Some, None}
 use Rattle.std.specs.Float.{nan}
 use Rattle.layers.specs.declared.EsParams.{EsParams}
 
@@ -11,6 +12,6 @@ no_es = record { fs = []; hs = nan }
 abbrev pub lower_rewritten : EsParams → Float → EsParams
 lower_rewritten e lower = record { fs = set e.fs 0 lower; hs = e.hs }
 
-abbrev pub records_by : Bool → List EsParams → ℕ → Float → List EsParams
-records_by true es ksx lower = set es ksx (lower_rewritten (get_or es ksx no_es) lower)
-records_by false es ksx lower = es
+abbrev pub records_by : Option Rewrite → List EsParams → List EsParams
+records_by (Some w) es = set es w.ksx (lower_rewritten (get_or es w.ksx no_es) w.lower)
+records_by None es = es

@@ -1,11 +1,12 @@
 // The lower decile of the controlling Es record rewritten, in a lent list of records.
 #![tactic(auto)]
 
-ghost use Rattle.std.specs.Prelude.{◌≡◌, ◌<◌, true, length};
+ghost use Rattle.std.specs.Prelude.{◌≡◌, length};
+ghost use Rattle.muf.specs.Curmuf.{RowBelow};
 ghost use Rattle.es_records.specs.Records.{lower_rewritten, records_by};
 
 use layers::EsParams;
-use muf::{AnswerAndRow, MufAnswer};
+use sporadic::Rewrite;
 
 // The record with this lower decile.
 fn with_lower(e: EsParams, lower: f32) -> EsParams
@@ -17,13 +18,11 @@ fn with_lower(e: EsParams, lower: f32) -> EsParams
 }
 
 // The controlling row's lower decile is rewritten, if a row controls.
-pub fn rewrite(es: &mut [EsParams], d: AnswerAndRow) -> MufAnswer
-    requires { d.rewrites ≡ true → d.ksx < length es.old }
-    ensures { (result ≡ d.answer) × (es.new ≡ records_by d.rewrites es.old d.ksx d.lower) }
+pub fn rewrite(es: &mut [EsParams], w: Option<Rewrite>)
+    requires { RowBelow (length es.old) w }
+    ensures { es.new ≡ records_by w es.old }
 {
-    if d.rewrites {
-        let k = d.ksx;
-        es[k] = with_lower(es[k], d.lower);
+    if let Some(w) = w {
+        es[w.ksx] = with_lower(es[w.ksx], w.lower);
     }
-    d.answer
 }

@@ -1,16 +1,15 @@
--- A number by the cases of a test or of an outcome, and in a longer list.
+-- A number by the cases of a test or of an answer, and in a longer list.
 use mathlib.Core.Bool.{Bool, true, false, false≢true, cond, ◌&&◌, ◌||◌}
 use mathlib.Core.List.{List, [], ◌∷◌}
 use mathlib.Core.Path.{◌≡◌, refl}
 use Prim.Native.Nat.{ℕ}
 use borrow.Author.Tests.{eqb-true}
 use lib.Dec.{eqb}
-use Rattle.refusal.specs.Number.{number_of}
+use Rattle.std.specs.Prelude.{Result, Ok, Err, IfErr}
+use Rattle.refusal.specs.Number.{number_of, answer_number}
 use Rattle.refusal.specs.declared.Refusal.{Refusal}
-use Rattle.refusal.specs.declared.Outcome.{Outcome}
 use Rattle.record_chain.specs.Chain.{member}
 use Rattle.sheet_refusals.specs.Refusals.{Among}
-use Rattle.sheet_refusals.proofs.Chain.{OutcomeIn}
 use Rattle.sheet_refusals.proofs.Sheet.{first_of}
 use Rattle.export_refusals.specs.Exports.{OneOf}
 
@@ -22,10 +21,13 @@ pub either : {A : Type 0} (P : A → Type 0) (b : Bool) (x y : A) → P x → P 
 either P true x y p q = p
 either P false x y p q = q
 
--- `answer` gives each refusal its number
-pub by-outcome : (numbers : List ℕ) (answer : Outcome → ℕ) → OneOf numbers (answer Outcome.Answered) → ((r : Refusal) → answer (Outcome.Refused r) ≡ number_of r) → (o : Outcome) → OutcomeIn (Among numbers) o → OneOf numbers (answer o)
-by-outcome numbers answer zero same Outcome.Answered p = zero
-by-outcome numbers answer zero same (Outcome.Refused r) p = rw (same r) p
+-- `number` gives each refusal its number
+pub by-answer : {T : Type 0} (numbers : List ℕ) (number : Result T Refusal → ℕ) → ((t : T) → OneOf numbers (number (Ok t))) → ((r : Refusal) → number (Err r) ≡ number_of r) → (a : Result T Refusal) → IfErr a (Among numbers) → OneOf numbers (number a)
+by-answer numbers number zero same (Ok t) p = zero t
+by-answer numbers number zero same (Err r) p = rw (same r) p
+
+pub numbered : {T : Type 0} (numbers : List ℕ) (a : Result T Refusal) → OneOf numbers 0 → IfErr a (Among numbers) → OneOf numbers (answer_number a)
+numbered numbers a zero p = by-answer numbers answer_number (λ _. zero) (λ _. refl) a p
 
 -- ---- a longer list
 

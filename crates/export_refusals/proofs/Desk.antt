@@ -2,6 +2,9 @@
 use mathlib.Core.Bool.{◌&&◌, ◌||◌}
 use mathlib.Core.List.{List}
 use mathlib.Core.Path.{refl}
+use Rattle.std.specs.Prelude.{Result, IfErr}
+use Rattle.refusal.specs.Number.{answer_number}
+use Rattle.refusal.specs.declared.Refusal.{Refusal}
 use Prim.Native.Nat.{ℕ}
 use lib.Dec.{leb, ltb}
 use lib.IntN.{ℤ}
@@ -10,23 +13,20 @@ use lib.Ieee.{Float, binary32, of_bits}
 use Rattle.record_chain.specs.Chain.{member}
 use Rattle.figures.specs.Figure.{figure_of}
 use Rattle.figures.specs.declared.Printed.{Printed}
-use Rattle.tariff.specs.Price.{tariff_good, first_band, figure_price, printed_price, price_of, charge_number}
-use Rattle.tariff.specs.declared.Charge.{Charge}
-use Rattle.totals.specs.Total.{prices_good, total_of, total_number}
-use Rattle.totals.specs.declared.Total.{Total}
+use Rattle.tariff.specs.Price.{tariff_good, first_band, figure_price, printed_price, price_of}
+use Rattle.totals.specs.Total.{prices_good, total_of}
 use Rattle.trace_lines.specs.Lines.{trace_lines}
 use Rattle.trace_lines.specs.Trace.{rises}
-use Rattle.traces.specs.Lines.{ready, compared_by, compared_of, comparison_number}
+use Rattle.traces.specs.Lines.{ready, compared_by, compared_of}
 use Rattle.computed_trace.specs.Computed as computed
 use Rattle.port_state.specs.Words.{floats_of}
 use Rattle.port_figures.specs.Exports.{figure_answer}
 use Rattle.port_tariff.specs.Exports as tariff
 use Rattle.port_totals.specs.Exports as totals
-use Rattle.port_traces.specs.Exports.{short, lines_unless, port_compare, trace_into_by, trace_into, trace_unless, port_trace}
+use Rattle.port_traces.specs.Exports.{short, lines_unless, port_compare, trace_into, trace_unless, port_trace}
 use Rattle.sheet_refusals.specs.Refusals.{Among}
-use Rattle.sheet_refusals.proofs.Chain.{OutcomeIn}
 use Rattle.export_refusals.specs.Exports.{OneOf, figure_numbers, price_numbers, total_numbers, compare_numbers, trace_numbers}
-use Rattle.export_refusals.proofs.Cases.{both, either, by-outcome}
+use Rattle.export_refusals.proofs.Cases.{both, either, by-answer}
 
 pub figure-numbers : (out : List ℕ) → OneOf figure_numbers (figure_answer out)
 unfolding figure_answer member
@@ -34,8 +34,8 @@ figure-numbers out = either (OneOf figure_numbers) (ltb (length out) 5) _ _ refl
 
 -- ---- the price
 
-abbrev Priced : Charge → Type 0
-Priced c = OneOf price_numbers (charge_number c)
+abbrev Priced : Result ℕ Refusal → Type 0
+Priced c = OneOf price_numbers (answer_number c)
 
 printed-in : (p : Printed) (tops rates : List ℕ) (seconds : ℕ) → Priced (printed_price p tops rates seconds)
 unfolding figure_price member
@@ -57,7 +57,7 @@ pub total-numbers : (prices out : List ℕ) → OneOf total_numbers (totals.tota
 unfolding totals.total_left total_of member
 total-numbers prices out =
     either (λ (a : totals.Ported). OneOf total_numbers a.number) (ltb (length out) 1) _ _ refl
-    (either (λ (t : Total). OneOf total_numbers (total_number t)) (leb (length prices) 256 && prices_good prices) _ _ refl refl)
+    (either (λ (t : Result ℕ Refusal). OneOf total_numbers (answer_number t)) (leb (length prices) 256 && prices_good prices) _ _ refl refl)
 
 -- ---- traces
 
@@ -66,19 +66,19 @@ unfolding port_compare compared_of member
 compare-numbers a ah b bh khz which difference out =
     let c = compared_of a ah b bh khz which difference in
     both (λ x. OneOf compare_numbers (lines_unless x c khz which difference out).number) refl
-    (both (λ x. OneOf compare_numbers (comparison_number (compared_by x (trace_lines a ah b bh) khz which difference).answer)) refl refl (ready a ah b bh khz which difference))
+    (both (λ x. OneOf compare_numbers (answer_number (compared_by x (trace_lines a ah b bh) khz which difference).answer)) refl refl (ready a ah b bh khz which difference))
     (short out 1)
 
-trace-in : (fvert hprim : List Float) → OutcomeIn (Among trace_numbers) (computed.trace_of fvert hprim).outcome
+trace-in : (fvert hprim : List Float) → IfErr (computed.trace_of fvert hprim) (Among trace_numbers)
 unfolding computed.trace_of member
 trace-in fvert hprim =
-    both (λ b. OutcomeIn (Among trace_numbers) (computed.trace_by b (computed.khz_rows fvert) (computed.height_rows hprim)).outcome) tt refl
+    both (λ b. IfErr (computed.trace_by b (computed.khz_rows fvert) (computed.height_rows hprim)) (Among trace_numbers)) tt refl
     (computed.all_fit 1000 fvert && (computed.all_fit 10 hprim && rises (computed.khz_rows fvert)))
 
 pub trace-numbers : (rows khz height : List ℕ) → OneOf trace_numbers (port_trace rows khz height).number
-unfolding port_trace trace_into member
+unfolding port_trace member
 trace-numbers rows khz height =
     let t = computed.trace_of (floats_of rows 0 30) (floats_of rows 30 30) in
     both (λ b. OneOf trace_numbers (trace_unless b t khz height).number) refl
-    (by-outcome trace_numbers (λ o. (trace_into_by o t.khz t.height khz height).number) refl (λ r. refl) t.outcome (trace-in (floats_of rows 0 30) (floats_of rows 30 30)))
+    (by-answer trace_numbers (λ a. (trace_into a khz height).number) (λ x. refl) (λ r. refl) t (trace-in (floats_of rows 0 30) (floats_of rows 30 30)))
     (short rows 60 || (short khz 30 || short height 30))

@@ -6,8 +6,9 @@ use Prim.Native.Nat.{ℕ}
 use lib.Dec.{ltb}
 use lib.ListN.{length}
 use lib.Ieee.{Float, binary32, of_bits}
+use Rattle.refusal.specs.Number.{answer_number}
 use Rattle.record_chain.specs.Chain.{member}
-use Rattle.parabolas.specs.Bendy.{bendy_of, pen_of, layer_answer_by, bendy_answer, pen_answer, layer_number_of}
+use Rattle.parabolas.specs.Bendy.{bendy_of, pen_of, layer_answer_by, bendy_answer, pen_answer}
 use Rattle.port_state.specs.Ports.{Ported}
 use Rattle.port_state.specs.State.{state_words, state_of}
 use Rattle.port_heights.specs.Exports.{unless_either_short, on_state, grids_by, gethp_left, gethp_scan_left, reading_left, bendy_left, pen_left, xlin_left}
@@ -25,11 +26,11 @@ module _ (numbers : List ℕ) (out : List ℕ) (a : Ported) (one : OneOf numbers
   on-grids : (b c : Bool) → OneOf numbers (grids_by b c out a).number
   on-grids b c = both (λ x. OneOf numbers (grids_by x c out a).number) one (left_by c (ltb (length out) 2)) b
 
-parabola : (b c : Bool) (v : Float) → OneOf bendy_numbers (layer_number_of (layer_answer_by b c v))
-unfolding layer_number_of member
+parabola : (b c : Bool) (v : Float) → OneOf bendy_numbers (answer_number (layer_answer_by b c v))
+unfolding member
 parabola b c v =
-    both (λ x. OneOf bendy_numbers (layer_number_of (layer_answer_by x c v))) refl
-    (both (λ x. OneOf bendy_numbers (layer_number_of (layer_answer_by false x v))) refl refl c) b
+    both (λ x. OneOf bendy_numbers (answer_number (layer_answer_by x c v))) refl
+    (both (λ x. OneOf bendy_numbers (answer_number (layer_answer_by false x v))) refl refl c) b
 
 pub gethp-numbers : (state : List ℕ) (fxx : ℕ) (out : List ℕ) → OneOf gethp_numbers (gethp_left state fxx out).number
 unfolding gethp_left member

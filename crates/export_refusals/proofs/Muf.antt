@@ -2,6 +2,9 @@
 use mathlib.Core.Bool.{Bool, true, false}
 use mathlib.Core.List.{List}
 use mathlib.Core.Path.{◌≡◌, refl, sym, subst}
+use Rattle.std.specs.Prelude.{Result, IfErr}
+use Rattle.refusal.specs.declared.Refusal.{Refusal}
+use Rattle.refusal.specs.Number.{answer_number}
 use Prim.Native.Nat.{ℕ, ◌/◌}
 use lib.Dec.{ltb, eqb}
 use lib.ListN.{length, get_or}
@@ -13,39 +16,36 @@ use Rattle.layers.specs.declared.IonoState.{IonoState}
 use Rattle.layers.specs.declared.LayerParams.{LayerParams}
 use Rattle.layers.specs.declared.EsParams.{EsParams}
 use Rattle.heights.specs.Gethp.{gethp_of}
-use Rattle.deciles.specs.F2dis.{icc_of, f2dis_of, deviation_number}
-use Rattle.deciles.specs.declared.Deviation.{Deviation}
+use Rattle.deciles.specs.F2dis.{icc_of, f2dis_of}
 use Rattle.controlling_slot.specs.Controlling.{controlling_of}
 use Rattle.layer_mufs.specs.declared.PathNumbers.{PathNumbers}
 use Rattle.sporadic.specs.Sporadic.{start_of, row_at, es_from}
-use Rattle.sporadic.specs.declared.EsStep.{EsStep}
-use Rattle.muf.specs.Hour.{refused_muf}
-use Rattle.muf.specs.Curmuf.{in_domain, lists_reach, refused_rows_kept, muf_from_search_by, muf_from_search_with, muf_of_rows_with, row_count_of, flat_with, flat_of, curmuf_of}
-use Rattle.nominal.specs.Nommuf.{path_taken, refused_nominal, nommuf_of}
-use Rattle.nominal.specs.declared.NominalAnswer.{NominalAnswer}
+use Rattle.sporadic.specs.declared.EsSearch.{EsSearch}
+use Rattle.muf.specs.declared.MufHour.{MufHour}
+use Rattle.muf.specs.Curmuf.{in_domain, lists_reach, muf_from_search_by, muf_from_search_with, muf_of_rows_with, row_count_of, flat_with, flat_of}
+use Rattle.nominal.specs.Nommuf.{path_taken, nommuf_of}
 use Rattle.nominal_factors.specs.Factors.{counts_agree}
 use Rattle.port_state.specs.State.{state_words, state_of}
 use Rattle.port_state.specs.Ports.{Ported, points_of}
 use Rattle.deviation_words.specs.Floats.{number, floats}
 use Rattle.deviation_words.specs.F2disWords.{f2dis_by, f2dis_left}
-use Rattle.port_muf.specs.Exports.{leaves, path_numbers_of, done_left_by, done_left, curmuf_by, HourLeft, curmuf_left}
-use Rattle.port_nominal.specs.Exports.{nominal_by, nominal_into, nominal_words, word_rows, words_reach, five_at_most, nominal_left}
+use Rattle.port_muf.specs.Exports.{leaves, path_numbers_of, done_left, curmuf_by, HourLeft, curmuf_left}
+use Rattle.port_nominal.specs.Exports.{nominal_into, nominal_words, word_rows, words_reach, five_at_most, nominal_left}
 use Rattle.sheet_refusals.specs.Refusals.{Among}
-use Rattle.sheet_refusals.proofs.Chain.{OutcomeIn}
-use Rattle.sheet_refusals.proofs.Muf.{muf-in}
+use Rattle.sheet_refusals.proofs.Muf.{flat-refused}
 use Rattle.sheet_refusals.proofs.Sheet.{deciles-right}
 use Rattle.export_refusals.specs.Exports.{OneOf, f2dis_numbers, curmuf_numbers, nommuf_numbers}
-use Rattle.export_refusals.proofs.Cases.{either, by-outcome}
+use Rattle.export_refusals.proofs.Cases.{either, by-answer}
 
 -- ---- `f2dis`
 
-deviation-in : (f2d : List Float) (fmuf ssn clat freq abb : Float) → OneOf f2dis_numbers (deviation_number (f2dis_of f2d fmuf ssn clat freq abb))
+deviation-in : (f2d : List Float) (fmuf ssn clat freq abb : Float) → OneOf f2dis_numbers (answer_number (f2dis_of f2d fmuf ssn clat freq abb))
 unfolding f2dis_of member
 deviation-in f2d fmuf ssn clat freq abb =
-    let P : Deviation → Type 0 = λ d. OneOf f2dis_numbers (deviation_number d) in
+    let P : Result Float Refusal → Type 0 = λ d. OneOf f2dis_numbers (answer_number d) in
     either P (eqb (length f2d) 576) _ _ (either P (get_or f2d 0 nan ≤f f0) _ _ refl (either P (eqb (icc_of abb) 0) _ _ refl refl)) refl
 
-f2dis-by : (a b : Bool) (out : List ℕ) (d : Deviation) → OneOf f2dis_numbers (deviation_number d) → OneOf f2dis_numbers (f2dis_by a b out d).number
+f2dis-by : (a b : Bool) (out : List ℕ) (d : Result Float Refusal) → OneOf f2dis_numbers (answer_number d) → OneOf f2dis_numbers (f2dis_by a b out d).number
 unfolding member
 f2dis-by true b out d p = refl
 f2dis-by false true out d p = refl
@@ -59,18 +59,18 @@ f2dis-numbers deciles numbers out =
 
 -- ---- `curmuf`: where its lists reach, the input, the hops and the time block; else the input, then the lists
 
-unreached : (d : Bool) (s : IonoState) (step : EsStep) (f2d clat clck : List Float) (c : PathNumbers) → OutcomeIn (Among curmuf_numbers) (muf_from_search_by d false gethp_of s step f2d clat clck c).answer.outcome
-unfolding refused_rows_kept refused_muf member
+unreached : (d : Bool) (s : IonoState) (step : Result EsSearch Refusal) (f2d clat clck : List Float) (c : PathNumbers) → IfErr (muf_from_search_by d false gethp_of s step f2d clat clck c) (Among curmuf_numbers)
+unfolding member
 unreached true s step f2d clat clck c = refl
 unreached false s step f2d clat clck c = refl
 
-reached-or-not : (b : Bool) (s : IonoState) (es f2d clat clck : List Float) (c : PathNumbers) → lists_reach (controlling_of s) (length f2d) (length clat) (length clck) ≡ b → OutcomeIn (Among curmuf_numbers) (curmuf_of s es f2d clat clck c).outcome
+reached-or-not : (b : Bool) (s : IonoState) (es f2d clat clck : List Float) (c : PathNumbers) → lists_reach (controlling_of s) (length f2d) (length clat) (length clck) ≡ b → IfErr (flat_of s es f2d clat clck c) (Among curmuf_numbers)
 unfolding flat_with muf_of_rows_with muf_from_search_with member
 reached-or-not true s es f2d clat clck c e =
-    (muf-in (Among curmuf_numbers) refl refl refl s es f2d clat clck c (deciles-right (controlling_of s) (length f2d) (length clat) (length clck) e) e).0
+    flat-refused (Among curmuf_numbers) refl refl refl s es f2d clat clck c (deciles-right (controlling_of s) (length f2d) (length clat) (length clck) e) e
 reached-or-not false s es f2d clat clck c e =
     let step = es_from (row_at es) c (row_count_of (length es) s.km) 0 start_of in
-    subst (λ (b : Bool). OutcomeIn (Among curmuf_numbers) (muf_from_search_by (in_domain c) b gethp_of s step f2d clat clck c).answer.outcome) (sym e) (unreached (in_domain c) s step f2d clat clck c)
+    subst (λ (b : Bool). IfErr (muf_from_search_by (in_domain c) b gethp_of s step f2d clat clck c) (Among curmuf_numbers)) (sym e) (unreached (in_domain c) s step f2d clat clck c)
 
 curmuf-by : (a b c : Bool) (state es out : List ℕ) (h : HourLeft) → OneOf curmuf_numbers h.number → OneOf curmuf_numbers (curmuf_by a b c (leaves 1 state es out) h).number
 unfolding member
@@ -85,15 +85,15 @@ curmuf-numbers state es deciles clat clck numbers out =
     let s = state_of state in
     let d = flat_of s (floats es) deciles (floats clat) (floats clck) (path_numbers_of numbers) in
     curmuf-by (ltb (length state) state_words) (ltb (length numbers) 4) (ltb (length out) 54) state es out _
-    (by-outcome curmuf_numbers (λ o. (done_left_by o d state es out).number) refl (λ r. refl) d.answer.outcome
+    (by-answer curmuf_numbers (λ a. (done_left a state es out).number) (λ a. refl) (λ r. refl) d
     (reached-or-not (lists_reach (controlling_of s) (length deciles) (length (floats clat)) (length (floats clck))) s (floats es) deciles (floats clat) (floats clck) (path_numbers_of numbers) refl))
 
 -- ---- the nominal MUF
 
-nominal-in : (points : List LayerParams) (f2m3 : List Float) (es : List EsParams) (km : ℕ) (gcd gcdkm : Float) → OutcomeIn (Among nommuf_numbers) (nommuf_of points f2m3 es km gcd gcdkm).outcome
-unfolding nommuf_of refused_nominal member
+nominal-in : (points : List LayerParams) (f2m3 : List Float) (es : List EsParams) (km : ℕ) (gcd gcdkm : Float) → IfErr (nommuf_of points f2m3 es km gcd gcdkm) (Among nommuf_numbers)
+unfolding nommuf_of member
 nominal-in points f2m3 es km gcd gcdkm =
-    let P : NominalAnswer → Type 0 = λ a. OutcomeIn (Among nommuf_numbers) a.outcome in
+    let P : Result MufHour Refusal → Type 0 = λ a. IfErr a (Among nommuf_numbers) in
     either P (counts_agree km (length f2m3)) _ _ (either P (path_taken gcd gcdkm) _ _ tt refl) refl
 
 pub nommuf-numbers : (points f2m3 es numbers out : List ℕ) → OneOf nommuf_numbers (nominal_left points f2m3 es numbers out).number
@@ -101,8 +101,7 @@ unfolding nominal_left nominal_into nominal_words member
 nommuf-numbers points f2m3 es numbers out =
     let P : Ported → Type 0 = λ a. OneOf nommuf_numbers a.number in
     let n = length points / 9 in
-    let a = nominal_words points f2m3 es numbers n in
     either P (words_reach (length points) (length es) (length numbers) (length out)) _ _
     (either P (five_at_most (length points) (length f2m3)) _ _
-    (by-outcome nommuf_numbers (λ o. (nominal_by o a.hour out).number) refl (λ r. refl) a.outcome (nominal-in (points_of points n) (floats f2m3) (word_rows es n) n (number numbers 0) (number numbers 1)))
+    (by-answer nommuf_numbers (λ a. (nominal_into a out).number) (λ h. refl) (λ r. refl) (nominal_words points f2m3 es numbers n) (nominal-in (points_of points n) (floats f2m3) (word_rows es n) n (number numbers 0) (number numbers 1)))
     refl) refl

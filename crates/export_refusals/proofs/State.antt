@@ -2,6 +2,8 @@
 use mathlib.Core.Bool.{◌&&◌}
 use mathlib.Core.List.{List}
 use mathlib.Core.Path.{refl}
+use Rattle.std.specs.Prelude.{Result, IfErr}
+use Rattle.refusal.specs.declared.Refusal.{Refusal}
 use Prim.Native.Nat.{ℕ, ◌/◌, ◌%◌}
 use lib.Dec.{leb, ltb, eqb}
 use lib.ListN.{length}
@@ -10,31 +12,29 @@ use Rattle.slots.specs.FromLayers as layers
 use Rattle.slots.specs.Ionset as ionset
 use Rattle.layers.specs.declared.IonoState.{IonoState}
 use Rattle.layers.specs.declared.LayerParams.{LayerParams}
-use Rattle.layers.specs.declared.StateAnswer.{StateAnswer}
 use Rattle.profile.specs.Lecden.{lecden_answer_by, lecden_answer}
 use Rattle.port_state.specs.State.{state_words, state_of}
 use Rattle.port_state.specs.Ports.{points_of}
-use Rattle.port_layers.specs.Exports.{ported_state_by, ported_state_of, port_ionset_by, port_ionset, port_lecden_by, port_lecden, from_points_by, port_from_layers_by, port_from_layers, owner_answer_by, port_owner}
+use Rattle.port_layers.specs.Exports.{ported_state_of, port_ionset_by, port_ionset, port_lecden_by, port_lecden, from_points_by, port_from_layers_by, port_from_layers, owner_answer_by, port_owner}
 use Rattle.sheet_refusals.specs.Refusals.{Among}
-use Rattle.sheet_refusals.proofs.Chain.{OutcomeIn}
 use Rattle.export_refusals.specs.Exports.{OneOf, from_layers_numbers, ionset_numbers, lecden_numbers, owner_numbers}
-use Rattle.export_refusals.proofs.Cases.{both, by-outcome}
+use Rattle.export_refusals.proofs.Cases.{both, by-answer}
 
-answered : (numbers : List ℕ) (a : StateAnswer) (w : List ℕ) → OneOf numbers 0 → OutcomeIn (Among numbers) a.outcome → OneOf numbers (ported_state_of a w).number
+answered : (numbers : List ℕ) (a : Result IonoState Refusal) (w : List ℕ) → OneOf numbers 0 → IfErr a (Among numbers) → OneOf numbers (ported_state_of a w).number
 unfolding ported_state_of
-answered numbers a w zero p = by-outcome numbers (λ o. (ported_state_by o a.state w).number) zero (λ r. refl) a.outcome p
+answered numbers a w zero p = by-answer numbers (λ x. (ported_state_of x w).number) (λ s. zero) (λ r. refl) a p
 
-layers-in : (params : List LayerParams) (n : ℕ) → OutcomeIn (Among from_layers_numbers) (layers.from_layers_of params n).outcome
+layers-in : (params : List LayerParams) (n : ℕ) → IfErr (layers.from_layers_of params n) (Among from_layers_numbers)
 unfolding layers.from_layers_of member
-layers-in params n = both (λ b. OutcomeIn (Among from_layers_numbers) (layers.from_layers_by b params n).outcome) tt refl (layers.count_taken n)
+layers-in params n = both (λ b. IfErr (layers.from_layers_by b params n) (Among from_layers_numbers)) tt refl (layers.count_taken n)
 
-ionset-in : (s : IonoState) → OutcomeIn (Among ionset_numbers) (ionset.ionset_of s).outcome
+ionset-in : (s : IonoState) → IfErr (ionset.ionset_of s) (Among ionset_numbers)
 unfolding ionset.ionset_of member
-ionset-in s = both (λ b. OutcomeIn (Among ionset_numbers) (ionset.ionset_by b s).outcome) tt refl (layers.count_taken s.km)
+ionset-in s = both (λ b. IfErr (ionset.ionset_by b s) (Among ionset_numbers)) tt refl (layers.count_taken s.km)
 
-lecden-in : (s : IonoState) (k : ℕ) → OutcomeIn (Among lecden_numbers) (lecden_answer s k).outcome
+lecden-in : (s : IonoState) (k : ℕ) → IfErr (lecden_answer s k) (Among lecden_numbers)
 unfolding lecden_answer member
-lecden-in s k = both (λ b. OutcomeIn (Among lecden_numbers) (lecden_answer_by b s k).outcome) tt refl (ltb k 3)
+lecden-in s k = both (λ b. IfErr (lecden_answer_by b s k) (Among lecden_numbers)) tt refl (ltb k 3)
 
 pub from-layers-numbers : (points state : List ℕ) → OneOf from_layers_numbers (port_from_layers points state).number
 unfolding port_from_layers member

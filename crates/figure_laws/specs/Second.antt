@@ -1,8 +1,7 @@
 -- One second more on a call: the same tariff and MUF, the price of `seconds` and of `seconds + 1`.
-use Rattle.std.specs.Prelude.{List, ◌≡◌, ℕ, ◌+◌, ◌≤◌, Float, get_or}
+use Rattle.std.specs.Prelude.{List, ◌≡◌, ℕ, ◌+◌, ◌≤◌, Ok, Float, get_or}
 use Rattle.figures.specs.Figure.{figure_of}
 use Rattle.figures.specs.declared.Printed.{Printed}
-use Rattle.tariff.specs.declared.Charge.{Charge}
 use Rattle.tariff.specs.Price.{price_of, rounded_up}
 use Rattle.tariff.specs.Meaning.{FirstBand}
 
@@ -13,9 +12,9 @@ pub record OneMore (muf : Float) (tops rates : List ℕ) (seconds c : ℕ) : Typ
   pub band : ℕ
   pub first : FirstBand tenths tops band
   pub more : ℕ
-  pub answered : price_of muf tops rates (seconds + 1) ≡ Charge.Cents more
+  pub answered : price_of muf tops rates (seconds + 1) ≡ Ok more
   pub never-lower : c ≤ more
   pub adds-at-most : more ≤ c + rounded_up (get_or rates band 0)
 
 abbrev pub OneSecondMore : Type 0
-OneSecondMore = (muf : Float) (tops rates : List ℕ) (seconds c : ℕ) → price_of muf tops rates seconds ≡ Charge.Cents c → seconds + 1 ≤ 86400 → OneMore muf tops rates seconds c
+OneSecondMore = (muf : Float) (tops rates : List ℕ) (seconds c : ℕ) → price_of muf tops rates seconds ≡ Ok c → seconds + 1 ≤ 86400 → OneMore muf tops rates seconds c

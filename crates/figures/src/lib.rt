@@ -7,7 +7,7 @@ ghost use Rattle.figures.specs.Nearest.{nearest as nearest_of, past, times_of};
 ghost use Rattle.figures.specs.Figure.{signed_tenths, figure_of, figure_number, figure_tenths};
 
 // The printed figure of a MUF.
-#[derive(Drop)]
+#[derive(Clone, Copy, Debug, PartialEq, Eq)]
 pub enum Printed {
     // 0.0 to 999.9: its tenths, 0 to 9999
     Tenths(u32),
@@ -39,10 +39,7 @@ fn nearest(n: u64, d: u64) -> u64
 fn kept(n: u64) -> u64
     ensures { result ≡ min n past }
 {
-    if n < 0x1_0000_0000 {
-        return n;
-    }
-    0x1_0000_0000
+    n.min(0x1_0000_0000)
 }
 
 // k times the size of v, an exact product, to the nearest whole number, an exact half to the even one;

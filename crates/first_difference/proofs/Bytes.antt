@@ -1,48 +1,47 @@
 -- Lines compared are bytes compared. The first line of a text begins with the text's first byte, and no line is empty: so texts
 -- whose first bytes differ differ in their first line, and texts that begin alike go on as their rests do, one line further
 -- after a line feed.
-use Prim.Native.Nat.{ℕ, suc, ◌+◌, ◌≤◌, ◌<◌}
+use Prim.Native.Nat.{ℕ, suc, ◌+◌, ◌≤◌}
 use mathlib.Core.Path.{◌≡◌, refl, ap, subst, ◌∙◌}
 use mathlib.Core.Bool.{Bool, true, false, cond, ◌&&◌}
 use mathlib.Core.List.{List, [], ◌∷◌}
-use native.Mathlib.Numerals.{add-one}
+use mathlib.Core.Logic.{◌⊎◌, inl, inr}
 use native.Mathlib.Omega.{arith}
 use borrow.Author.Tests.{eq-eqb, ne_eqb, eqb-true}
 use lib.Dec.{eqb}
-use lib.ListN.{length, get_or, take, drop}
-use lib.Seq.{drop-cons, drop-length}
+use lib.ListN.{length, take}
+use Rattle.std.specs.Prelude.{Option, None, Some}
 use Rattle.lines.specs.Text.{line_feed}
 use Rattle.first_difference.specs.Lines.{in_front, lines_of}
 use Rattle.first_difference.specs.Difference.{same_bytes, verdict_from, verdict_of}
 use Rattle.first_difference.specs.Closed.{feed_of, feeds_of, common_of, closed_of}
-use Rattle.first_difference.specs.declared.Verdict.{Verdict}
 
 -- two texts byte by byte, from line n on
-unfoldable pub by_bytes : ℕ → List ℕ → List ℕ → Verdict
-by_bytes n [] [] = Verdict.Same
-by_bytes n [] (b ∷ t) = Verdict.Differs n
-by_bytes n (a ∷ s) [] = Verdict.Differs n
-by_bytes n (a ∷ s) (b ∷ t) = cond (eqb a b) (by_bytes (n + feed_of a) s t) (Verdict.Differs n)
+unfoldable pub by_bytes : ℕ → List ℕ → List ℕ → Option ℕ
+by_bytes n [] [] = None
+by_bytes n [] (b ∷ t) = Some n
+by_bytes n (a ∷ s) [] = Some n
+by_bytes n (a ∷ s) (b ∷ t) = cond (eqb a b) (by_bytes (n + feed_of a) s t) (Some n)
 
 -- ---- lines
 
 -- no line is empty
-abbrev pub Some : List (List ℕ) → Type 0
-Some [] = Unit {0}
-Some ([] ∷ ls) = ⊥
-Some ((a ∷ l) ∷ ls) = Some ls
+abbrev pub NoneEmpty : List (List ℕ) → Type 0
+NoneEmpty [] = Unit {0}
+NoneEmpty ([] ∷ ls) = ⊥
+NoneEmpty ((a ∷ l) ∷ ls) = NoneEmpty ls
 
-front-some : (b : ℕ) (ls : List (List ℕ)) → Some ls → Some (in_front b ls)
+front-some : (b : ℕ) (ls : List (List ℕ)) → NoneEmpty ls → NoneEmpty (in_front b ls)
 front-some b [] h = tt
 front-some b ([] ∷ ls) h = absurd h
 front-some b ((a ∷ l) ∷ ls) h = h
 
-pub lines-some : (t : List ℕ) → Some (lines_of t)
+pub lines-some : (t : List ℕ) → NoneEmpty (lines_of t)
 unfolding lines_of
 lines-some [] = tt
 lines-some (b ∷ t) = by (lines-some t) (eqb b line_feed)
   where
-    by : Some (lines_of t) → (q : Bool) → Some (cond q ((b ∷ []) ∷ lines_of t) (in_front b (lines_of t)))
+    by : NoneEmpty (lines_of t) → (q : Bool) → NoneEmpty (cond q ((b ∷ []) ∷ lines_of t) (in_front b (lines_of t)))
     by r true = r
     by r false = front-some b (lines_of t) r
 
@@ -63,7 +62,7 @@ begins a t = by (eqb a line_feed) (lines_of t) refl refl
 
 -- ---- a byte in front of both
 
-in-front : (n a : ℕ) (ls ms : List (List ℕ)) → Some ls → Some ms
+in-front : (n a : ℕ) (ls ms : List (List ℕ)) → NoneEmpty ls → NoneEmpty ms
     → verdict_from n (in_front a ls) (in_front a ms) ≡ verdict_from n ls ms
 unfolding verdict_from same_bytes
 in-front n a [] [] h k = rw (eq-eqb a a refl)
@@ -73,7 +72,7 @@ in-front n a ([] ∷ ls) ms h k = absurd h
 in-front n a ((b ∷ l) ∷ ls) [] h k = rw (eq-eqb a a refl)
 in-front n a ((b ∷ l) ∷ ls) (m ∷ ms) h k = rw (eq-eqb a a refl)
 
-apart : (n a b : ℕ) (s t : List ℕ) → eqb a b ≡ false → verdict_from n (lines_of (a ∷ s)) (lines_of (b ∷ t)) ≡ Verdict.Differs n
+apart : (n a b : ℕ) (s t : List ℕ) → eqb a b ≡ false → verdict_from n (lines_of (a ∷ s)) (lines_of (b ∷ t)) ≡ Some n
 unfolding verdict_from same_bytes
 apart n a b s t e = rw ((begins a s).is, (begins b t).is, e)
 
@@ -91,15 +90,15 @@ alike n a s t r = by (eqb a line_feed)
         ∙ r n
         ∙ ap (λ (m : ℕ). by_bytes m s t) (omega arith)
 
-none_left : (n : ℕ) → verdict_from n (lines_of []) (lines_of []) ≡ Verdict.Same
+none_left : (n : ℕ) → verdict_from n (lines_of []) (lines_of []) ≡ None
 unfolding lines_of verdict_from
 none_left n = refl
 
-longer : (n b : ℕ) (t : List ℕ) → verdict_from n (lines_of []) (lines_of (b ∷ t)) ≡ Verdict.Differs n
+longer : (n b : ℕ) (t : List ℕ) → verdict_from n (lines_of []) (lines_of (b ∷ t)) ≡ Some n
 unfolding lines_of verdict_from
 longer n b t = rw (begins b t).is
 
-shorter : (n a : ℕ) (s : List ℕ) → verdict_from n (lines_of (a ∷ s)) (lines_of []) ≡ Verdict.Differs n
+shorter : (n a : ℕ) (s : List ℕ) → verdict_from n (lines_of (a ∷ s)) (lines_of []) ≡ Some n
 unfolding lines_of verdict_from
 shorter n a s = rw (begins a s).is
 
@@ -111,7 +110,7 @@ lines-bytes (a ∷ s) [] n = shorter n a s
 lines-bytes (a ∷ s) (b ∷ t) n = by (lines-bytes s t) (eqb a b) refl
   where
     by : ((m : ℕ) → verdict_from m (lines_of s) (lines_of t) ≡ by_bytes m s t) → (q : Bool) → eqb a b ≡ q
-        → verdict_from n (lines_of (a ∷ s)) (lines_of (b ∷ t)) ≡ cond q (by_bytes (n + feed_of a) s t) (Verdict.Differs n)
+        → verdict_from n (lines_of (a ∷ s)) (lines_of (b ∷ t)) ≡ cond q (by_bytes (n + feed_of a) s t) (Some n)
     by r true e =
         subst (λ (x : ℕ). verdict_from n (lines_of (a ∷ s)) (lines_of (x ∷ t)) ≡ by_bytes (n + feed_of a) s t) (eqb-true a b e)
         (alike n a s t r)
@@ -124,22 +123,22 @@ compared-bytes ours theirs = lines-bytes ours theirs 1
 -- ---- the closed form
 
 bytes-closed : (s t : List ℕ) (n : ℕ)
-    → by_bytes n s t ≡ cond (same_bytes s t) Verdict.Same (Verdict.Differs (n + feeds_of (take (common_of s t) s)))
+    → by_bytes n s t ≡ cond (same_bytes s t) None (Some (n + feeds_of (take (common_of s t) s)))
 unfolding by_bytes same_bytes common_of feeds_of
 bytes-closed [] [] n = refl
-bytes-closed [] (b ∷ t) n = ap Verdict.Differs (omega arith)
-bytes-closed (a ∷ s) [] n = ap Verdict.Differs (omega arith)
+bytes-closed [] (b ∷ t) n = ap Some (omega arith)
+bytes-closed (a ∷ s) [] n = ap Some (omega arith)
 bytes-closed (a ∷ s) (b ∷ t) n = by (bytes-closed s t (n + feed_of a)) (eqb a b)
   where
     by : by_bytes (n + feed_of a) s t
-        ≡ cond (same_bytes s t) Verdict.Same (Verdict.Differs (n + feed_of a + feeds_of (take (common_of s t) s)))
+        ≡ cond (same_bytes s t) None (Some (n + feed_of a + feeds_of (take (common_of s t) s)))
         → (q : Bool)
-        → cond q (by_bytes (n + feed_of a) s t) (Verdict.Differs n)
-        ≡ cond (q && same_bytes s t) Verdict.Same (Verdict.Differs (n + feeds_of (take (cond q (suc (common_of s t)) 0) (a ∷ s))))
+        → cond q (by_bytes (n + feed_of a) s t) (Some n)
+        ≡ cond (q && same_bytes s t) None (Some (n + feeds_of (take (cond q (suc (common_of s t)) 0) (a ∷ s))))
     by r true =
         r
-        ∙ ap (λ (m : ℕ). cond (same_bytes s t) Verdict.Same (Verdict.Differs m)) {x = n + feed_of a + feeds_of (take (common_of s t) s)} (omega arith)
-    by r false = ap Verdict.Differs (omega arith)
+        ∙ ap (λ (m : ℕ). cond (same_bytes s t) None (Some m)) {x = n + feed_of a + feeds_of (take (common_of s t) s)} (omega arith)
+    by r false = ap Some (omega arith)
 
 pub closed-form : (ours theirs : List ℕ) → verdict_of ours theirs ≡ closed_of ours theirs
 unfolding closed_of
@@ -155,24 +154,27 @@ feed-most b = by (eqb b line_feed)
     by true = omega arith
     by false = omega arith
 
-pub on : (s t : List ℕ) (i n : ℕ) → i < length s → i < length t → get_or s i 0 ≡ get_or t i 0
-    → by_bytes n (drop i s) (drop i t) ≡ by_bytes (n + feed_of (get_or s i 0)) (drop (i + 1) s) (drop (i + 1) t)
+pub on : (s t u v : List ℕ) (a b n : ℕ) → s ≡ a ∷ u → t ≡ b ∷ v → a ≡ b → by_bytes n s t ≡ by_bytes (n + feed_of a) u v
 unfolding by_bytes
-on s t i n h k e = rw (add-one i, drop-cons s i 0 h, drop-cons t i 0 k, eq-eqb _ _ e)
+on s t u v a b n e f h = rw (e, f, eq-eqb a b h)
 
-pub off : (s t : List ℕ) (i n : ℕ) → i < length s → i < length t → (get_or s i 0 ≡ get_or t i 0 → ⊥)
-    → by_bytes n (drop i s) (drop i t) ≡ Verdict.Differs n
+pub off : (s t u v : List ℕ) (a b n : ℕ) → s ≡ a ∷ u → t ≡ b ∷ v → (a ≡ b → ⊥) → by_bytes n s t ≡ Some n
 unfolding by_bytes
-off s t i n h k e = rw (drop-cons s i 0 h, drop-cons t i 0 k, ne_eqb _ _ e)
+off s t u v a b n e f h = rw (e, f, ne_eqb a b h)
 
-pub short : (s t : List ℕ) (i n : ℕ) → i < length s → i ≡ length t → by_bytes n (drop i s) (drop i t) ≡ Verdict.Differs n
+-- one has ended, and the other has as many bytes left, or not
+pub even : (s t : List ℕ) (n : ℕ) → (length s ≡ 0) ⊎ (length t ≡ 0) → length s ≡ length t → by_bytes n s t ≡ None
 unfolding by_bytes
-short s t i n h e = rw (drop-cons s i 0 h, e, drop-length t)
+even [] [] n h e = refl
+even [] (b ∷ t) n h e = absurd (omega arith)
+even (a ∷ s) [] n h e = absurd (omega arith)
+even (a ∷ s) (b ∷ t) n (inl h) e = absurd (omega arith)
+even (a ∷ s) (b ∷ t) n (inr h) e = absurd (omega arith)
 
-pub long : (s t : List ℕ) (i n : ℕ) → i ≡ length s → i < length t → by_bytes n (drop i s) (drop i t) ≡ Verdict.Differs n
+pub uneven : (s t : List ℕ) (n : ℕ) → (length s ≡ 0) ⊎ (length t ≡ 0) → (length s ≡ length t → ⊥) → by_bytes n s t ≡ Some n
 unfolding by_bytes
-long s t i n e h = rw (drop-cons t i 0 h, e, drop-length s)
-
-pub both : (s t : List ℕ) (i n : ℕ) → i ≡ length s → i ≡ length t → by_bytes n (drop i s) (drop i t) ≡ Verdict.Same
-unfolding by_bytes
-both s t i n e f = ap (λ (k : ℕ). by_bytes n (drop k s) (drop i t)) e ∙ ap (λ (k : ℕ). by_bytes n (drop (length s) s) (drop k t)) f ∙ rw (drop-length s, drop-length t)
+uneven [] [] n h e = absurd (e refl)
+uneven [] (b ∷ t) n h e = refl
+uneven (a ∷ s) [] n h e = refl
+uneven (a ∷ s) (b ∷ t) n (inl h) e = absurd (omega arith)
+uneven (a ∷ s) (b ∷ t) n (inr h) e = absurd (omega arith)

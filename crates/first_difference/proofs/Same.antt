@@ -7,9 +7,9 @@ use native.Mathlib.Omega.{arith}
 use borrow.Author.Tests.{eq-eqb, eqb-true}
 use lib.Dec.{eqb}
 use lib.ListN.{take}
+use Rattle.std.specs.Prelude.{None, Some}
 use Rattle.first_difference.specs.Difference.{same_bytes, verdict_of}
 use Rattle.first_difference.specs.Closed.{feeds_of, common_of, closed_of}
-use Rattle.first_difference.specs.declared.Verdict.{Verdict}
 use Rattle.first_difference.proofs.Bytes.{closed-form}
 
 pub bytes-equal : (s t : List ℕ) → same_bytes s t ≡ true → s ≡ t
@@ -28,23 +28,23 @@ unfolding same_bytes
 bytes-own [] = refl
 bytes-own (a ∷ s) = rw (eq-eqb a a refl) (bytes-own s)
 
-found-same : (ours theirs : List ℕ) → closed_of ours theirs ≡ Verdict.Same → theirs ≡ ours
+found-same : (ours theirs : List ℕ) → closed_of ours theirs ≡ None → theirs ≡ ours
 unfolding closed_of
 found-same ours theirs e = by (same_bytes ours theirs) refl e
   where
     by : (q : Bool) → same_bytes ours theirs ≡ q
-        → cond q Verdict.Same (Verdict.Differs (1 + feeds_of (take (common_of ours theirs) ours))) ≡ Verdict.Same
+        → cond q None (Some (1 + feeds_of (take (common_of ours theirs) ours))) ≡ None
         → theirs ≡ ours
     by true f h = sym (bytes-equal ours theirs f)
     by false f h = let z : ◌≡◌ {A = ℕ} 0 1 = cc in absurd (omega arith)
 
-pub same-only : (ours theirs : List ℕ) → verdict_of ours theirs ≡ Verdict.Same → theirs ≡ ours
+pub same-only : (ours theirs : List ℕ) → verdict_of ours theirs ≡ None → theirs ≡ ours
 same-only ours theirs e = found-same ours theirs (sym (closed-form ours theirs) ∙ e)
 
-own : (ours : List ℕ) → closed_of ours ours ≡ Verdict.Same
+own : (ours : List ℕ) → closed_of ours ours ≡ None
 unfolding closed_of
 own ours = rw (bytes-own ours)
 
-pub same-all : (ours theirs : List ℕ) → theirs ≡ ours → verdict_of ours theirs ≡ Verdict.Same
+pub same-all : (ours theirs : List ℕ) → theirs ≡ ours → verdict_of ours theirs ≡ None
 same-all ours theirs e =
-    subst (λ (t : List ℕ). verdict_of ours t ≡ Verdict.Same) (sym e) (closed-form ours ours ∙ own ours)
+    subst (λ (t : List ℕ). verdict_of ours t ≡ None) (sym e) (closed-form ours ours ∙ own ours)

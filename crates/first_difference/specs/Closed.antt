@@ -1,8 +1,7 @@
 -- The number of the line by bytes: 1 and the line feeds in the longest common beginning.
-use Rattle.std.specs.Prelude.{ℕ, suc, ◌+◌, cond, List, [], ◌∷◌, eqb, take}
+use Rattle.std.specs.Prelude.{Option, None, Some, ℕ, suc, ◌+◌, cond, List, [], ◌∷◌, eqb, take}
 use Rattle.lines.specs.Text.{line_feed}
 use Rattle.first_difference.specs.Difference.{same_bytes}
-use Rattle.first_difference.specs.declared.Verdict.{Verdict}
 
 -- the line feeds in one byte, and in many
 unfoldable pub feed_of : ℕ → ℕ
@@ -18,6 +17,6 @@ common_of [] t = 0
 common_of (a ∷ s) [] = 0
 common_of (a ∷ s) (b ∷ t) = cond (eqb a b) (suc (common_of s t)) 0
 
-unfoldable pub closed_of : List ℕ → List ℕ → Verdict
+unfoldable pub closed_of : List ℕ → List ℕ → Option ℕ
 closed_of ours theirs =
-    cond (same_bytes ours theirs) Verdict.Same (Verdict.Differs (1 + feeds_of (take (common_of ours theirs) ours)))
+    cond (same_bytes ours theirs) None (Some (1 + feeds_of (take (common_of ours theirs) ours)))

@@ -6,42 +6,26 @@ ghost use Rattle.std.specs.Prelude.{◌≡◌};
 ghost use Rattle.first_difference.specs.Difference.{verdict_of};
 ghost use Rattle.first_difference.specs.Closed.{feed_of};
 
-#[derive(Drop)]
-pub enum Verdict {
-    Same,
-    // the number of that line, counted from 1
-    Differs(u64),
-}
-
 // The line feeds in one byte.
 fn feed(b: u8) -> u64
     ensures { result ≡ feed_of b }
 {
-    if b == b'\n' {
-        return 1;
-    }
-    0
+    u64::from(b == b'\n')
 }
 
-// Byte by byte, counting lines.
-pub fn compare(ours: &[u8], theirs: &[u8]) -> Verdict
+// The number of the first line of theirs that is not ours, counted from 1: byte by byte, counting lines.
+pub fn compare(ours: &[u8], theirs: &[u8]) -> Option<u64>
     ensures { result ≡ verdict_of ours.now theirs.now }
 {
     let mut line: u64 = 1;
-    let mut i = 0;
-    while i < ours.len() {
-        if i == theirs.len() {
-            return Verdict::Differs(line);
+    for (a, b) in ours.iter().zip(theirs) {
+        if a != b {
+            return Some(line);
         }
-        let b = ours[i];
-        if b != theirs[i] {
-            return Verdict::Differs(line);
-        }
-        line += feed(b);
-        i += 1;
+        line += feed(*a);
     }
-    if i < theirs.len() {
-        return Verdict::Differs(line);
+    if ours.len() == theirs.len() {
+        return None;
     }
-    Verdict::Same
+    Some(line)
 }

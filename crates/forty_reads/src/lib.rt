@@ -6,7 +6,7 @@ ghost use Rattle.scalar.specs.Literals.{f0};
 ghost use Rattle.forty_reads.specs.Nodes.{xt, zg_by, height_of, ig_at, ib_at};
 ghost use Rattle.forty_reads.specs.Walk.{walk_reads, scan_reads, table_by, cursor_after, cursor_read_by};
 
-use readings::{read_by_scan, read_on, value};
+use readings::{read_by_scan, read_on};
 
 // The positive abscissas of the Gauss rule with forty nodes; the others are their negatives.
 const XT: [f32; 20] = [
@@ -99,6 +99,7 @@ fn walk_reads(
     let up = ht >= 0.0;
     let h0 = htr[0];
     let mut ih = 0usize;
+    // Stays: the read's number gives the node and its half, and the place in the table.
     for k in 0..40 {
         let ig = ig_at(k);
         let ib = ib_at(up, k);
@@ -106,7 +107,7 @@ fn walk_reads(
         let r = read_on(htr, fnsq, zi, ih);
         ih = r.cursor;
         let g = r.reading;
-        let y = value(g);
+        let y = g.value();
         let place = 2 * ig + ib;
         read[place] = y;
     }
@@ -119,12 +120,13 @@ fn scan_reads(htr: &[f32; 50], fnsq: &[f32; 50], xts: &[f32; 20], ht: f32, read:
     ensures { read.new ≡ scan_reads htr.now fnsq.now ht 40 }
 {
     let h0 = htr[0];
+    // Stays: the read's number gives the node and its half, and the place in the table.
     for k in 0..40 {
         let ig = k / 2;
         let ib = k % 2;
         let zi = height(xts, h0, ht, ig, ib);
         let g = read_by_scan(htr, fnsq, zi);
-        let y = value(g);
+        let y = g.value();
         read[k] = y;
     }
 }

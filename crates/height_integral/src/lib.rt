@@ -2,21 +2,23 @@
 // segment the density is linear in height, so that each has a closed form.
 #![tactic(auto)]
 
-ghost use Rattle.std.specs.Prelude.{◌≡◌, false, ◌≤◌, T};
+ghost use Rattle.std.specs.Prelude.{◌≡◌, false, ◌≤◌, T, Float};
+ghost use Rattle.std.specs.List.{position};
 ghost use Rattle.scalar.specs.F32.{◌+f◌, ◌-f◌, ◌>f◌, ◌≥f◌, at};
 ghost use Rattle.scalar.specs.Literals.{f0};
 ghost use Rattle.height_integral.specs.Exact.{last_of, seg_of, whole_of, virtual_height_exact_of};
+
+fn reaching(htr: &[f32], top: f32) -> Option<usize>
+    ensures { result ≡ position (λ (h : Float). h ≥f top) htr.now }
+{
+    htr.iter().position(|h| *h >= top)
+}
 
 // The place of the first height at or above `top`, and 49 where there is none.
 fn last(htr: &[f32; 50], top: f32) -> usize
     ensures { (result ≡ last_of htr.now top) × (result ≤ 49) }
 {
-    for ih in 0..50 {
-        if htr[ih] >= top {
-            return ih;
-        }
-    }
-    49
+    reaching(htr, top).unwrap_or(49)
 }
 
 // From the height `z1` to `z2`, the density over the frequency's square going from `y1` to `y2`.
@@ -42,6 +44,7 @@ fn whole(htr: &[f32; 50], fnsq: &[f32; 50], fr: f32, n: usize) -> f32
     ensures { result ≡ whole_of htr.now fnsq.now fr n }
 {
     let mut sum = 0.0;
+    // Stays: neighbours of two lists by one index, summed in the Rust's order.
     for i in 0..n {
         let next = i + 1;
         let y = scalar::min(fnsq[next] / fr, 1.0);

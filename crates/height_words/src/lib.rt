@@ -3,12 +3,13 @@
 
 ghost use Rattle.std.specs.Prelude.{◌≡◌, ◌≤◌, length};
 ghost use Rattle.port_state.specs.Words.{floats_into};
-ghost use Rattle.parabolas.specs.Bendy.{layer_number_of, layer_values_of};
+ghost use Rattle.parabolas.specs.Bendy.{layer_values_of};
+ghost use Rattle.refusal.specs.Number.{answer_number};
 ghost use Rattle.height_words.specs.Words.{heights_into, found_into, reading_into};
 
 use heights::Heights;
-use parabolas::LayerNumber;
 use readings::{Found, Reading};
+use refusal::Refusal;
 
 pub fn heights_into(h: Heights, out: &mut [u32])
     requires { (4 ≤ length out.old) × (h.cursor ≤ 49) }
@@ -34,22 +35,22 @@ pub fn reading_into(r: Reading, out: &mut [u32])
     requires { 3 ≤ length out.old }
     ensures { out.new ≡ reading_into r out.old }
 {
-    let x = [readings::value(r)];
+    let x = [r.value()];
     port_state::floats_into(&x, out, 1);
-    out[0] = readings::kind(r);
-    out[2] = readings::segment_number(r);
+    out[0] = r.kind();
+    out[2] = r.segment_number();
 }
 
-pub fn layer_into(a: LayerNumber, out: &mut [u32]) -> u32
+pub fn layer_into(a: Result<f32, Refusal>, out: &mut [u32]) -> u32
     requires { 1 ≤ length out.old }
-    ensures { (result ≡ layer_number_of a) × (out.new ≡ floats_into out.old 0 (layer_values_of a)) }
+    ensures { (result ≡ answer_number a) × (out.new ≡ floats_into out.old 0 (layer_values_of a)) }
 {
     match a {
-        LayerNumber::Value(v) => {
+        Ok(v) => {
             let x = [v];
             port_state::floats_into(&x, out, 0);
             0
         }
-        LayerNumber::Refused(r) => refusal::number(r),
+        Err(r) => u32::from(r),
     }
 }

@@ -2,7 +2,7 @@
 use mathlib.Core.Bool.{Bool, true, false, ◌&&◌}
 use mathlib.Core.List.{List}
 use mathlib.Core.Path.{◌≡◌, refl}
-use Prim.Native.Nat.{ℕ, ◌≤◌}
+use Prim.Native.Nat.{ℕ}
 use native.Mathlib.Nat.{le_trans, le_of_eq}
 use lib.Ieee.{Float}
 use Rattle.scalar.specs.F32.{◌-f◌, ◌*f◌, ◌≤f◌, ◌>f◌, at}

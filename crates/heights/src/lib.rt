@@ -23,6 +23,7 @@ pub struct Heights {
     // the walk's cursor after its last read; 0 where no walk ran
     pub cursor: usize,
     // the segment on which the true height was found; 50 where nothing was sought
+    // Stays: the 50 goes to callers in C as it is.
     pub segment: u32,
 }
 
@@ -65,6 +66,7 @@ fn quadrature(ysq: &[f32; 40], wts: &[f32; 20]) -> f32
     let mut mup = [0.0f32; 40];
     integrands::integrands(ysq, &mut mup);
     let mut hp = 0.0;
+    // Stays: a weight and two integrands by one index, summed in the Rust's order.
     for ig in 0..20 {
         let lower = 2 * ig;
         let upper = 2 * ig + 1;
@@ -94,7 +96,7 @@ fn by_densities(
     Heights {
         hp: h0 + hrmz * hp,
         ht: h0 + ht,
-        cursor: cursor,
+        cursor,
         segment,
     }
 }
@@ -103,10 +105,7 @@ fn by_densities(
 fn rule_used(exact: bool, ht: f32) -> bool
     ensures { result ≡ (exact && (ht >f f0)) }
 {
-    if exact {
-        return ht > 0.0;
-    }
-    false
+    exact && ht > 0.0
 }
 
 // `gethp` with the exact rule where it is asked for and can be used, else with the densities read by a walk, or by scans. The profile is lent: for a caller that asks for many frequencies on one.
@@ -144,25 +143,19 @@ pub fn gethp_read(htr: &[f32; 50], fnsq: &[f32; 50], exact: bool, rises: bool, f
 pub fn gethp_rising(s: IonoState, rises: bool, fxx: f32) -> Heights
     ensures { result ≡ gethp_read_of s.exact_virtual_height rises s.htr s.fnsq fxx }
 {
-    let htr = s.htr;
-    let fnsq = s.fnsq;
-    gethp_read(&htr, &fnsq, s.exact_virtual_height, rises, fxx)
+    gethp_read(&s.htr, &s.fnsq, s.exact_virtual_height, rises, fxx)
 }
 
 // The virtual and the true height of the vertical frequency `fxx`. The heights are tested here: the state's rising mark is not read.
 pub fn gethp(s: IonoState, fxx: f32) -> Heights
     ensures { result ≡ gethp_of s fxx }
 {
-    let htr = s.htr;
-    let rises = rises_throughout(&htr);
-    gethp_rising(s, rises, fxx)
+    gethp_rising(s, rises_throughout(&s.htr), fxx)
 }
 
 // The same by forty scans on every profile where densities are read.
 pub fn gethp_scan(s: IonoState, fxx: f32) -> Heights
     ensures { result ≡ gethp_scan_of s fxx }
 {
-    let htr = s.htr;
-    let fnsq = s.fnsq;
-    gethp_read(&htr, &fnsq, s.exact_virtual_height, false, fxx)
+    gethp_read(&s.htr, &s.fnsq, s.exact_virtual_height, false, fxx)
 }

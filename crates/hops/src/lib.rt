@@ -2,18 +2,11 @@
 #![tactic(auto)]
 
 ghost use Rattle.std.specs.Prelude.{◌≡◌};
-ghost use Rattle.hops.specs.Geometry.{hop_ratio_of, hops_of, hops_number, hops_value, HopsSay, psi_of, del_of, sphe_of, secp_of, hop_geometry_of, geometry_of, GeometrySays};
+ghost use Rattle.hops.specs.Geometry.{hop_ratio_of, hops_of, HopsSay, psi_of, del_of, sphe_of, secp_of, hop_geometry_of, geometry_of, GeometrySays};
 ghost use Rattle.hops.specs.Rounds.{sph_of, round_of, settled_of, rounds_of};
 
 use constants::{D2R, PIO2, RZ};
 use refusal::Refusal;
-
-// The number of hops, as the float that the geometry takes.
-#[derive(Clone, Copy)]
-pub enum Hops {
-    Count(f32),
-    Refused(Refusal),
-}
 
 #[derive(Clone, Copy)]
 pub struct HopGeometry {
@@ -26,12 +19,6 @@ pub struct HopGeometry {
     pub psi: f32,
     pub cpsi: f32,
     pub spsi: f32,
-}
-
-#[derive(Drop)]
-pub enum Geometry {
-    Found(HopGeometry),
-    Refused(Refusal),
 }
 
 // What the rounds of one layer hold to: critical frequency, tangent frequency, heights, and the
@@ -67,39 +54,19 @@ fn hop_ratio(gcdkm: f32, amind: f32, h: f32) -> f32
 }
 
 // The hops that reach `gcdkm` at the least takeoff angle by a layer at height `h`.
-pub fn hop_count(gcdkm: f32, amind: f32, h: f32) -> Hops
+pub fn hop_count(gcdkm: f32, amind: f32, h: f32) -> Result<f32, Refusal>
     ensures value { result ≡ hops_of gcdkm amind h }
     ensures hops_say { HopsSay result gcdkm amind h }
 {
     let nhops = scalar::trunc(hop_ratio(gcdkm, amind, h));
     if nhops < 0 {
-        return Hops::Refused(Refusal::MufHops);
+        return Err(Refusal::MufHops);
     }
     if nhops > 999 {
-        return Hops::Refused(Refusal::MufHops);
+        return Err(Refusal::MufHops);
     }
     let xhops = (nhops + 1) as f32;
-    Hops::Count(xhops)
-}
-
-// 0 for a count, else the refusal's number.
-pub fn hops_number(a: Hops) -> u32
-    ensures { result ≡ hops_number a }
-{
-    match a {
-        Hops::Count(_) => 0,
-        Hops::Refused(r) => refusal::number(r),
-    }
-}
-
-// The count, +0 beside a refusal.
-pub fn hops_value(a: Hops) -> f32
-    ensures { result ≡ hops_value a }
-{
-    match a {
-        Hops::Count(xhops) => xhops,
-        Hops::Refused(_) => 0.0,
-    }
+    Ok(xhops)
 }
 
 // Divided in two steps for E and F1 and in one for F2, as the Rust does: the last bits differ.
@@ -157,18 +124,18 @@ fn hop_angles(gcdkm: f32, xhops: f32, hp: f32, ht: f32, split_first: bool) -> Ho
     }
 }
 
-pub fn hop_geometry(gcdkm: f32, amind: f32, hp: f32, ht: f32, split_first: bool) -> Geometry
+pub fn hop_geometry(
+    gcdkm: f32,
+    amind: f32,
+    hp: f32,
+    ht: f32,
+    split_first: bool,
+) -> Result<HopGeometry, Refusal>
     ensures value { result ≡ geometry_of gcdkm amind hp ht split_first }
     ensures geometry_says { GeometrySays result gcdkm amind hp ht split_first }
 {
-    let count = hop_count(gcdkm, amind, hp);
-    match count {
-        Hops::Refused(r) => Geometry::Refused(r),
-        Hops::Count(xhops) => {
-            let g = hop_angles(gcdkm, xhops, hp, ht, split_first);
-            Geometry::Found(g)
-        }
-    }
+    let xhops = hop_count(gcdkm, amind, hp)?;
+    Ok(hop_angles(gcdkm, xhops, hp, ht, split_first))
 }
 
 // What the virtual height needs beyond Martyn's theorem, at the frequency of the round before.

@@ -1,5 +1,6 @@
 -- An hour as words, its 54 in the order of its fields, and the one word of the Es rows that is rewritten.
-use Rattle.std.specs.Prelude.{Bool, true, false, List, [], ◌∷◌, ℕ, ◌+◌, ◌*◌, pos, get_or, set, Float}
+use Rattle.sporadic.specs.declared.Rewrite.{Rewrite}
+use Rattle.std.specs.Prelude.{List, [], ◌∷◌, ℕ, ◌+◌, ◌*◌, pos, get_or, set, Option, Some, None, ◌<◌, ⊤}
 use Rattle.std.specs.Float.{nan, binary32}
 use Rattle.std.specs.Float.Ieee.{to_bits}
 use Rattle.layers.specs.declared.LayerMuf.{LayerMuf}
@@ -33,7 +34,12 @@ hour_into h w =
     let f2 = line_into (layer_line_at h.layers 2) 32 f1 in
     line_into (layer_line_at h.layers 3) 43 f2
 
+-- the word of a row that is rewritten is there, of n words
+abbrev pub WordThere : Option Rewrite → ℕ → Type 0
+WordThere (Some w) n = 4 * w.ksx < n
+WordThere None n = ⊤
+
 -- only the word of the controlling row's lower decile is rewritten
-abbrev pub words_by : Bool → List ℕ → ℕ → Float → List ℕ
-words_by true es ksx lower = set es (4 * ksx) (to_bits binary32 lower)
-words_by false es ksx lower = es
+abbrev pub words_by : Option Rewrite → List ℕ → List ℕ
+words_by (Some w) es = set es (4 * w.ksx) (to_bits binary32 w.lower)
+words_by None es = es

@@ -1,12 +1,13 @@
 // A MUF's answer as words: the hour, and the word of an Es row that is rewritten.
 #![tactic(auto)]
 
-ghost use Rattle.std.specs.Prelude.{◌≡◌, true, ◌+◌, ◌*◌, ◌<◌, ◌≤◌, length};
+ghost use Rattle.std.specs.Prelude.{◌≡◌, ◌+◌, ◌≤◌, length};
 ghost use Rattle.port_state.specs.Words.{floats_into};
-ghost use Rattle.hour_words.specs.HourWords.{ten_into, line_into, head_into, hour_into, words_by};
+ghost use Rattle.hour_words.specs.HourWords.{ten_into, line_into, head_into, hour_into, WordThere, words_by};
 
 use layers::LayerMuf;
 use muf::MufHour;
+use sporadic::Rewrite;
 
 fn seven_into(x: [f32; 7], out: &mut [u32], from: usize)
     requires { from + 7 ≤ length out.old }
@@ -75,13 +76,11 @@ pub fn hour_into(h: MufHour, out: &mut [u32])
 }
 
 // The row that is rewritten is there.
-pub fn es_into(rewrites: bool, ksx: usize, lower: f32, es: &mut [u32])
-    requires { rewrites ≡ true → 4 * ksx < length es.old }
-    ensures { es.new ≡ words_by rewrites es.old ksx lower }
+pub fn es_into(w: Option<Rewrite>, es: &mut [u32])
+    requires { WordThere w (length es.old) }
+    ensures { es.new ≡ words_by w es.old }
 {
-    if rewrites {
-        let at = 4 * ksx;
-        es[at] = scalar::bits(lower);
-        return;
+    if let Some(w) = w {
+        es[4 * w.ksx] = scalar::bits(w.lower);
     }
 }

@@ -1,11 +1,11 @@
 -- `sang` on words: refused with 1 where no word is lent for the count; a refused call leaves every word.
-use Rattle.std.specs.Prelude.{Bool, true, false, List, ℕ, ltb, eqb, length, set}
+use Rattle.std.specs.Prelude.{Bool, true, false, Result, List, ℕ, ltb, eqb, length, set}
 use Rattle.std.specs.Float.{binary32}
 use Rattle.std.specs.Float.Ieee.{of_bits}
 use Rattle.refusal.specs.declared.Refusal.{Refusal}
 use Rattle.port_state.specs.Ports.{Ported, refused_with}
-use Rattle.scan_angles.specs.Angles.{sang_of, scan_number, scan_value}
-use Rattle.scan_angles.specs.declared.Scan.{Scan}
+use Rattle.refusal.specs.Number.{answer_number}
+use Rattle.scan_angles.specs.Angles.{sang_of, scan_value}
 
 -- has the slice fewer words than its layout
 abbrev pub short : List ℕ → ℕ → Bool
@@ -20,8 +20,8 @@ abbrev pub count_by : Bool → ℕ → List ℕ → List ℕ
 count_by true n out = set out 0 n
 count_by false n out = out
 
-abbrev pub scan_into : Scan → List ℕ → Ported
-scan_into a out = record { number = scan_number a; words = count_by (eqb (scan_number a) 0) (scan_value a) out }
+abbrev pub scan_into : Result ℕ Refusal → List ℕ → Ported
+scan_into a out = record { number = answer_number a; words = count_by (eqb (answer_number a) 0) (scan_value a) out }
 
 unfoldable pub sang_words : ℕ → ℕ → List ℕ → Ported
 sang_words gcdkm amind out = unless_short (short out 1) out (scan_into (sang_of (of_bits binary32 gcdkm) (of_bits binary32 amind)) out)

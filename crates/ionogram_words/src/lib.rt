@@ -7,20 +7,20 @@ ghost use Rattle.port_layouts.specs.Layouts.{ionogram_into, marks_into};
 ghost use Rattle.ionogram_words.specs.Sang.{scan_into, sang_words};
 
 use reflectrix::Ionogram;
-use scan_angles::Scan;
-use shapes::HeightMark;
+use refusal::Refusal;
+use shapes::Mark;
 
-fn scan_into(a: Scan, out: &mut [u32]) -> u32
+fn scan_into(a: Result<usize, Refusal>, out: &mut [u32]) -> u32
     requires { (1 ≤ length out.old) × (scan_value a ≤ 40) }
     ensures { (result ≡ (scan_into a out.old).number) × (out.new ≡ (scan_into a out.old).words) }
 {
-    let number = scan_angles::scan_number(a);
-    if number == 0 {
-        let n = scan_angles::scan_value(a);
-        out[0] = n as u32;
-        return number;
+    match a {
+        Ok(n) => {
+            out[0] = n as u32;
+            0
+        }
+        Err(r) => u32::from(r),
     }
-    number
 }
 
 // out: the angle count
@@ -37,7 +37,7 @@ pub fn sang(gcdkm: u32, amind: u32, out: &mut [u32]) -> u32
 }
 
 // 150 words of rows, then the numbers of the fifty marks.
-pub fn marked_into(ion: Ionogram, marks: [HeightMark; 50], out: &mut [u32])
+pub fn marked_into(ion: Ionogram, marks: [Mark; 50], out: &mut [u32])
     requires { 200 ≤ length out.old }
     ensures { out.new ≡ marks_into marks (ionogram_into ion out.old) 150 }
 {

@@ -1,15 +1,13 @@
 -- The F2 and F1 sections of `curmuf`. t is the state as `lecden` of the controlling slot ks leaves it, l that slot of it; `find` is the way of finding heights off its profile.
-use Rattle.std.specs.Prelude.{Bool, true, false, List, ℕ, Float}
+use Rattle.refusal.specs.declared.Refusal.{Refusal}
+use Rattle.std.specs.Prelude.{Bool, true, false, List, Float, Result, Ok, Err}
 use Rattle.scalar.specs.F32.{◌+f◌, ◌-f◌, ◌*f◌, ◌≤f◌, ◌>f◌}
 use Rattle.scalar.specs.Literals.{f0, f0_01, f0_9, f1, f1_1, f2}
 use Rattle.scalar.specs.Scalar.{max_of}
 use Rattle.scalar.specs.Root.{sqrt_of}
-use Rattle.refusal.specs.Number.{number_of}
 use Rattle.deciles.specs.F2dis.{f2dis_of}
-use Rattle.deciles.specs.declared.Deviation.{Deviation}
 use Rattle.hops.specs.Geometry.{geometry_of}
 use Rattle.hops.specs.Rounds.{rounds_of}
-use Rattle.hops.specs.declared.Geometry.{Geometry}
 use Rattle.hops.specs.declared.HopGeometry.{HopGeometry}
 use Rattle.hops.specs.declared.Round.{Round}
 use Rattle.parabolas.specs.Bendy.{bendy_at, pen_at}
@@ -23,7 +21,6 @@ use Rattle.layer_mufs.specs.declared.PathNumbers.{PathNumbers}
 use Rattle.tangents.specs.declared.Tangents.{Tangents}
 use Rattle.e_lines.specs.declared.HeightPair.{HeightPair}
 use Rattle.layer_mufs.specs.declared.Deviations.{Deviations}
-use Rattle.e_lines.specs.declared.LineAnswer.{LineAnswer}
 
 -- the F2 layer
 
@@ -49,48 +46,44 @@ bent_of fc fx h g =
     rounds_of (record { fc = fc; fx = fx; hp = h.hp; ht = h.ht; psi = g.psi; cpsi = g.cpsi; spsi = g.spsi }) 5
     (record { sphe = g.sphe; fob = fx *f g.secp; del = g.del; hp = h.hp })
 
--- the paper's number of each case, 0 for two deviations, and the two, +0 beside a refusal
-abbrev pub deviations_number : Deviations → ℕ
-deviations_number (Deviations.Both sigl sigu) = 0
-deviations_number (Deviations.Refused r) = number_of r
+-- the two, +0 beside a refusal
+abbrev pub lower_value : Result Deviations Refusal → Float
+lower_value (Ok sig) = sig.lower
+lower_value (Err r) = f0
 
-abbrev pub lower_value : Deviations → Float
-lower_value (Deviations.Both sigl sigu) = sigl
-lower_value (Deviations.Refused r) = f0
-
-abbrev pub upper_value : Deviations → Float
-upper_value (Deviations.Both sigl sigu) = sigu
-upper_value (Deviations.Refused r) = f0
+abbrev pub upper_value : Result Deviations Refusal → Float
+upper_value (Ok sig) = sig.upper
+upper_value (Err r) = f0
 
 -- the two, the lower one first; the first that is refused refuses both
-abbrev pub both_by : Deviation → Deviation → Deviations
-both_by (Deviation.Value l) (Deviation.Value u) = Deviations.Both (max_of l f0_01) (max_of u f0_01)
-both_by (Deviation.Value l) (Deviation.Refused r) = Deviations.Refused r
-both_by (Deviation.Refused r) u = Deviations.Refused r
+abbrev pub both_by : Result Float Refusal → Result Float Refusal → Result Deviations Refusal
+both_by (Ok l) (Ok u) = Ok (record { lower = max_of l f0_01; upper = max_of u f0_01 })
+both_by (Ok l) (Err r) = Err r
+both_by (Err r) u = Err r
 
-unfoldable pub deviations_of : List Float → Float → Float → Float → Float → Deviations
+unfoldable pub deviations_of : List Float → Float → Float → Float → Float → Result Deviations Refusal
 deviations_of f2d f2muf ssn clat clck =
     let freq_low = f0_9 *f f2muf in
     let freq_high = f1_1 *f f2muf in
     both_by (f2dis_of f2d f2muf ssn clat freq_low clck) (f2dis_of f2d f2muf ssn clat freq_high clck)
 
-abbrev pub f2_bent_by : Deviations → Round → Float → Float → Float → LineAnswer
-f2_bent_by (Deviations.Both sigl3 sigu3) b ht2 fx2 xhops = LineAnswer.Found (layer_line_of sigl3 sigu3 b.del b.hp ht2 fx2 xhops b.fob)
-f2_bent_by (Deviations.Refused r) b ht2 fx2 xhops = LineAnswer.Refused r
+abbrev pub f2_bent_by : Result Deviations Refusal → Round → Float → Float → Float → Result LayerMuf Refusal
+f2_bent_by (Ok sig) b ht2 fx2 xhops = Ok (layer_line_of sig.lower sig.upper b.del b.hp ht2 fx2 xhops b.fob)
+f2_bent_by (Err r) b ht2 fx2 xhops = Err r
 
-unfoldable pub f2_bent_of : List Float → Round → Float → Float → Float → Float → Float → Float → LineAnswer
+unfoldable pub f2_bent_of : List Float → Round → Float → Float → Float → Float → Float → Float → Result LayerMuf Refusal
 f2_bent_of f2d b ht2 fx2 xhops ssn clat clck = f2_bent_by (deviations_of f2d b.fob ssn clat clck) b ht2 fx2 xhops
 
-abbrev pub f2_line_by : Geometry → Slot → HeightPair → Tangents → List Float → Float → Float → PathNumbers → LineAnswer
-f2_line_by (Geometry.Found g) l h x f2d clat clck c = f2_bent_of f2d (bent_of l.fi2 x.fx2 h g) h.ht x.fx2 g.xhops c.ssn clat clck
-f2_line_by (Geometry.Refused r) l h x f2d clat clck c = LineAnswer.Refused r
+abbrev pub f2_line_by : Result HopGeometry Refusal → Slot → HeightPair → Tangents → List Float → Float → Float → PathNumbers → Result LayerMuf Refusal
+f2_line_by (Ok g) l h x f2d clat clck c = f2_bent_of f2d (bent_of l.fi2 x.fx2 h g) h.ht x.fx2 g.xhops c.ssn clat clck
+f2_line_by (Err r) l h x f2d clat clck c = Err r
 
-unfoldable pub f2_line_with : Finder → IonoState → Slot → Tangents → List Float → Float → Float → PathNumbers → LineAnswer
+unfoldable pub f2_line_with : Finder → IonoState → Slot → Tangents → List Float → Float → Float → PathNumbers → Result LayerMuf Refusal
 f2_line_with find t l x f2d clat clck c =
     let h = f2_heights_with find t l x in
     f2_line_by (geometry_of c.gcdkm c.amind h.hp h.ht false) l h x f2d clat clck c
 
-abbrev pub f2_line_of : IonoState → Slot → Tangents → List Float → Float → Float → PathNumbers → LineAnswer
+abbrev pub f2_line_of : IonoState → Slot → Tangents → List Float → Float → Float → PathNumbers → Result LayerMuf Refusal
 f2_line_of = f2_line_with gethp_of
 
 -- the F1 layer
@@ -101,20 +94,20 @@ f1_found_of g h fc fx1 =
     let sig = tenth_of b.fob in
     layer_line_of sig sig b.del b.hp h.ht fx1 g.xhops b.fob
 
-abbrev pub f1_own_by : Geometry → HeightPair → Float → Float → LineAnswer
-f1_own_by (Geometry.Found g) h fc fx1 = LineAnswer.Found (f1_found_of g h fc fx1)
-f1_own_by (Geometry.Refused r) h fc fx1 = LineAnswer.Refused r
+abbrev pub f1_own_by : Result HopGeometry Refusal → HeightPair → Float → Float → Result LayerMuf Refusal
+f1_own_by (Ok g) h fc fx1 = Ok (f1_found_of g h fc fx1)
+f1_own_by (Err r) h fc fx1 = Err r
 
-unfoldable pub f1_own_with : Finder → IonoState → Float → Float → Float → Float → LineAnswer
+unfoldable pub f1_own_with : Finder → IonoState → Float → Float → Float → Float → Result LayerMuf Refusal
 f1_own_with find t fc fx1 gcdkm amind = let h = read_with find t fx1 in f1_own_by (geometry_of gcdkm amind h.hp h.ht true) h fc fx1
 
 -- fi1 <= 0: no F1, and the E line again; here a NaN counts as an F1
-abbrev pub f1_line_by : Bool → Finder → IonoState → Slot → Float → LayerMuf → Float → Float → LineAnswer
-f1_line_by true find t l fx1 e gcdkm amind = LineAnswer.Found e
+abbrev pub f1_line_by : Bool → Finder → IonoState → Slot → Float → LayerMuf → Float → Float → Result LayerMuf Refusal
+f1_line_by true find t l fx1 e gcdkm amind = Ok e
 f1_line_by false find t l fx1 e gcdkm amind = f1_own_with find t l.fi1 fx1 gcdkm amind
 
-unfoldable pub f1_line_with : Finder → IonoState → Slot → Float → LayerMuf → Float → Float → LineAnswer
+unfoldable pub f1_line_with : Finder → IonoState → Slot → Float → LayerMuf → Float → Float → Result LayerMuf Refusal
 f1_line_with find t l fx1 e gcdkm amind = f1_line_by (l.fi1 ≤f f0) find t l fx1 e gcdkm amind
 
-abbrev pub f1_line_of : IonoState → Slot → Float → LayerMuf → Float → Float → LineAnswer
+abbrev pub f1_line_of : IonoState → Slot → Float → LayerMuf → Float → Float → Result LayerMuf Refusal
 f1_line_of = f1_line_with gethp_of

@@ -1,49 +1,50 @@
 -- What the answers of this crate say by number and value: the paper's number, 0 or a refusal's, and the value where it is 0, of +0 where it is not.
-use Rattle.std.specs.Prelude.{true, false, cond, List, ◌≡◌, ℕ, eqb, Float}
+use Rattle.refusal.specs.Number.{answer_number}
+use Rattle.refusal.specs.declared.Refusal.{Refusal}
+use Rattle.std.specs.Prelude.{true, false, cond, List, ◌≡◌, ℕ, eqb, Float, Result}
 use Rattle.scalar.specs.F32.{◌*f◌, ◌≤f◌}
 use Rattle.scalar.specs.Literals.{f0, f0_01, f0_9, f1_1}
 use Rattle.scalar.specs.Scalar.{max_of}
-use Rattle.deciles.specs.F2dis.{f2dis_of, deviation_number, deviation_value}
-use Rattle.hops.specs.Geometry.{geometry_of, geometry_number, geometry_value}
+use Rattle.deciles.specs.F2dis.{f2dis_of, deviation_value}
+use Rattle.hops.specs.Geometry.{geometry_of, geometry_value}
 use Rattle.heights.specs.Gethp.{gethp_of}
 use Rattle.layers.specs.declared.IonoState.{IonoState}
 use Rattle.layers.specs.declared.LayerMuf.{LayerMuf}
 use Rattle.slot_curves.specs.declared.Slot.{Slot}
 use Rattle.e_lines.specs.Lines.{layer_line_of, read_with}
 use Rattle.e_lines.specs.Says.{LineIs}
-use Rattle.layer_mufs.specs.Lines.{f2_heights_with, bent_of, deviations_of, deviations_number, lower_value, upper_value, f1_found_of}
+use Rattle.layer_mufs.specs.Lines.{f2_heights_with, bent_of, deviations_of, lower_value, upper_value, f1_found_of}
 use Rattle.layer_mufs.specs.declared.PathNumbers.{PathNumbers}
 use Rattle.tangents.specs.declared.Tangents.{Tangents}
 use Rattle.layer_mufs.specs.declared.Deviations.{Deviations}
-use Rattle.e_lines.specs.declared.LineAnswer.{LineAnswer}
 
 -- the number of two steps of which the second is taken where the first answers
 abbrev pub first_refusal_number : ℕ → ℕ → ℕ
 first_refusal_number a b = cond (eqb a 0) b a
 
-unfoldable pub DeviationsSay : Deviations → List Float → Float → Float → Float → Float → Type 0
+unfoldable pub DeviationsSay : Result Deviations Refusal → List Float → Float → Float → Float → Float → Type 0
 DeviationsSay r f2d f2muf ssn clat clck =
     let low = f2dis_of f2d f2muf ssn clat (f0_9 *f f2muf) clck in
     let high = f2dis_of f2d f2muf ssn clat (f1_1 *f f2muf) clck in
-    let number = first_refusal_number (deviation_number low) (deviation_number high) in
-    (deviations_number r ≡ number)
+    let number = first_refusal_number (answer_number low) (answer_number high) in
+    (answer_number r ≡ number)
     × (lower_value r ≡ cond (eqb number 0) (max_of (deviation_value low) f0_01) f0)
     × (upper_value r ≡ cond (eqb number 0) (max_of (deviation_value high) f0_01) f0)
 
 -- the F2 line: its hops, then its deviations
-unfoldable pub F2Says : LineAnswer → IonoState → Slot → Tangents → List Float → Float → Float → PathNumbers → Type 0
+unfoldable pub F2Says : Result LayerMuf Refusal → IonoState → Slot → Tangents → List Float → Float → Float → PathNumbers → Type 0
 F2Says r t l x f2d clat clck c =
     let h = f2_heights_with gethp_of t l x in
     let g = geometry_of c.gcdkm c.amind h.hp h.ht false in
     let b = bent_of l.fi2 x.fx2 h (geometry_value g) in
     let sig = deviations_of f2d b.fob c.ssn clat clck in
-    LineIs r (first_refusal_number (geometry_number g) (deviations_number sig))
+    LineIs r (first_refusal_number (answer_number g) (answer_number sig))
     (layer_line_of (lower_value sig) (upper_value sig) b.del b.hp h.ht x.fx2 (geometry_value g).xhops b.fob)
 
 -- the F1 line: the E line without an F1, else its hops
-unfoldable pub F1Says : LineAnswer → IonoState → Slot → Float → LayerMuf → Float → Float → Type 0
+unfoldable pub F1Says : Result LayerMuf Refusal → IonoState → Slot → Float → LayerMuf → Float → Float → Type 0
 F1Says r t l fx1 e gcdkm amind =
     let none = l.fi1 ≤f f0 in
     let h = read_with gethp_of t fx1 in
     let g = geometry_of gcdkm amind h.hp h.ht true in
-    LineIs r (cond none 0 (geometry_number g)) (cond none e (f1_found_of (geometry_value g) h l.fi1 fx1))
+    LineIs r (cond none 0 (answer_number g)) (cond none e (f1_found_of (geometry_value g) h l.fi1 fx1))

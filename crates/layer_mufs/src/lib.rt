@@ -6,9 +6,8 @@ ghost use Rattle.heights.specs.Gethp.{gethp_of};
 ghost use Rattle.layer_mufs.specs.Lines.{parabolic_of, f2_heights_with, bent_of, deviations_of, f2_bent_of, f2_line_of, f1_found_of, f1_own_with, f1_line_of};
 ghost use Rattle.layer_mufs.specs.Says.{DeviationsSay, F2Says, F1Says};
 
-use deciles::Deviation;
-use e_lines::{HeightPair, LineAnswer};
-use hops::{Geometry, HopGeometry, Ray, Round};
+use e_lines::HeightPair;
+use hops::{HopGeometry, Ray, Round};
 use layers::{IonoState, LayerMuf};
 use refusal::Refusal;
 use slot_curves::Slot;
@@ -25,10 +24,10 @@ pub struct PathNumbers {
 }
 
 // How far the F2 MUF spreads below its median, and above.
-#[derive(Drop)]
-pub enum Deviations {
-    Both(f32, f32),
-    Refused(Refusal),
+#[derive(Clone, Copy)]
+pub struct Deviations {
+    pub lower: f32,
+    pub upper: f32,
 }
 
 // Parabolic F2 over a parabolic E layer.
@@ -81,25 +80,22 @@ fn bent(fc: f32, fx: f32, h: HeightPair, g: HopGeometry) -> Round
     hops::rounds(p, start)
 }
 
-fn both_deviations(f2d: &[f32], f2muf: f32, ssn: f32, clat: f32, clck: f32) -> Deviations
+fn both_deviations(
+    f2d: &[f32],
+    f2muf: f32,
+    ssn: f32,
+    clat: f32,
+    clck: f32,
+) -> Result<Deviations, Refusal>
     ensures value { result ≡ deviations_of f2d.now f2muf ssn clat clck }
     ensures deviations_say { DeviationsSay result f2d.now f2muf ssn clat clck }
 {
-    let low = deciles::f2dis(f2d, f2muf, ssn, clat, 0.9 * f2muf, clck);
-    match low {
-        Deviation::Refused(r) => Deviations::Refused(r),
-        Deviation::Value(l) => {
-            let high = deciles::f2dis(f2d, f2muf, ssn, clat, 1.1 * f2muf, clck);
-            match high {
-                Deviation::Refused(r) => Deviations::Refused(r),
-                Deviation::Value(u) => {
-                    let sigl3 = scalar::max(l, 0.01);
-                    let sigu3 = scalar::max(u, 0.01);
-                    Deviations::Both(sigl3, sigu3)
-                }
-            }
-        }
-    }
+    let low = deciles::f2dis(f2d, f2muf, ssn, clat, 0.9 * f2muf, clck)?;
+    let high = deciles::f2dis(f2d, f2muf, ssn, clat, 1.1 * f2muf, clck)?;
+    Ok(Deviations {
+        lower: scalar::max(low, 0.01),
+        upper: scalar::max(high, 0.01),
+    })
 }
 
 // The F2 line once its rounds are done.
@@ -112,18 +108,12 @@ fn f2_bent(
     ssn: f32,
     clat: f32,
     clck: f32,
-) -> LineAnswer
+) -> Result<LayerMuf, Refusal>
     ensures { result ≡ f2_bent_of f2d.now b ht2 fx2 xhops ssn clat clck }
 {
     let f2muf = b.fob;
-    let sig = both_deviations(f2d, f2muf, ssn, clat, clck);
-    match sig {
-        Deviations::Refused(r) => LineAnswer::Refused(r),
-        Deviations::Both(sigl3, sigu3) => {
-            let m = e_lines::line(sigl3, sigu3, b.del, b.hp, ht2, fx2, xhops, f2muf);
-            LineAnswer::Found(m)
-        }
-    }
+    let sig = both_deviations(f2d, f2muf, ssn, clat, clck)?;
+    Ok(e_lines::line(sig.lower, sig.upper, b.del, b.hp, ht2, fx2, xhops, f2muf))
 }
 
 pub fn f2_line(
@@ -134,19 +124,14 @@ pub fn f2_line(
     clat: f32,
     clck: f32,
     c: PathNumbers,
-) -> LineAnswer
+) -> Result<LayerMuf, Refusal>
     ensures value { result ≡ f2_line_of t l x f2d.now clat clck c }
     ensures f2_says { F2Says result t l x f2d.now clat clck c }
 {
     let h = f2_heights(t, l, x);
-    let found = hops::hop_geometry(c.gcdkm, c.amind, h.hp, h.ht, false);
-    match found {
-        Geometry::Refused(r) => LineAnswer::Refused(r),
-        Geometry::Found(g) => {
-            let b = bent(l.fi2, x.fx2, h, g);
-            f2_bent(f2d, b, h.ht, x.fx2, g.xhops, c.ssn, clat, clck)
-        }
-    }
+    let g = hops::hop_geometry(c.gcdkm, c.amind, h.hp, h.ht, false)?;
+    let b = bent(l.fi2, x.fx2, h, g);
+    f2_bent(f2d, b, h.ht, x.fx2, g.xhops, c.ssn, clat, clck)
 }
 
 fn f1_found(g: HopGeometry, h: HeightPair, fc: f32, fx1: f32) -> LayerMuf
@@ -158,7 +143,7 @@ fn f1_found(g: HopGeometry, h: HeightPair, fc: f32, fx1: f32) -> LayerMuf
 }
 
 // Where there is an F1 layer.
-fn f1_own(t: IonoState, fc: f32, fx1: f32, gcdkm: f32, amind: f32) -> LineAnswer
+fn f1_own(t: IonoState, fc: f32, fx1: f32, gcdkm: f32, amind: f32) -> Result<LayerMuf, Refusal>
     ensures { result ≡ f1_own_with gethp_of t fc fx1 gcdkm amind }
 {
     let at = heights::gethp(t, fx1);
@@ -166,23 +151,24 @@ fn f1_own(t: IonoState, fc: f32, fx1: f32, gcdkm: f32, amind: f32) -> LineAnswer
         hp: at.hp,
         ht: at.ht,
     };
-    let found = hops::hop_geometry(gcdkm, amind, h.hp, h.ht, true);
-    match found {
-        Geometry::Refused(r) => LineAnswer::Refused(r),
-        Geometry::Found(g) => {
-            let m = f1_found(g, h, fc, fx1);
-            LineAnswer::Found(m)
-        }
-    }
+    let g = hops::hop_geometry(gcdkm, amind, h.hp, h.ht, true)?;
+    Ok(f1_found(g, h, fc, fx1))
 }
 
 // Without an F1 the E line again; a NaN counts as an F1 here.
-pub fn f1_line(t: IonoState, l: Slot, fx1: f32, e: LayerMuf, gcdkm: f32, amind: f32) -> LineAnswer
+pub fn f1_line(
+    t: IonoState,
+    l: Slot,
+    fx1: f32,
+    e: LayerMuf,
+    gcdkm: f32,
+    amind: f32,
+) -> Result<LayerMuf, Refusal>
     ensures value { result ≡ f1_line_of t l fx1 e gcdkm amind }
     ensures f1_says { F1Says result t l fx1 e gcdkm amind }
 {
     if l.fi1 <= 0.0 {
-        return LineAnswer::Found(e);
+        return Ok(e);
     }
     f1_own(t, l.fi1, fx1, gcdkm, amind)
 }

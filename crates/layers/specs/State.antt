@@ -1,7 +1,8 @@
 -- Reading and changing an `IonoState`. States are built here alone, as whole records, so that of all definitions a further field changes only these and the layout of a state as words.
-use Rattle.std.specs.Prelude.{Bool, false, List, [], ℕ, ℤ, pos, replicate, Float}
+use Rattle.std.specs.Prelude.{Bool, false, List, [], ℕ, ℤ, pos, replicate, Float, Result, Ok, Err}
 use Rattle.std.specs.Int.Signed.{lt_z}
 use Rattle.scalar.specs.Literals.{f0}
+use Rattle.refusal.specs.declared.Refusal.{Refusal}
 use Rattle.layers.specs.declared.IonoState.{IonoState}
 use Rattle.layers.specs.declared.LayerParams.{LayerParams}
 use Rattle.layers.specs.declared.Owner.{Owner}
@@ -54,3 +55,8 @@ with_owner s owner =
 abbrev pub with_exact : IonoState → Bool → IonoState
 with_exact s exact =
     record { fi = s.fi; yi = s.yi; hi = s.hi; km = s.km; kfx = s.kfx; htr = s.htr; fnsq = s.fnsq; htr_rises = s.htr_rises; fsecv = s.fsecv; iedp = s.iedp; ielect = s.ielect; owner = s.owner; exact_virtual_height = exact }
+
+-- the state that a caller has after an answer: where the call was refused, the one that it had
+abbrev pub state_after : IonoState → Result IonoState Refusal → IonoState
+state_after s (Ok t) = t
+state_after s (Err r) = s

@@ -6,8 +6,6 @@
 ghost use Rattle.std.specs.Prelude.{◌≡◌};
 ghost use Rattle.layers.specs.State.{profile_only, zero_state, with_iedp, with_ielect, with_exact};
 
-use refusal::Outcome;
-
 pub mod owners;
 
 // The regular layers over a control point: in each list E first, then F1, then F2.
@@ -31,7 +29,7 @@ pub struct EsParams {
 }
 
 // Whose profile a state has: nobody's, a slot's, or one supplied from outside.
-#[derive(Clone, Copy)]
+#[derive(Clone, Copy, Debug, PartialEq, Eq)]
 pub enum Owner {
     None,
     Slot(usize),
@@ -86,13 +84,6 @@ pub struct LayerMuf {
     pub yfot: f32,
     pub ymuf: f32,
     pub yhpf: f32,
-}
-
-// A state, and whether the call that was to make it was answered.
-#[derive(Drop)]
-pub struct StateAnswer {
-    pub outcome: Outcome,
-    pub state: IonoState,
 }
 
 // Every number +0, nothing set.

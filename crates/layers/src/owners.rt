@@ -5,14 +5,16 @@ ghost use Rattle.layers.specs.Owners.{owner_number, owner_slot, owner_by, owner_
 
 use super::{IonoState, Owner};
 
-// 0 for nobody, 1 for a slot, 2 for a supplied profile.
-pub fn number(o: Owner) -> u32
-    ensures { result ≡ owner_number o }
-{
-    match o {
-        Owner::None => 0,
-        Owner::Slot(_) => 1,
-        Owner::Supplied => 2,
+impl From<Owner> for u32 {
+    // 0 for nobody, 1 for a slot, 2 for a supplied profile
+    ghost from_gives = { λ o n. n ≡ owner_number o };
+
+    fn from(o: Owner) -> u32 {
+        match o {
+            Owner::None => 0,
+            Owner::Slot(_) => 1,
+            Owner::Supplied => 2,
+        }
     }
 }
 
@@ -21,9 +23,8 @@ pub fn slot(o: Owner) -> usize
     ensures { result ≡ owner_slot o }
 {
     match o {
-        Owner::None => 0,
         Owner::Slot(k) => k,
-        Owner::Supplied => 0,
+        Owner::None | Owner::Supplied => 0,
     }
 }
 
@@ -32,9 +33,8 @@ fn unsupplied(o: Owner) -> Owner
     ensures { result ≡ owner_by false o }
 {
     match o {
-        Owner::None => Owner::None,
-        Owner::Slot(k) => Owner::Slot(k),
         Owner::Supplied => Owner::None,
+        stored => stored,
     }
 }
 
@@ -52,11 +52,7 @@ pub fn owner_of(s: IonoState) -> Owner
 fn answers_for(o: Owner, k: usize) -> bool
     ensures { result ≡ answers_for o k }
 {
-    match o {
-        Owner::None => false,
-        Owner::Slot(j) => j == k,
-        Owner::Supplied => true,
-    }
+    o == Owner::Supplied || o == Owner::Slot(k)
 }
 
 // Whether the profile is slot k's: made for it, or supplied.
@@ -67,30 +63,11 @@ pub fn owned_by(s: IonoState, k: usize) -> bool
 }
 
 // The state with another owner.
-pub fn with_owner(s: IonoState, owner: Owner) -> IonoState
+pub fn with_owner(mut s: IonoState, owner: Owner) -> IonoState
     ensures { result ≡ with_owner s owner }
 {
-    let fi = s.fi;
-    let yi = s.yi;
-    let hi = s.hi;
-    let htr = s.htr;
-    let fnsq = s.fnsq;
-    let fsecv = s.fsecv;
-    IonoState {
-        fi,
-        yi,
-        hi,
-        km: s.km,
-        kfx: s.kfx,
-        htr,
-        fnsq,
-        htr_rises: s.htr_rises,
-        fsecv,
-        iedp: s.iedp,
-        ielect: s.ielect,
-        owner,
-        exact_virtual_height: s.exact_virtual_height,
-    }
+    s.owner = owner;
+    s
 }
 
 // Nobody's, unless the profile is supplied.

@@ -22,8 +22,8 @@ pub fn put_word(out: &mut [u8], at: usize, word: &[u8]) -> usize
     ensures { Clipped word.now out.old at out.new result }
 {
     let mut e = at;
-    for i in 0..word.len() {
-        e = put_byte(out, e, word[i]);
+    for b in word {
+        e = put_byte(out, e, *b);
     }
     e
 }
@@ -59,12 +59,6 @@ pub fn put_refused(out: &mut [u8], at: usize, r: Refusal) -> usize
     ensures { Clipped (refused_text r) out.old at out.new result }
 {
     let a = put_word(out, at, b"refused ");
-    let b = put_decimal(out, a, wide(refusal::number(r)));
+    let b = put_decimal(out, a, u64::from(u32::from(r)));
     put_byte(out, b, b'\n')
-}
-
-fn wide(n: u32) -> u64
-    ensures { result ≡ n }
-{
-    n as u64
 }

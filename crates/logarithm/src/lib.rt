@@ -11,23 +11,25 @@ use exponential::LN2;
 use fixed::pack;
 use scalar::{bits, number};
 
-// ln (1 + i / 8) in units of 2^-56. A `match` compiles to one read of constant memory; a constant array would be built anew at each call.
+// ln (1 + i / 8) in units of 2^-56
+static EIGHTHS: [u64; 9] = [
+    0,
+    8487162167882469,
+    16079187432780867,
+    22947009676802825,
+    29216840156602671,
+    34984525091838898,
+    40324567264265857,
+    45296027589383539,
+    49946518145322873,
+];
+
 #[tactic(auto, unfolding(crate::specs::Tables::eighths))]
 fn eighth(i: u64) -> u64
     requires { i < 9 }
     ensures { result ≡ get_or eighths i 0 }
 {
-    match i {
-        0 => 0,
-        1 => 8487162167882469,
-        2 => 16079187432780867,
-        3 => 22947009676802825,
-        4 => 29216840156602671,
-        5 => 34984525091838898,
-        6 => 40324567264265857,
-        7 => 45296027589383539,
-        _ => 49946518145322873,
-    }
+    EIGHTHS[i as usize]
 }
 
 // s^2 / 3 + s^4 / 5 in units of 2^-34, as s is

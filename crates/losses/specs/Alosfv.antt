@@ -1,16 +1,14 @@
 -- `alosfv`: a factor of deviative loss for each of slot k's thirty rows. A layer's own rows have zero up to the true height at its MUF; the two rows of a cusp between layers have one at any height.
-use Rattle.std.specs.Prelude.{Bool, true, false, List, ℕ, zero, suc, ◌+◌, ◌*◌, leb, get_or, set, pos, Float}
+use Rattle.std.specs.Prelude.{Bool, true, false, Result, Ok, Err, List, ℕ, zero, suc, ◌+◌, ◌*◌, leb, get_or, set, pos, Float}
 use Rattle.std.specs.Float.{nan}
 use Rattle.scalar.specs.F32.{◌-f◌, ◌*f◌, ◌/f◌, ◌<f◌, ◌≤f◌, negf, at}
 use Rattle.scalar.specs.Literals.{f0, f0_05, f0_1, f0_2, f0_5, f2, f10}
 use Rattle.scalar.specs.Scalar.{max_of}
 use Rattle.exponential.specs.Exp.{exp_of}
 use Rattle.refusal.specs.declared.Refusal.{Refusal}
-use Rattle.refusal.specs.declared.Outcome.{Outcome}
 use Rattle.layers.specs.declared.IonoState.{IonoState}
 use Rattle.layers.specs.declared.LayerMuf.{LayerMuf}
 use Rattle.reflectrix.specs.declared.Ionogram.{Ionogram}
-use Rattle.reflectrix.specs.declared.IonogramAnswer.{IonogramAnswer}
 use Rattle.losses.specs.declared.Factors.{Factors}
 use Rattle.losses.specs.declared.Decay.{Decay}
 use Rattle.losses.specs.declared.Loss.{Loss}
@@ -139,10 +137,10 @@ alosfv_of s k ion layers =
     let f = above_of (e_rows start ion (layer_line_at layers 0) d 10) s k ion layers in
     with_afac ion (not_below_zeros f.afac 30)
 
--- a slot number above 2 is refused, with the ionogram as it came
-abbrev pub answered_by : Bool → IonoState → ℕ → Ionogram → List LayerMuf → IonogramAnswer
-answered_by true s k ion layers = record { outcome = Outcome.Answered; ion = alosfv_of s k ion layers }
-answered_by false s k ion layers = record { outcome = Outcome.Refused Refusal.SlotNumber; ion = ion }
+-- a slot number above 2 is refused
+abbrev pub answered_by : Bool → IonoState → ℕ → Ionogram → List LayerMuf → Result Ionogram Refusal
+answered_by true s k ion layers = Ok (alosfv_of s k ion layers)
+answered_by false s k ion layers = Err Refusal.SlotNumber
 
-unfoldable pub alosfv_answer : IonoState → ℕ → Ionogram → List LayerMuf → IonogramAnswer
+unfoldable pub alosfv_answer : IonoState → ℕ → Ionogram → List LayerMuf → Result Ionogram Refusal
 alosfv_answer s k ion layers = answered_by (leb k 2) s k ion layers

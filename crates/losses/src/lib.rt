@@ -7,8 +7,8 @@ ghost use Rattle.std.specs.Prelude.{◌≡◌, ◌+◌, ◌<◌, ◌≤◌};
 ghost use Rattle.losses.specs.Alosfv.{decay_of, factor_of, e_loss, e_rows, cusp_loss, cusp_of, tail_loss, tail_rows, without_f1, with_f1, above_of, not_below_zero, not_below_zeros, with_afac, alosfv_of, alosfv_answer};
 
 use layers::{IonoState, LayerMuf};
-use reflectrix::{Ionogram, IonogramAnswer};
-use refusal::{Outcome, Refusal};
+use reflectrix::Ionogram;
+use refusal::Refusal;
 
 // The factors so far, and the last constant worked out.
 #[derive(Clone, Copy)]
@@ -222,17 +222,16 @@ pub fn alosfv_slot(s: IonoState, k: usize, ion: Ionogram, layers: [LayerMuf; 4])
     with_afac(ion, not_below_zeros(g))
 }
 
-pub fn alosfv(s: IonoState, k: usize, ion: Ionogram, layers: [LayerMuf; 4]) -> IonogramAnswer
+pub fn alosfv(
+    s: IonoState,
+    k: usize,
+    ion: Ionogram,
+    layers: [LayerMuf; 4],
+) -> Result<Ionogram, Refusal>
     ensures { result ≡ alosfv_answer s k ion layers }
 {
-    if k <= 2 {
-        return IonogramAnswer {
-            outcome: Outcome::Answered,
-            ion: alosfv_slot(s, k, ion, layers),
-        };
+    if k > 2 {
+        return Err(Refusal::SlotNumber);
     }
-    IonogramAnswer {
-        outcome: Outcome::Refused(Refusal::SlotNumber),
-        ion,
-    }
+    Ok(alosfv_slot(s, k, ion, layers))
 }

@@ -7,7 +7,6 @@ use Rattle.lines.specs.Text.{space}
 use Rattle.lines.proofs.Sizes.{AtMost, ◌then◌, word, line-feed, digits-below, times}
 use Rattle.shapes.specs.Mark.{name_of}
 use Rattle.shapes.specs.declared.Mark.{Mark}
-use Rattle.shapes.specs.declared.HeightMark.{HeightMark}
 use Rattle.mark_text.specs.MarkText.{mark_line, no_mark, mark_line_at, marks_text}
 
 pub name : (m : Mark) → AtMost (name_of m) 11
@@ -24,6 +23,6 @@ line : (i : ℕ) (m : Mark) → i < 50 → AtMost (mark_line i m) 15
 unfolding mark_line
 line i m h = digits-below 1 (i + 1) (omega arith) then word (space ∷ []) then name m then line-feed
 
-pub marks-most : (marks : List HeightMark) → AtMost (marks_text marks) 750
+pub marks-most : (marks : List Mark) → AtMost (marks_text marks) 750
 unfolding marks_text
-marks-most marks = times (mark_line_at marks) 15 50 (λ i h. line i (get_or marks i no_mark).mark h)
+marks-most marks = times (mark_line_at marks) 15 50 (λ i h. line i (get_or marks i no_mark) h)

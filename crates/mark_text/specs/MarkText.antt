@@ -3,17 +3,16 @@ use Rattle.std.specs.Prelude.{List, [], ◌∷◌, ◌++◌, ℕ, ◌+◌, get_o
 use Rattle.lines.specs.Text.{space, line_feed, decimal_of, joined}
 use Rattle.shapes.specs.Mark.{name_of}
 use Rattle.shapes.specs.declared.Mark.{Mark}
-use Rattle.shapes.specs.declared.HeightMark.{HeightMark}
 
 unfoldable pub mark_line : ℕ → Mark → List ℕ
 mark_line i m = decimal_of (i + 1) ++ ((space ∷ []) ++ (name_of m ++ (line_feed ∷ [])))
 
 -- past the end, where no code reads
-abbrev pub no_mark : HeightMark
-no_mark = record { mark = Mark.None }
+abbrev pub no_mark : Mark
+no_mark = Mark.None
 
-abbrev pub mark_line_at : List HeightMark → ℕ → List ℕ
-mark_line_at marks i = mark_line i (get_or marks i no_mark).mark
+abbrev pub mark_line_at : List Mark → ℕ → List ℕ
+mark_line_at marks i = mark_line i (get_or marks i no_mark)
 
-unfoldable pub marks_text : List HeightMark → List ℕ
+unfoldable pub marks_text : List Mark → List ℕ
 marks_text marks = joined (mark_line_at marks) 50

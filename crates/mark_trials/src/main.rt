@@ -25,10 +25,7 @@ const MOST: usize = 53300;
 fn within(n: usize, s: &[u8]) -> usize
     ensures { IsPrefixLen result s.now }
 {
-    if n < s.len() {
-        return n;
-    }
-    s.len()
+    n.min(s.len())
 }
 
 // What is printed of an input, after its name.
@@ -80,9 +77,7 @@ fn lengths() {
 // The first decile number is 0.85, and clck -3.
 fn late() -> [u8; 3200] {
     let mut f = [0u8; 3200];
-    for i in 0..128usize {
-        f[i] = FILE[i];
-    }
+    f[..128].copy_from_slice(&FILE);
     f[66] = 2;
     f[126] = 64;
     f[127] = 192;
@@ -91,10 +86,7 @@ fn late() -> [u8; 3200] {
         f[64 * n + 2] = (n % 49 + 1) as u8;
     }
     f[3138] = 0;
-    f[132] = 154;
-    f[133] = 153;
-    f[134] = 89;
-    f[135] = 63;
+    f[132..136].copy_from_slice(&[154, 153, 89, 63]);
     f
 }
 
@@ -110,16 +102,10 @@ fn circuits() {
     record[64] = 3;
     trial(b"no point\n", record, b"refused 4\n");
     let mut far = FILE;
-    far[12] = 0;
-    far[13] = 0;
-    far[14] = 250;
-    far[15] = 196;
+    far[12..16].copy_from_slice(&[0, 0, 250, 196]);
     trial(b"gcdkm -2000\n", far, b"refused 7\n");
     let mut round = FILE;
-    round[12] = 0;
-    round[13] = 40;
-    round[14] = 32;
-    round[15] = 71;
+    round[12..16].copy_from_slice(&[0, 40, 32, 71]);
     trial(b"gcdkm 41000\n", round, b"refused 9\n");
     let mut steep = FILE;
     steep[18] = 180;
@@ -152,17 +138,15 @@ fn lines_end(s: &[u8], n: usize) -> usize
     ensures { result ≤ length s.now }
 {
     let mut k = 0;
-    let mut i = 0;
-    while i < s.len() {
+    for (i, b) in s.iter().enumerate() {
         if k == n {
             return i;
         }
-        if s[i] == b'\n' {
+        if *b == b'\n' {
             k += 1;
         }
-        i += 1;
     }
-    i
+    s.len()
 }
 
 // Puts the bytes of s from `from` to `to`.
@@ -178,11 +162,7 @@ fn start(n: usize) -> usize
 {
     let mut ours = [0u8; sheet_text::ROOM];
     let len = sheet_text::sheet_text(&FILE, &mut ours);
-    let end = lines_end(&ours[..len], n);
-    if end > sheet_text::ROOM {
-        return sheet_text::ROOM;
-    }
-    end
+    lines_end(&ours[..len], n).min(sheet_text::ROOM)
 }
 
 // Our sheet up to a byte, then other bytes, then our sheet again without the next `cut`.

@@ -1,6 +1,6 @@
 -- Bytes past the first 53,253 decide nothing. A length over 4,096 is refused with 1, whether the input fills it or not; after a
 -- shorter file both the whole input and what is left of it have a sheet of more than 49,152 bytes, and the circuit decides.
-use Prim.Native.Nat.{ℕ, ◌+◌, ◌-◌, ◌%◌, ◌≤◌, ◌<◌}
+use Prim.Native.Nat.{ℕ, ◌+◌, ◌%◌, ◌≤◌, ◌<◌}
 use mathlib.Core.Path.{◌≡◌, refl, sym, ap, ◌∙◌}
 use mathlib.Core.Bool.{Bool, true, false, ◌&&◌}
 use mathlib.Core.List.{List}
@@ -10,14 +10,13 @@ use lib.Dec.{leb, eqb}
 use lib.ListN.{length, take, drop, length-drop}
 use lib.Seq.{take_all, length-take-le, get_or-take}
 use Rattle.refusal.specs.declared.Refusal.{Refusal}
-use Rattle.refusal.specs.declared.Outcome.{Outcome}
+use Rattle.std.specs.Prelude.{Result, Ok, Err}
 use Rattle.records.specs.Record.{form64, word_at}
 use Rattle.record_chain.specs.Chain.{length_good, chain_of}
 use Rattle.circuit.specs.Read.{read_of}
-use Rattle.circuit_sheet.specs.CircuitSheet.{refused_circuit_sheet, sheet_of}
+use Rattle.circuit_sheet.specs.CircuitSheet.{sheet_of}
 use Rattle.sheet_text.specs.SheetText.{sheet_text}
 use Rattle.marking_answer.specs.Answer.{sheet_most, text_marked}
-use Rattle.marking_answer.specs.declared.Marking.{Marking}
 use Rattle.marking_answer.proofs.Laws.{text-laws}
 use Rattle.marking.specs.Marked.{size_in, file_in, sheet_in, length_filled, sheet_marked, marked_of}
 use Rattle.marking.specs.Laws.{Filled, input_most}
@@ -42,7 +41,7 @@ pub there : (input : List ℕ) → Filled input → marked_of input ≡ sheet_ma
 unfolding marked_of
 there input h = rw (filled-true input h)
 
-pub not_there : (input : List ℕ) → length_filled input ≡ false → marked_of input ≡ Marking.Refused Refusal.Length
+pub not_there : (input : List ℕ) → length_filled input ≡ false → marked_of input ≡ Err Refusal.Length
 unfolding marked_of
 not_there input e = rw e
 
@@ -56,39 +55,39 @@ last-false false q = refl
 too_long : (f : List ℕ) → 4096 < length f → length_good form64 f ≡ false
 too_long f h = rw (lt-leb (length f) 4096 h) (last-false (eqb (length f % 64) 0) (leb 128 (length f)))
 
-pub file-long : (f : List ℕ) → 4096 < length f → (sheet_of f).outcome ≡ Outcome.Refused Refusal.Length
-unfolding sheet_of read_of chain_of refused_circuit_sheet
+pub file-long : (f : List ℕ) → 4096 < length f → sheet_of f ≡ Err Refusal.Length
+unfolding sheet_of read_of chain_of
 file-long f h = rw (too_long f h)
 
 -- the circuit's refusal, whatever the sheet is
-pub marked_refused : (file sheet : List ℕ) (r : Refusal) → (sheet_of file).outcome ≡ Outcome.Refused r
-    → sheet_marked file sheet ≡ Marking.Refused r
+pub marked_refused : (file sheet : List ℕ) (r : Refusal) → sheet_of file ≡ Err r
+    → sheet_marked file sheet ≡ Err r
 unfolding sheet_marked
 marked_refused file sheet r e = rw e (text-laws.refused r (sheet_text file) sheet)
 
-long-there : (input : List ℕ) → 4096 < size_in input → Filled input → marked_of input ≡ Marking.Refused Refusal.Length
+long-there : (input : List ℕ) → 4096 < size_in input → Filled input → marked_of input ≡ Err Refusal.Length
 long-there input h f =
     let g = f.file in
     let d : size_in input ≤ length (drop 4 input) = simp length-drop (omega arith) in
     let n = length-take-le (size_in input) (drop 4 input) d in
     there input f ∙ marked_refused (file_in input) (sheet_in input) Refusal.Length (file-long (file_in input) (omega arith))
 
-long-marked : (input : List ℕ) → 4096 < size_in input → marked_of input ≡ Marking.Refused Refusal.Length
+long-marked : (input : List ℕ) → 4096 < size_in input → marked_of input ≡ Err Refusal.Length
 long-marked input h = by (length_filled input) refl
   where
-    by : (q : Bool) → length_filled input ≡ q → marked_of input ≡ Marking.Refused Refusal.Length
+    by : (q : Bool) → length_filled input ≡ q → marked_of input ≡ Err Refusal.Length
     by true e = long-there input h (filled-facts input e)
     by false e = not_there input e
 
 -- ---- two sheets that are too long
 
-alike : (o : Outcome) (ours s t : List ℕ) → sheet_most < length s → sheet_most < length t → text_marked o ours s ≡ text_marked o ours t
-alike Outcome.Answered ours s t h k = text-laws.long ours s h ∙ sym (text-laws.long ours t k)
-alike (Outcome.Refused r) ours s t h k = text-laws.refused r ours s ∙ sym (text-laws.refused r ours t)
+alike : {T : Type 0} (o : Result T Refusal) (ours s t : List ℕ) → sheet_most < length s → sheet_most < length t → text_marked o ours s ≡ text_marked o ours t
+alike (Ok x) ours s t h k = text-laws.long x ours s h ∙ sym (text-laws.long x ours t k)
+alike (Err r) ours s t h k = text-laws.refused r ours s ∙ sym (text-laws.refused r ours t)
 
 both_long : (file s t : List ℕ) → sheet_most < length s → sheet_most < length t → sheet_marked file s ≡ sheet_marked file t
 unfolding sheet_marked
-both_long file s t h k = alike (sheet_of file).outcome (sheet_text file) s t h k
+both_long file s t h k = alike (sheet_of file) (sheet_text file) s t h k
 
 -- ---- an input cut after m bytes
 

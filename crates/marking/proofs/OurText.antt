@@ -1,32 +1,32 @@
 -- What `sheet` prints has room in 8,192 bytes and, where it is no refusal, ends with a line feed: each of its lines does.
 use Prim.Native.Nat.{ℕ, zero, suc, ◌+◌, ◌≤◌}
-use mathlib.Core.Path.{◌≡◌, refl}
+use mathlib.Core.Path.{◌≡◌, refl, subst}
 use mathlib.Core.List.{List, [], ◌∷◌, ◌++◌, append_assoc, append-nil}
 use native.Mathlib.Omega.{arith}
 use lib.ListN.{length, get_or}
-use Rattle.refusal.specs.declared.Outcome.{Outcome}
+use Rattle.std.specs.Prelude.{Result, Ok, Err}
+use Rattle.refusal.specs.declared.Refusal.{Refusal}
 use Rattle.lines.specs.Text.{space, line_feed, decimal_of, joined}
 use Rattle.lines.proofs.Sizes.{refused}
 use Rattle.figures.specs.Figure.{figure_of}
 use Rattle.figure_text.specs.FigureText.{figure_text}
 use Rattle.shapes.specs.Mark.{name_of}
 use Rattle.shapes.specs.declared.Mark.{Mark}
-use Rattle.shapes.specs.declared.HeightMark.{HeightMark}
 use Rattle.mark_text.specs.MarkText.{mark_line, no_mark, mark_line_at, marks_text}
 use Rattle.circuit_sheet.specs.declared.Sheet.{Sheet}
 use Rattle.circuit_sheet.specs.declared.SlotRows.{SlotRows}
 use Rattle.circuit_sheet.specs.CircuitSheet.{sheet_of}
-use Rattle.sheet_text.specs.SheetText.{call_word, muf_line, call_line, row_line, slot_line, slot_text, nothing, slot_text_at, answered_text, sheet_text_by, sheet_text}
+use Rattle.sheet_text.specs.SheetText.{call_word, muf_line, call_line, row_line, slot_line, slot_text, nothing, slot_text_at, answered_text, sheet_text_by, sheet_text, SlotsFew}
 use Rattle.sheet_lines.proofs.Lengths.{answered-most}
 use Rattle.sheet_text.proofs.SlotCount.{three-slots}
 
 pub sheet-most : (f : List ℕ) → length (sheet_text f) ≤ 8192
 unfolding sheet_text
-sheet-most f = by (sheet_of f).outcome
+sheet-most f = by (sheet_of f) refl
   where
-    by : (o : Outcome) → length (sheet_text_by o (sheet_of f)) ≤ 8192
-    by Outcome.Answered = let m = (answered-most (sheet_of f) (three-slots f)).most in omega (arith, m)
-    by (Outcome.Refused r) = let m = (refused r).most in omega (arith, m)
+    by : (a : Result Sheet Refusal) → sheet_of f ≡ a → length (sheet_text_by a) ≤ 8192
+    by (Ok s) e = let m = (answered-most s (subst SlotsFew e (three-slots f))).most in omega (arith, m)
+    by (Err r) e = let m = (refused r).most in omega (arith, m)
 
 -- ---- line feeds at the end
 
@@ -53,9 +53,9 @@ mark : (i : ℕ) (m : Mark) → EndsLine (mark_line i m)
 unfolding mark_line
 mark i m = decimal_of (i + 1) before (space ∷ []) before name_of m before line
 
-marks : (ms : List HeightMark) → EndsLine (marks_text ms)
+marks : (ms : List Mark) → EndsLine (marks_text ms)
 unfolding marks_text
-marks ms = many (mark_line_at ms) 49 (λ i. mark i (get_or ms i no_mark).mark)
+marks ms = many (mark_line_at ms) 49 (λ i. mark i (get_or ms i no_mark))
 
 slot : (rows : SlotRows) (k : ℕ) → EndsLine (slot_text rows k)
 unfolding slot_text
@@ -70,10 +70,6 @@ answered : (s : Sheet) → EndsLine (answered_text s)
 unfolding answered_text
 answered s = muf_line s.hour before slots s s.slots
 
-pub sheet-ends : (f : List ℕ) → (sheet_of f).outcome ≡ Outcome.Answered → EndsLine (sheet_text f)
+pub sheet-ends : (f : List ℕ) (s : Sheet) → sheet_of f ≡ Ok s → EndsLine (sheet_text f)
 unfolding sheet_text
-sheet-ends f e = by (sheet_of f).outcome e
-  where
-    by : (o : Outcome) → o ≡ Outcome.Answered → EndsLine (sheet_text_by o (sheet_of f))
-    by Outcome.Answered a = answered (sheet_of f)
-    by (Outcome.Refused r) a = let z : ◌≡◌ {A = ℕ} 0 1 = cc in absurd (omega arith)
+sheet-ends f s e = rw e (answered s)

@@ -7,7 +7,6 @@ ghost use Rattle.io.specs.Counts.{IsPrefixLen};
 ghost use Rattle.lines.specs.Text.{Put};
 ghost use Rattle.marking.specs.Marked.{sheet_marked, marked_of, marked_text};
 
-use marking_answer::Marking;
 use refusal::Refusal;
 
 // The bytes that a program reads: those of the length, the longest file, and one more than the longest sheet. What comes after
@@ -17,27 +16,25 @@ pub const INPUT: usize = 53253;
 // The bytes that the line is put into.
 pub const ROOM: usize = 32;
 
-// A sheet beside the circuit file that it is said to be of.
-pub fn mark_sheet(file: &[u8], sheet: &[u8]) -> Marking
+// A sheet beside the circuit file that it is said to be of: the number of its first line that is not ours, or None for the same.
+pub fn mark_sheet(file: &[u8], sheet: &[u8]) -> Result<Option<u64>, Refusal>
     ensures { result ≡ sheet_marked file.now sheet.now }
 {
     let mut text = [0u8; sheet_text::ROOM];
-    let a = sheet_text::answer(file, &mut text);
-    let length = a.length;
-    let outcome = a.outcome;
-    marking_answer::marked(outcome, &text[..length], sheet)
+    let length = sheet_text::answer(file, &mut text)?;
+    marking_answer::marked(&text[..length], sheet)
 }
 
 // The whole input.
-pub fn mark(input: &[u8]) -> Marking
+pub fn mark(input: &[u8]) -> Result<Option<u64>, Refusal>
     ensures { result ≡ marked_of input.now }
 {
     if input.len() < 4 {
-        return Marking::Refused(Refusal::Length);
+        return Err(Refusal::Length);
     }
     let n = records::word(input, 0) as usize;
     if input.len() - 4 < n {
-        return Marking::Refused(Refusal::Length);
+        return Err(Refusal::Length);
     }
     let end = 4 + n;
     mark_sheet(&input[4..end], &input[end..])

@@ -1,4 +1,7 @@
 -- The row that is rewritten is one of those that were worked: a search that holds no row still has the MUF of its start, and then nothing is rewritten.
+use Rattle.sporadic.specs.declared.Rewrite.{Rewrite}
+use Rattle.refusal.specs.declared.Refusal.{Refusal}
+use Rattle.std.specs.Prelude.{Option, Some, None, Result, Ok, Err}
 use mathlib.Core.Path.{◌≡◌, refl, ap, sym, ◌∙◌}
 use mathlib.Core.Bool.{Bool, true, false}
 use mathlib.Core.Logic.{◌⊎◌, inl, inr}
@@ -13,43 +16,40 @@ use borrow.Author.Tests.{ltb-false}
 use Rattle.scalar.specs.F32.{◌-f◌, ◌*f◌, ◌>f◌, ◌≥f◌, ◌≤f◌, at}
 use Rattle.scalar.specs.Literals.{f0, f1000}
 use Rattle.hops.specs.Geometry.{hops_of}
-use Rattle.hops.specs.declared.Hops.{Hops}
 use Rattle.layers.specs.declared.IonoState.{IonoState}
 use Rattle.controlling_slot.specs.Controlling.{controlling_of}
 use Rattle.profile.specs.Lecden.{slot_at, lecden_of}
 use Rattle.slot_curves.specs.declared.Slot.{Slot}
 use Rattle.heights.specs.Gethp.{gethp_of}
 use Rattle.layer_mufs.specs.declared.PathNumbers.{PathNumbers}
-use Rattle.sporadic.specs.Sporadic.{ray_of, taken_by, taken_of, hop_by, row_by, es_row_of, start_of, next_by, es_from, es_line_by, es_line_of, row_at}
+use Rattle.sporadic.specs.Sporadic.{ray_of, taken_by, taken_of, hop_by, row_by, es_row_of, start_of, next_by, es_from, es_line_by, es_line_of, row_at, es_found_of}
 use Rattle.muf_domain.specs.Domain.{in_domain, lists_reach, taken_rows_by, taken_rows, row_count_of}
-use Rattle.muf.specs.Curmuf.{es_by, regular_by, regular_with, muf_at_slot_with, muf_from_search_by, muf_from_search_with, muf_of_rows_with, refused_rows_kept, flat_with, flat_of}
+use Rattle.muf.specs.Curmuf.{es_by, regular_by, regular_with, muf_at_slot_with, muf_from_search_by, muf_from_search_with, muf_of_rows_with, flat_with, flat_of, rewrite_by, found_muf_of, RowBelow}
 use Rattle.sporadic.specs.declared.EsRow.{EsRow}
 use Rattle.sporadic.specs.declared.EsRay.{EsRay}
 use Rattle.sporadic.specs.declared.EsSearch.{EsSearch}
-use Rattle.sporadic.specs.declared.EsStep.{EsStep}
 use Rattle.muf.specs.declared.RegularLines.{RegularLines}
-use Rattle.muf.specs.declared.RegularAnswer.{RegularAnswer}
 use Rattle.muf.specs.declared.AnswerAndRow.{AnswerAndRow}
 
 -- the row is below m, or the MUF is that of the start
 abbrev Held : ℕ → EsSearch → Type 0
 Held m a = (a.ksx < m) ⊎ (a.esmuf ≡ f1000)
 
-abbrev HeldStep : ℕ → EsStep → Type 0
-HeldStep m (EsStep.Next a) = Held m a
-HeldStep m (EsStep.Refused r) = Unit {0}
+abbrev HeldStep : ℕ → Result EsSearch Refusal → Type 0
+HeldStep m (Ok a) = Held m a
+HeldStep m (Err r) = Unit {0}
 
 taken-by : (b : Bool) (m : ℕ) (a : EsSearch) (k : ℕ) (row : EsRow) (ray : EsRay) (hop esd : Float) → k < m → Held m a → Held m (taken_by b a k row ray hop esd)
 taken-by true m a k row ray hop esd h w = inl h
 taken-by false m a k row ray hop esd h w = w
 
-hop-by : (q : Hops) (m : ℕ) (a : EsSearch) (k : ℕ) (row : EsRow) (c : PathNumbers) → k < m → Held m a → HeldStep m (hop_by q a k row c)
+hop-by : (q : Result Float Refusal) (m : ℕ) (a : EsSearch) (k : ℕ) (row : EsRow) (c : PathNumbers) → k < m → Held m a → HeldStep m (hop_by q a k row c)
 unfolding taken_of
-hop-by (Hops.Count hop) m a k row c h w =
+hop-by (Ok hop) m a k row c h w =
     let ray = ray_of row.hs hop c.gcd in
     let esd = row.fs1 *f ray.secp in
     taken-by (a.esmuf -f esd >f f0) m a k row ray hop esd h w
-hop-by (Hops.Refused r) m a k row c h w = tt
+hop-by (Err r) m a k row c h w = tt
 
 row-by : (b : Bool) (m : ℕ) (a : EsSearch) (k : ℕ) (row : EsRow) (c : PathNumbers) → k < m → Held m a → HeldStep m (row_by b a k row c)
 row-by true m a k row c h w = w
@@ -59,9 +59,9 @@ row-held : (m : ℕ) (a : EsSearch) (k : ℕ) (row : EsRow) (c : PathNumbers) �
 unfolding es_row_of
 row-held m a k row c h w = row-by (row.fs1 ≤f f0) m a k row c h w
 
-next-held : (m : ℕ) (q : EsStep) (rest : EsSearch → EsStep) → HeldStep m q → ((b : EsSearch) → Held m b → HeldStep m (rest b)) → HeldStep m (next_by q rest)
-next-held m (EsStep.Next b) rest w f = f b w
-next-held m (EsStep.Refused r) rest w f = tt
+next-held : (m : ℕ) (q : Result EsSearch Refusal) (rest : EsSearch → Result EsSearch Refusal) → HeldStep m q → ((b : EsSearch) → Held m b → HeldStep m (rest b)) → HeldStep m (next_by q rest)
+next-held m (Ok b) rest w f = f b w
+next-held m (Err r) rest w f = tt
 
 from-held : (row : ℕ → EsRow) (c : PathNumbers) (m n k : ℕ) (a : EsSearch) → k + n ≤ m → Held m a → HeldStep m (es_from row c n k a)
 unfolding es_from
@@ -79,37 +79,34 @@ unfolding of_bits sub add neg le round
 no_row = refl
 
 -- where something is rewritten, its row is below m
-abbrev Below : ℕ → AnswerAndRow → Type 0
-Below m d = d.rewrites ≡ true → d.ksx < m
+abbrev Below : ℕ → Result AnswerAndRow Refusal → Type 0
+Below m d = RowBelow m (rewrite_by d)
 
-never : {m k : ℕ} → false ≡ true → k < m
-never e = absurd (let z : ◌≡◌ {A = ℕ} 0 1 = cc in omega arith)
+line-below : (b : Bool) (m : ℕ) (a : EsSearch) (fe : Float) → (a.esmuf -f f1000 ≥f f0) ≡ b → Held m a → RowBelow m (es_line_by b a fe).rewrite
+unfolding es_found_of
+line-below true m a fe p w = tt
+line-below false m a fe p (inl h) = h
+line-below false m a fe p (inr q) = let e : true ≡ false = sym no_row ∙ ap (λ x. x -f f1000 ≥f f0) (sym q) ∙ p in let z : ◌≡◌ {A = ℕ} 0 1 = cc in absurd (omega arith)
 
-line-below : (b : Bool) (m : ℕ) (a : EsSearch) (fe : Float) → (a.esmuf -f f1000 ≥f f0) ≡ b → Held m a → (es_line_by b a fe).rewrites ≡ true → a.ksx < m
-line-below true m a fe p w e = never e
-line-below false m a fe p (inl h) e = h
-line-below false m a fe p (inr q) e = never (sym p ∙ ap (λ x. x -f f1000 ≥f f0) q ∙ no_row)
+es-below : (q : Result EsSearch Refusal) (m : ℕ) (t : IonoState) (fe : Float) (x : RegularLines) (ks : ℕ) → HeldStep m q → Below m (es_by q t fe x ks)
+unfolding es_line_of found_muf_of
+es-below (Ok a) m t fe x ks w = line-below (a.esmuf -f f1000 ≥f f0) m a fe refl w
+es-below (Err r) m t fe x ks w = tt
 
-es-below : (q : EsStep) (m : ℕ) (s t : IonoState) (fe : Float) (x : RegularLines) (ks : ℕ) → HeldStep m q → Below m (es_by q s t fe x ks)
-unfolding es_line_of refused_rows_kept
-es-below (EsStep.Next a) m s t fe x ks w = line-below (a.esmuf -f f1000 ≥f f0) m a fe refl w
-es-below (EsStep.Refused r) m s t fe x ks w = never
+three-below : (q : Result RegularLines Refusal) (m : ℕ) (t : IonoState) (l : Slot) (ks : ℕ) (step : Result EsSearch Refusal) → HeldStep m step → Below m (regular_by q t l ks step)
+three-below (Ok x) m t l ks step w = es-below step m t l.fi0 x ks w
+three-below (Err r) m t l ks step w = tt
 
-three-below : (q : RegularAnswer) (m : ℕ) (s t : IonoState) (l : Slot) (ks : ℕ) (step : EsStep) → HeldStep m step → Below m (regular_by q s t l ks step)
-unfolding refused_rows_kept
-three-below (RegularAnswer.Found x) m s t l ks step w = es-below step m s t l.fi0 x ks w
-three-below (RegularAnswer.Refused r) m s t l ks step w = never
-
-done-by-below : (a b : Bool) (m : ℕ) (s : IonoState) (step : EsStep) (f2d clat clck : List Float) (c : PathNumbers) → HeldStep m step → Below m (muf_from_search_by a b gethp_of s step f2d clat clck c)
-unfolding muf_at_slot_with refused_rows_kept
+done-by-below : (a b : Bool) (m : ℕ) (s : IonoState) (step : Result EsSearch Refusal) (f2d clat clck : List Float) (c : PathNumbers) → HeldStep m step → Below m (muf_from_search_by a b gethp_of s step f2d clat clck c)
+unfolding muf_at_slot_with
 done-by-below true true m s step f2d clat clck c w =
     let ks = controlling_of s in
     let t = lecden_of s ks in
-    three-below (regular_with gethp_of t (slot_at t ks) f2d (at clat ks) (at clck ks) c) m s t (slot_at t ks) ks step w
-done-by-below true false m s step f2d clat clck c w = never
-done-by-below false b m s step f2d clat clck c w = never
+    three-below (regular_with gethp_of t (slot_at t ks) f2d (at clat ks) (at clck ks) c) m t (slot_at t ks) ks step w
+done-by-below true false m s step f2d clat clck c w = tt
+done-by-below false b m s step f2d clat clck c w = tt
 
-pub done_below : (s : IonoState) (n : ℕ) (row : ℕ → EsRow) (f2d clat clck : List Float) (c : PathNumbers) → (muf_of_rows_with gethp_of s n row f2d clat clck c).rewrites ≡ true → (muf_of_rows_with gethp_of s n row f2d clat clck c).ksx < n
+pub done_below : (s : IonoState) (n : ℕ) (row : ℕ → EsRow) (f2d clat clck : List Float) (c : PathNumbers) → RowBelow n (rewrite_by (muf_of_rows_with gethp_of s n row f2d clat clck c))
 unfolding muf_of_rows_with muf_from_search_with
 done_below s n row f2d clat clck c = done-by-below (in_domain c) (lists_reach (controlling_of s) (length f2d) (length clat) (length clck)) n s (es_from row c n 0 start_of) f2d clat clck c (all_held row c n)
 
@@ -125,8 +122,11 @@ pub rows-there : (numbers km : ℕ) → 4 * row_count_of numbers km ≤ numbers
 unfolding row_count_of
 rows-there numbers km = let h = taken-there (numbers / 4) km in omega (arith, div-add-mod' numbers 4)
 
-pub flat-below : (s : IonoState) (es f2d clat clck : List Float) (c : PathNumbers) → (flat_of s es f2d clat clck c).rewrites ≡ true → 4 * (flat_of s es f2d clat clck c).ksx < length es
+-- the same at another bound
+pub row-within : (m n : ℕ) (w : Option Rewrite) → m ≤ n → RowBelow m w → RowBelow n w
+row-within m n (Some w) h b = omega arith
+row-within m n None h b = tt
+
+pub flat-below : (s : IonoState) (es f2d clat clck : List Float) (c : PathNumbers) → RowBelow (row_count_of (length es) s.km) (rewrite_by (flat_of s es f2d clat clck c))
 unfolding flat_with
-flat-below s es f2d clat clck c e =
-    let h = done_below s (row_count_of (length es) s.km) (row_at es) f2d clat clck c e in
-    omega (arith, rows-there (length es) s.km)
+flat-below s es f2d clat clck c = done_below s (row_count_of (length es) s.km) (row_at es) f2d clat clck c

@@ -1,10 +1,9 @@
 -- The hour put together from its four lines, and the hour of zeros beside a refusal.
-use Rattle.std.specs.Prelude.{Bool, true, false, [], ◌∷◌, ℕ, pos, Float}
+use Rattle.std.specs.Prelude.{Bool, true, false, [], ◌∷◌, ℕ, pos, Float, Result, Ok, Err}
 use Rattle.scalar.specs.F32.{◌-f◌, ◌≥f◌}
 use Rattle.scalar.specs.Literals.{f0}
 use Rattle.scalar.specs.Scalar.{max_of}
 use Rattle.refusal.specs.declared.Refusal.{Refusal}
-use Rattle.refusal.specs.declared.Outcome.{Outcome}
 use Rattle.layers.specs.declared.IonoState.{IonoState}
 use Rattle.layers.specs.declared.LayerMuf.{LayerMuf}
 use Rattle.e_lines.specs.Lines.{zero_line}
@@ -62,5 +61,11 @@ zero_hour =
       ks = 0;
     }
 
-unfoldable pub refused_muf : IonoState → Refusal → MufAnswer
-refused_muf s r = record { outcome = Outcome.Refused r; hour = zero_hour; state = s }
+-- the values of each case: the hour, of +0 beside a refusal, and the state, as it came beside one
+abbrev pub hour_value : Result MufAnswer Refusal → MufHour
+hour_value (Ok a) = a.hour
+hour_value (Err r) = zero_hour
+
+abbrev pub state_value : IonoState → Result MufAnswer Refusal → IonoState
+state_value s (Ok a) = a.state
+state_value s (Err r) = s

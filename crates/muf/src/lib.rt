@@ -4,16 +4,15 @@
 
 ghost use Rattle.std.specs.Prelude.{◌≡◌, ◌*◌, ◌<◌};
 ghost use Rattle.heights.specs.Gethp.{gethp_of};
-ghost use Rattle.muf.specs.Hour.{mode_of, hour_of, zero_hour, refused_muf};
-ghost use Rattle.muf.specs.Curmuf.{regular_with, refused_rows_kept, es_by, muf_at_slot_of, muf_from_search_of, flat_of, es_after_of, curmuf_of};
+ghost use Rattle.muf.specs.Hour.{mode_of, hour_of, zero_hour};
+ghost use Rattle.muf.specs.Curmuf.{regular_with, found_muf_of, muf_at_slot_of, muf_from_search_of, flat_of, es_after_of, curmuf_of};
 ghost use Rattle.muf.specs.Says.{RegularSays, SlotSays};
 
-use e_lines::LineAnswer;
 use layer_mufs::PathNumbers;
 use layers::{IonoState, LayerMuf};
-use refusal::{Outcome, Refusal};
+use refusal::Refusal;
 use slot_curves::Slot;
-use sporadic::EsStep;
+use sporadic::{EsSearch, Rewrite};
 
 // The lines of the regular layers.
 #[derive(Clone, Copy)]
@@ -21,12 +20,6 @@ pub struct RegularLines {
     pub e: LayerMuf,
     pub f1: LayerMuf,
     pub f2: LayerMuf,
-}
-
-#[derive(Drop)]
-pub enum RegularAnswer {
-    Found(RegularLines),
-    Refused(Refusal),
 }
 
 // The layer whose MUF is the circuit's, 1 to 3 for E, F1 and F2, and the takeoff angle of its line.
@@ -55,11 +48,9 @@ pub struct MufHour {
     pub ks: usize,
 }
 
-// The hour, and the state as `lecden` of the controlling slot left it; beside a refusal an hour of
-// zeros, and the state as it came.
-#[derive(Drop)]
+// The hour, and the state as `lecden` of the controlling slot left it.
+#[derive(Clone, Copy)]
 pub struct MufAnswer {
-    pub outcome: Outcome,
     pub hour: MufHour,
     pub state: IonoState,
 }
@@ -134,17 +125,6 @@ pub fn zero_hour() -> MufHour
     }
 }
 
-pub fn refused(s: IonoState, r: Refusal) -> MufAnswer
-    ensures { result ≡ refused_muf s r }
-{
-    let hour = zero_hour();
-    MufAnswer {
-        outcome: Outcome::Refused(r),
-        hour,
-        state: s,
-    }
-}
-
 // E, then F2, then F1.
 fn regular_lines(
     t: IonoState,
@@ -153,83 +133,33 @@ fn regular_lines(
     clat: f32,
     clck: f32,
     c: PathNumbers,
-) -> RegularAnswer
+) -> Result<RegularLines, Refusal>
     ensures value { result ≡ regular_with gethp_of t l f2d.now clat clck c }
     ensures regular_says { RegularSays result t l f2d.now clat clck c }
 {
     let x = tangents::tangent_frequencies(l, c.gcdkm);
-    let e_answer = e_lines::e_line(t, x.fxe, c.gcdkm, c.amind);
-    match e_answer {
-        LineAnswer::Refused(r) => RegularAnswer::Refused(r),
-        LineAnswer::Found(e) => {
-            let f2_answer = layer_mufs::f2_line(t, l, x, f2d, clat, clck, c);
-            match f2_answer {
-                LineAnswer::Refused(r) => RegularAnswer::Refused(r),
-                LineAnswer::Found(f2) => {
-                    let f1_answer = layer_mufs::f1_line(t, l, x.fx1, e, c.gcdkm, c.amind);
-                    match f1_answer {
-                        LineAnswer::Refused(r) => RegularAnswer::Refused(r),
-                        LineAnswer::Found(f1) => {
-                            let m = RegularLines { e, f1, f2 };
-                            RegularAnswer::Found(m)
-                        }
-                    }
-                }
-            }
-        }
-    }
+    let e = e_lines::e_line(t, x.fxe, c.gcdkm, c.amind)?;
+    let f2 = layer_mufs::f2_line(t, l, x, f2d, clat, clck, c)?;
+    let f1 = layer_mufs::f1_line(t, l, x.fx1, e, c.gcdkm, c.amind)?;
+    Ok(RegularLines { e, f1, f2 })
 }
 
 // What is written into which row, once the hour is known.
-#[derive(Drop)]
+#[derive(Clone, Copy)]
 pub struct AnswerAndRow {
     pub answer: MufAnswer,
-    pub rewrites: bool,
-    pub ksx: usize,
-    pub lower: f32,
-}
-
-pub fn refused_rows_kept(s: IonoState, r: Refusal) -> AnswerAndRow
-    ensures { result ≡ refused_rows_kept s r }
-{
-    let answer = refused(s, r);
-    AnswerAndRow {
-        answer,
-        rewrites: false,
-        ksx: 0,
-        lower: 0.0,
-    }
+    pub rewrite: Option<Rewrite>,
 }
 
 // The hour, after the search of the Es rows.
-fn finish(
-    s: IonoState,
-    t: IonoState,
-    fe: f32,
-    m: RegularLines,
-    ks: usize,
-    step: EsStep,
-) -> AnswerAndRow
-    ensures { result ≡ es_by step s t fe m ks }
+fn finish(t: IonoState, fe: f32, m: RegularLines, ks: usize, a: EsSearch) -> AnswerAndRow
+    ensures { result ≡ found_muf_of a t fe m ks }
 {
-    match step {
-        EsStep::Refused(r) => refused_rows_kept(s, r),
-        EsStep::Next(a) => {
-            let x = sporadic::es_line(a, fe);
-            let line = x.line;
-            let hour = hour(m, line, ks);
-            let answer = MufAnswer {
-                outcome: Outcome::Answered,
-                hour,
-                state: t,
-            };
-            AnswerAndRow {
-                answer,
-                rewrites: x.rewrites,
-                ksx: a.ksx,
-                lower: x.lower,
-            }
-        }
+    let x = sporadic::es_line(a, fe);
+    let hour = hour(m, x.line, ks);
+    AnswerAndRow {
+        answer: MufAnswer { hour, state: t },
+        rewrite: x.rewrite,
     }
 }
 
@@ -237,47 +167,43 @@ fn finish(
 pub fn muf_at_slot(
     s: IonoState,
     ks: usize,
-    step: EsStep,
+    step: Result<EsSearch, Refusal>,
     f2d: &[f32],
     clat: f32,
     clck: f32,
     c: PathNumbers,
-) -> AnswerAndRow
+) -> Result<AnswerAndRow, Refusal>
     requires { ks < 3 }
     ensures value { result ≡ muf_at_slot_of s ks step f2d.now clat clck c }
     ensures slot_says { SlotSays result s ks step f2d.now clat clck c }
 {
     let t = profile::lecden_slot(s, ks);
     let l = profile::slot_at(t, ks);
-    let found = regular_lines(t, l, f2d, clat, clck, c);
-    match found {
-        RegularAnswer::Refused(r) => refused_rows_kept(s, r),
-        RegularAnswer::Found(m) => finish(s, t, l.fi0, m, ks, step),
-    }
+    let m = regular_lines(t, l, f2d, clat, clck, c)?;
+    let a = step?;
+    Ok(finish(t, l.fi0, m, ks, a))
 }
 
 // The whole call but for the Es rows, flat or records: their search is given, of whatever rows it
 // is, and the row to be rewritten is named. Where the call is refused before them it is not used.
 pub fn muf_from_search(
     s: IonoState,
-    step: EsStep,
+    step: Result<EsSearch, Refusal>,
     f2d: &[f32],
     clat: &[f32],
     clck: &[f32],
     c: PathNumbers,
-) -> AnswerAndRow
+) -> Result<AnswerAndRow, Refusal>
     ensures { result ≡ muf_from_search_of s step f2d.now clat.now clck.now c }
 {
-    if muf_domain::in_domain(c) {
-        let ks = controlling_slot::controlling(s);
-        if muf_domain::lists_reach(ks, f2d.len(), clat.len(), clck.len()) {
-            let lat = clat[ks];
-            let clock = clck[ks];
-            return muf_at_slot(s, ks, step, f2d, lat, clock, c);
-        }
-        return refused_rows_kept(s, Refusal::MufLists);
+    if !muf_domain::in_domain(c) {
+        return Err(Refusal::MufInput);
     }
-    refused_rows_kept(s, Refusal::MufInput)
+    let ks = controlling_slot::controlling(s);
+    if !muf_domain::lists_reach(ks, f2d.len(), clat.len(), clck.len()) {
+        return Err(Refusal::MufLists);
+    }
+    muf_at_slot(s, ks, step, f2d, clat[ks], clck[ks], c)
 }
 
 // The whole call but for the row that it rewrites.
@@ -288,7 +214,7 @@ fn flat(
     clat: &[f32],
     clck: &[f32],
     c: PathNumbers,
-) -> AnswerAndRow
+) -> Result<AnswerAndRow, Refusal>
     ensures { result ≡ flat_of s es.now f2d.now clat.now clck.now c }
 {
     let n = muf_domain::row_count(es.len(), s.km);
@@ -305,16 +231,13 @@ pub fn curmuf(
     clat: &[f32],
     clck: &[f32],
     c: PathNumbers,
-) -> MufAnswer
+) -> Result<MufAnswer, Refusal>
     ensures value { result ≡ curmuf_of s es.old f2d.now clat.now clck.now c }
     ensures es_after { es.new ≡ es_after_of s es.old f2d.now clat.now clck.now c }
 {
-    let d = flat(s, es, f2d, clat, clck, c);
-    let answer = d.answer;
-    if d.rewrites {
-        let at = 4 * d.ksx;
-        es[at] = d.lower;
-        return answer;
+    let d = flat(s, es, f2d, clat, clck, c)?;
+    if let Some(w) = d.rewrite {
+        es[4 * w.ksx] = w.lower;
     }
-    answer
+    Ok(d.answer)
 }

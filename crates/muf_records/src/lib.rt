@@ -4,13 +4,13 @@
 ghost use Rattle.std.specs.Prelude.{◌≡◌, length};
 ghost use Rattle.sporadic.specs.Sporadic.{start_of, es_from};
 ghost use Rattle.muf_domain.specs.Domain.{taken_rows};
-ghost use Rattle.muf_records.specs.Records.{as_es_row, es_row_at, es_turn_of, records_muf_of, records_after_of};
-ghost use Rattle.sporadic.specs.declared.EsStep.{EsStep};
+ghost use Rattle.muf_records.specs.Records.{as_es_row, es_row_at, records_muf_of, records_after_of};
 
 use layer_mufs::PathNumbers;
 use layers::{EsParams, IonoState};
 use muf::MufAnswer;
-use sporadic::{EsRow, EsStep};
+use refusal::Refusal;
+use sporadic::{EsRow, EsSearch};
 
 // A record as a row of numbers.
 fn row(e: EsParams) -> EsRow
@@ -25,36 +25,16 @@ fn row(e: EsParams) -> EsRow
     }
 }
 
-// No row controls yet.
-fn first() -> EsStep
-    ensures { result ≡ EsStep.Next start_of }
-{
-    let a = sporadic::es_start();
-    EsStep::Next(a)
-}
-
-// Row k's turn, where no row before it was refused.
-fn turn(step: EsStep, k: usize, e: EsParams, c: PathNumbers) -> EsStep
-    ensures { result ≡ es_turn_of step k e c }
-{
-    match step {
-        EsStep::Refused(r) => EsStep::Refused(r),
-        EsStep::Next(a) => sporadic::es_row(a, k, row(e), c),
-    }
-}
-
 // The rows in order, at most km of them.
-fn search(es: &[EsParams], km: usize, c: PathNumbers) -> EsStep
+fn search(es: &[EsParams], km: usize, c: PathNumbers) -> Result<EsSearch, Refusal>
     ensures { result ≡ es_from (es_row_at es.now) c (taken_rows (length es.now) km) 0 start_of }
 {
     let n = muf_domain::rows_taken(es.len(), km);
-    let mut step = first();
-    let mut k = 0;
-    while k < n {
-        step = turn(step, k, es[k], c);
-        k = k + 1;
+    let mut a = sporadic::es_start();
+    for k in 0..n {
+        a = sporadic::es_row(a, k, row(es[k]), c)?;
     }
-    step
+    Ok(a)
 }
 
 // The MUF hour; records past km are not read. Only the controlling record's lower decile is
@@ -67,11 +47,12 @@ pub fn curmuf_records(
     clat: &[f32],
     clck: &[f32],
     c: PathNumbers,
-) -> MufAnswer
-    ensures { (result ≡ records_muf_of s es.old f2d.now clat.now clck.now c)
-        × (es.new ≡ records_after_of s es.old f2d.now clat.now clck.now c) }
+) -> Result<MufAnswer, Refusal>
+    ensures answer { result ≡ records_muf_of s es.old f2d.now clat.now clck.now c }
+    ensures records_after { es.new ≡ records_after_of s es.old f2d.now clat.now clck.now c }
 {
-    let step = search(es, s.km, c);
-    let d = muf::muf_from_search(s, step, f2d, clat, clck, c);
-    es_records::rewrite(es, d)
+    let found = search(es, s.km, c);
+    let d = muf::muf_from_search(s, found, f2d, clat, clck, c)?;
+    es_records::rewrite(es, d.rewrite);
+    Ok(d.answer)
 }

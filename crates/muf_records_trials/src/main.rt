@@ -4,6 +4,7 @@
 use layer_mufs::PathNumbers;
 use layers::{EsParams, IonoState, LayerParams};
 use muf::MufAnswer;
+use refusal::Refusal;
 
 fn say(x: f32) {
     io::write_all(1, b" ");
@@ -21,27 +22,26 @@ fn say_row(e: EsParams) {
 }
 
 fn say_rows(es: [EsParams; 5]) {
-    say_row(es[0]);
-    say_row(es[1]);
-    say_row(es[2]);
-    say_row(es[3]);
-    say_row(es[4]);
+    for e in es {
+        say_row(e);
+    }
 }
 
-// The refusal's number or 0, the MUFs, the Es line's deciles and height, and the rows as they are then.
-fn print(answer: MufAnswer, es: [EsParams; 5]) {
-    let outcome = answer.outcome;
-    let hour = answer.hour;
-    let layers = hour.layers;
-    let line = layers[3];
-    io::print_decimal(1, refusal::outcome_number(outcome) as u64);
+// The refusal's number or 0, the MUFs, the Es line's deciles and height, of +0 beside a refusal.
+fn print(answer: Result<MufAnswer, Refusal>) {
+    let number = refusal::answer_number(&answer);
+    let hour = match answer {
+        Ok(a) => a.hour,
+        Err(_) => muf::zero_hour(),
+    };
+    let line = hour.layers[3];
+    io::print_decimal(1, number as u64);
     say(hour.allmuf);
     say(hour.esmuf);
     say(line.yfot);
     say(line.yhpf);
     say(line.hpmuf);
     io::write_all(1, b"\n");
-    say_rows(es);
 }
 
 // The records are lent, and come back.
@@ -54,19 +54,18 @@ fn lend(
     c: PathNumbers,
 ) {
     let answer = muf_records::curmuf_records(s, &mut es, f2d, clat, clck, c);
-    print(answer, es);
+    print(answer);
+    say_rows(es);
 }
 
 // km points, alike, as `ionset` leaves them.
-fn slots(km: usize) -> IonoState {
+fn slots(km: usize) -> Result<IonoState, Refusal> {
     let point = LayerParams {
         fi: [2.75, 5.25, 12.25],
         yi: [30.0, 39.0, 96.0],
         hi: [107.0, 185.0, 205.0],
     };
-    let made = slots::from_layers([point, point, point, point, point], km);
-    let set = slots::ionset(made.state);
-    set.state
+    slots::ionset(slots::from_layers([point; 5], km)?)
 }
 
 fn row(fs0: f32, fs1: f32, fs2: f32, hs: f32) -> EsParams {
@@ -99,7 +98,10 @@ fn run(name: &[u8], km: usize, es: [EsParams; 5], gcdkm: f32) {
     let f2d = [0.0f32; 576];
     let clat = [0.7f32; 5];
     let clck = [12.0f32; 5];
-    lend(slots(km), es, &f2d, &clat, &clck, circuit(gcdkm));
+    match slots(km) {
+        Ok(s) => lend(s, es, &f2d, &clat, &clck, circuit(gcdkm)),
+        Err(r) => print(Err(r)),
+    }
 }
 
 // A row past km is not read: the lowest median of all, at row 3, and a height that takes too many hops, at row 2.

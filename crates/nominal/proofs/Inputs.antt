@@ -1,5 +1,7 @@
 -- Each of the three searches by induction over the points, then the whole.
-use mathlib.Core.Bool.{Bool, true, false}
+use Rattle.muf.specs.Curmuf.{rewrite_by}
+use Rattle.sporadic.specs.declared.Rewrite.{Rewrite}
+use Rattle.std.specs.Prelude.{Option, Some, None}
 use mathlib.Core.List.{List, [], ◌∷◌}
 use mathlib.Core.Path.{◌≡◌, refl, ap, ap₂, ◌∙◌}
 use Prim.Native.Nat.{ℕ, zero, suc}
@@ -9,7 +11,7 @@ use lib.Ieee.{Float}
 use Rattle.scalar.specs.F32.{at}
 use Rattle.layers.specs.declared.LayerParams.{LayerParams}
 use Rattle.layers.specs.declared.EsParams.{EsParams}
-use Rattle.muf_records.specs.Records.{no_es, lower_rewritten, records_by, records_answer_of}
+use Rattle.muf_records.specs.Records.{no_es, lower_rewritten, records_by, records_answer_of, records_after_of}
 use Rattle.nominal_factors.specs.Factors.{ec_step, fmuf_of, f2_step}
 use Rattle.nominal.specs.Nommuf.{ec_of, f2muf_of, es_step, esmuf_of, nominal_of, nommuf_of}
 use Rattle.nominal.specs.Inputs.{PointsAgree, RowAgrees, EsAgree, ReadsOnly, EsRewritten}
@@ -52,11 +54,10 @@ set-row (e ∷ es) zero lower (suc k) = (refl, refl)
 set-row (e ∷ es) (suc i) lower zero = (refl, refl)
 set-row (e ∷ es) (suc i) lower (suc k) = set-row es i lower k
 
-rows-kept : (b : Bool) (es : List EsParams) (i : ℕ) (lower : Float) (k : ℕ) → RowAgrees (get_or (records_by b es i lower) k no_es) (get_or es k no_es)
-rows-kept true es i lower k = set-row es i lower k
-rows-kept false es i lower k = (refl, refl)
+rows-kept : (w : Option Rewrite) (es : List EsParams) (k : ℕ) → RowAgrees (get_or (records_by w es) k no_es) (get_or es k no_es)
+rows-kept (Some w) es k = set-row es w.ksx w.lower k
+rows-kept None es k = (refl, refl)
 
 pub es-rewritten : EsRewritten
 es-rewritten s es f2d clat clck c points f2m3 km gcd gcdkm =
-    let d = records_answer_of s es f2d clat clck c in
-    reads_only km points points f2m3 (records_by d.rewrites es d.ksx d.lower) es gcd gcdkm (λ k l. (refl, refl)) (λ k l. rows-kept d.rewrites es d.ksx d.lower k)
+    reads_only km points points f2m3 (records_after_of s es f2d clat clck c) es gcd gcdkm (λ k l. (refl, refl)) (λ k l. rows-kept (rewrite_by (records_answer_of s es f2d clat clck c)) es k)

@@ -1,25 +1,22 @@
 -- `nommuf` of the Rust: the MUF by the map's M(3000)F2 instead of a profile. The paper's refusals: 5 where the point count is
 -- not 1 to 5 or the F2M3s are not as many, then 9 where gcdkm or gcd is outside the MUF's domain. The points' numbers are read
 -- as given, not as `ionset` makes slots of them.
-use Rattle.std.specs.Prelude.{Bool, cond, ◌&&◌, List, [], ◌∷◌, ℕ, zero, suc, pos, length, get_or, Float}
+use Rattle.std.specs.Prelude.{Bool, cond, ◌&&◌, List, [], ◌∷◌, ℕ, zero, suc, pos, length, get_or, Float, Result, Ok, Err}
 use Rattle.scalar.specs.F32.{◌+f◌, ◌*f◌, ◌/f◌, ◌≤f◌, ◌>f◌, negf, at}
 use Rattle.scalar.specs.Literals.{f0, f0_85, f1, f6_3, f1000, f40100}
 use Rattle.scalar.specs.Scalar.{max_of}
 use Rattle.scalar.specs.Root.{sqrt_of}
 use Rattle.refusal.specs.declared.Refusal.{Refusal}
-use Rattle.refusal.specs.declared.Outcome.{Outcome}
 use Rattle.layers.specs.State.{no_layers}
 use Rattle.layers.specs.declared.LayerParams.{LayerParams}
 use Rattle.layers.specs.declared.EsParams.{EsParams}
 use Rattle.e_lines.specs.Lines.{zero_line}
 use Rattle.sporadic.specs.Sporadic.{ray_of}
-use Rattle.muf.specs.Hour.{zero_hour}
 use Rattle.muf_domain.specs.Domain.{within_of}
 use Rattle.muf.specs.declared.MufHour.{MufHour}
 use Rattle.muf_records.specs.Records.{no_es}
 use Rattle.nominal_factors.specs.Coefficients.{f0_0062137, f1_15, f4_871, f225}
 use Rattle.nominal_factors.specs.Factors.{elfc_of, flfc_of, ec_step, fmuf_of, f2_step, allmuf_of, counts_agree}
-use Rattle.nominal.specs.declared.NominalAnswer.{NominalAnswer}
 
 -- fi[k][i] of the Rust
 abbrev pub fi_at : List LayerParams → ℕ → ℕ → Float
@@ -86,14 +83,10 @@ nominal_of points f2m3 es km gcd gcdkm =
 unfoldable pub path_taken : Float → Float → Bool
 path_taken gcd gcdkm = within_of gcdkm f40100 && within_of gcd f6_3
 
--- beside a refusal an hour of zeros
-unfoldable pub refused_nominal : Refusal → NominalAnswer
-refused_nominal r = record { outcome = Outcome.Refused r; hour = zero_hour }
-
-unfoldable pub nommuf_of : List LayerParams → List Float → List EsParams → ℕ → Float → Float → NominalAnswer
+unfoldable pub nommuf_of : List LayerParams → List Float → List EsParams → ℕ → Float → Float → Result MufHour Refusal
 nommuf_of points f2m3 es km gcd gcdkm =
     cond (counts_agree km (length f2m3))
     (cond (path_taken gcd gcdkm)
-    (record { outcome = Outcome.Answered; hour = nominal_of points f2m3 es km gcd gcdkm })
-    (refused_nominal Refusal.MufInput))
-    (refused_nominal Refusal.PointCount)
+    (Ok (nominal_of points f2m3 es km gcd gcdkm))
+    (Err Refusal.MufInput))
+    (Err Refusal.PointCount)

@@ -3,19 +3,12 @@
 #![tactic(auto)]
 
 ghost use Rattle.std.specs.Prelude.{◌≡◌, ◌≤◌, length};
-ghost use Rattle.nominal.specs.Nommuf.{ec_of, f2muf_of, hop_of, es_step, esmuf_of, nominal_of, path_taken, refused_nominal, nommuf_of};
+ghost use Rattle.nominal.specs.Nommuf.{ec_of, f2muf_of, hop_of, es_step, esmuf_of, nominal_of, path_taken, nommuf_of};
 
 use layer_mufs::PathNumbers;
 use layers::{EsParams, LayerParams};
 use muf::MufHour;
-use refusal::{Outcome, Refusal};
-
-// The hour; beside a refusal an hour of zeros.
-#[derive(Drop)]
-pub struct NominalAnswer {
-    pub outcome: Outcome,
-    pub hour: MufHour,
-}
+use refusal::Refusal;
 
 // The lowest critical frequency of E over the points.
 fn lowest_e(points: [LayerParams; 5], km: usize) -> f32
@@ -136,16 +129,6 @@ fn path_taken(gcd: f32, gcdkm: f32) -> bool
     muf_domain::in_domain(c)
 }
 
-fn refused(r: Refusal) -> NominalAnswer
-    ensures { result ≡ refused_nominal r }
-{
-    let hour = muf::zero_hour();
-    NominalAnswer {
-        outcome: Outcome::Refused(r),
-        hour,
-    }
-}
-
 // The nominal hour of the first `count` points, their F2M3s and their Es rows; what stands past the
 // count is not read.
 pub fn nommuf(
@@ -155,18 +138,14 @@ pub fn nommuf(
     count: usize,
     gcd: f32,
     gcdkm: f32,
-) -> NominalAnswer
+) -> Result<MufHour, Refusal>
     ensures { result ≡ nommuf_of points f2m3.now es count gcd gcdkm }
 {
-    if nominal_factors::counts_agree(count, f2m3.len()) {
-        if path_taken(gcd, gcdkm) {
-            let hour = nominal(points, f2m3, es, count, gcd, gcdkm);
-            return NominalAnswer {
-                outcome: Outcome::Answered,
-                hour,
-            };
-        }
-        return refused(Refusal::MufInput);
+    if !nominal_factors::counts_agree(count, f2m3.len()) {
+        return Err(Refusal::PointCount);
     }
-    refused(Refusal::PointCount)
+    if !path_taken(gcd, gcdkm) {
+        return Err(Refusal::MufInput);
+    }
+    Ok(nominal(points, f2m3, es, count, gcd, gcdkm))
 }

@@ -99,14 +99,9 @@ pub fn greater(emuf: f32, f2muf: f32) -> f32
 }
 
 // 1 to 5 points, and an F2M3 for each.
+#[tactic(auto, unfolding(crate::specs::Factors::counts_agree))]
 pub fn counts_agree(km: usize, f2m3s: usize) -> bool
     ensures { result ≡ counts_agree km f2m3s }
 {
-    if km < 1 {
-        return false;
-    }
-    if km <= 5 {
-        return f2m3s == km;
-    }
-    false
+    layer_rules::count_taken(km) && f2m3s == km
 }

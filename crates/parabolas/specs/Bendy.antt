@@ -1,13 +1,11 @@
 -- `bendy` and `pen`: how much a parabolic layer i of slot k raises the virtual height of a frequency that it reflects, and of one that passes through it.
-use Rattle.std.specs.Prelude.{Bool, true, false, List, [], ◌∷◌, ℕ, ◌+◌, ◌*◌, ltb, Float}
+use Rattle.std.specs.Prelude.{Bool, true, false, List, [], ◌∷◌, ℕ, ◌+◌, ◌*◌, ltb, Float, Result, Ok, Err}
 use Rattle.scalar.specs.F32.{◌+f◌, ◌-f◌, ◌*f◌, ◌/f◌, at}
 use Rattle.scalar.specs.Literals.{f0_5, f0_999, f1, f1_001}
 use Rattle.scalar.specs.Scalar.{min_of, max_of}
 use Rattle.logarithm.specs.Ln.{ln_of}
 use Rattle.refusal.specs.declared.Refusal.{Refusal}
-use Rattle.refusal.specs.Number.{number_of}
 use Rattle.layers.specs.declared.IonoState.{IonoState}
-use Rattle.parabolas.specs.declared.LayerNumber.{LayerNumber}
 
 -- of a layer's critical frequency fi and semi-thickness yi
 unfoldable pub bendy_at : Float → Float → Float → Float
@@ -23,22 +21,18 @@ unfoldable pub pen_of : IonoState → ℕ → ℕ → Float → Float
 pen_of s i k f = pen_at (at s.fi (3 * k + i)) (at s.yi (3 * k + i)) f
 
 -- a layer or a slot number above 2 is refused
-abbrev pub layer_answer_by : Bool → Bool → Float → LayerNumber
-layer_answer_by true b v = LayerNumber.Refused Refusal.SlotNumber
-layer_answer_by false true v = LayerNumber.Refused Refusal.SlotNumber
-layer_answer_by false false v = LayerNumber.Value v
+abbrev pub layer_answer_by : Bool → Bool → Float → Result Float Refusal
+layer_answer_by true b v = Err Refusal.SlotNumber
+layer_answer_by false true v = Err Refusal.SlotNumber
+layer_answer_by false false v = Ok v
 
-unfoldable pub bendy_answer : IonoState → ℕ → ℕ → Float → LayerNumber
+unfoldable pub bendy_answer : IonoState → ℕ → ℕ → Float → Result Float Refusal
 bendy_answer s i k f = layer_answer_by (ltb 2 i) (ltb 2 k) (bendy_of s i k f)
 
-unfoldable pub pen_answer : IonoState → ℕ → ℕ → Float → LayerNumber
+unfoldable pub pen_answer : IonoState → ℕ → ℕ → Float → Result Float Refusal
 pen_answer s i k f = layer_answer_by (ltb 2 i) (ltb 2 k) (pen_of s i k f)
 
--- ---- the paper's number and values of each case
-unfoldable pub layer_number_of : LayerNumber → ℕ
-layer_number_of (LayerNumber.Value v) = 0
-layer_number_of (LayerNumber.Refused r) = number_of r
-
-unfoldable pub layer_values_of : LayerNumber → List Float
-layer_values_of (LayerNumber.Value v) = v ∷ []
-layer_values_of (LayerNumber.Refused r) = []
+-- ---- the values of each case; its number is `answer_number`'s
+unfoldable pub layer_values_of : Result Float Refusal → List Float
+layer_values_of (Ok v) = v ∷ []
+layer_values_of (Err r) = []

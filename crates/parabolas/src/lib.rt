@@ -7,13 +7,6 @@ ghost use Rattle.parabolas.specs.Bendy.{bendy_at, pen_at, bendy_answer, pen_answ
 use layers::IonoState;
 use refusal::Refusal;
 
-// A layer's number, or the refusal of a slot or layer number above 2.
-#[derive(Clone, Copy)]
-pub enum LayerNumber {
-    Value(f32),
-    Refused(Refusal),
-}
-
 // Of a layer with critical frequency `fi` and semi-thickness `yi`.
 pub fn bendy_at(fi: f32, yi: f32, f: f32) -> f32
     ensures { result ≡ bendy_at fi yi f }
@@ -33,29 +26,29 @@ pub fn pen_at(fi: f32, yi: f32, f: f32) -> f32
 
 // How much the virtual height of a frequency is raised by the parabolic layer `i` of slot `k` that
 // reflects it.
-pub fn bendy(s: IonoState, i: usize, k: usize, f: f32) -> LayerNumber
+pub fn bendy(s: IonoState, i: usize, k: usize, f: f32) -> Result<f32, Refusal>
     ensures { result ≡ bendy_answer s i k f }
 {
     if i > 2 {
-        return LayerNumber::Refused(Refusal::SlotNumber);
+        return Err(Refusal::SlotNumber);
     }
     if k > 2 {
-        return LayerNumber::Refused(Refusal::SlotNumber);
+        return Err(Refusal::SlotNumber);
     }
     let n = 3 * k + i;
-    LayerNumber::Value(bendy_at(s.fi[n], s.yi[n], f))
+    Ok(bendy_at(s.fi[n], s.yi[n], f))
 }
 
 // The same for a frequency that the layer lets through, delayed, to a higher one.
-pub fn pen(s: IonoState, i: usize, k: usize, f: f32) -> LayerNumber
+pub fn pen(s: IonoState, i: usize, k: usize, f: f32) -> Result<f32, Refusal>
     ensures { result ≡ pen_answer s i k f }
 {
     if i > 2 {
-        return LayerNumber::Refused(Refusal::SlotNumber);
+        return Err(Refusal::SlotNumber);
     }
     if k > 2 {
-        return LayerNumber::Refused(Refusal::SlotNumber);
+        return Err(Refusal::SlotNumber);
     }
     let n = 3 * k + i;
-    LayerNumber::Value(pen_at(s.fi[n], s.yi[n], f))
+    Ok(pen_at(s.fi[n], s.yi[n], f))
 }

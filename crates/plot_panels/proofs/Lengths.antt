@@ -12,7 +12,6 @@ use Rattle.scalar.specs.F32.{at}
 use Rattle.scalar.specs.Root.{sqrt_of}
 use Rattle.reflectrix.specs.declared.Ionogram.{Ionogram}
 use Rattle.shapes.specs.declared.Mark.{Mark}
-use Rattle.shapes.specs.declared.HeightMark.{HeightMark}
 use Rattle.circuit_sheet.specs.declared.SlotRows.{SlotRows}
 use Rattle.circuit_plot.specs.declared.Profile.{Profile}
 use Rattle.circuit_plot.specs.declared.Plot.{Plot}
@@ -44,9 +43,9 @@ height : (m : Mark) (density h : Float) → AtMost (height_text m density h) 72
 unfolding height_text
 height m density h = mark m (sqrt_of density) h
 
-profile : (p : Profile) (marks : List HeightMark) → AtMost (profile_text p marks) 3600
+profile : (p : Profile) (marks : List Mark) → AtMost (profile_text p marks) 3600
 unfolding profile_text
-profile p marks = times (height_text_at p marks) 72 50 (λ i l. height (get_or marks i no_mark).mark (at p.fnsq i) (at p.htr i))
+profile p marks = times (height_text_at p marks) 72 50 (λ i l. height (get_or marks i no_mark) (at p.fnsq i) (at p.htr i))
 
 panel : (r : SlotRows) (p : Profile) (muf : Float) (ks k : ℕ) → AtMost (panel_text r p muf ks k) 6452
 unfolding panel_text

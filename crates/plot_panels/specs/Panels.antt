@@ -6,7 +6,6 @@ use Rattle.scalar.specs.Root.{sqrt_of}
 use Rattle.muf.specs.declared.MufHour.{MufHour}
 use Rattle.reflectrix.specs.declared.Ionogram.{Ionogram}
 use Rattle.shapes.specs.declared.Mark.{Mark}
-use Rattle.shapes.specs.declared.HeightMark.{HeightMark}
 use Rattle.circuit_sheet.specs.declared.SlotRows.{SlotRows}
 use Rattle.circuit_plot.specs.declared.Profile.{Profile}
 use Rattle.circuit_plot.specs.declared.Plot.{Plot}
@@ -32,13 +31,13 @@ unfoldable pub height_text : Mark → Float → Float → List ℕ
 height_text m density h = mark_text m (sqrt_of density) h
 
 -- past the end, where no code reads
-abbrev pub no_mark : HeightMark
-no_mark = record { mark = Mark.None }
+abbrev pub no_mark : Mark
+no_mark = Mark.None
 
-abbrev pub height_text_at : Profile → List HeightMark → ℕ → List ℕ
-height_text_at p marks i = height_text (get_or marks i no_mark).mark (at p.fnsq i) (at p.htr i)
+abbrev pub height_text_at : Profile → List Mark → ℕ → List ℕ
+height_text_at p marks i = height_text (get_or marks i no_mark) (at p.fnsq i) (at p.htr i)
 
-unfoldable pub profile_text : Profile → List HeightMark → List ℕ
+unfoldable pub profile_text : Profile → List Mark → List ℕ
 profile_text p marks = joined (height_text_at p marks) 50
 
 unfoldable pub panel_text : SlotRows → Profile → Float → ℕ → ℕ → List ℕ

@@ -9,7 +9,7 @@ use circuit_plot::{Plot, Profile};
 use circuit_sheet::SlotRows;
 use muf::MufHour;
 use reflectrix::Ionogram;
-use shapes::{HeightMark, Mark};
+use shapes::Mark;
 
 fn put_named(out: &mut [u8], at: usize, k: usize, ks: usize) -> usize
     ensures { Clipped (named_text k ks) out.old at out.new result }
@@ -55,14 +55,13 @@ fn put_height(out: &mut [u8], at: usize, m: Mark, density: f32, h: f32) -> usize
     svg_text::put_mark(out, at, m, scalar::sqrt(density), h)
 }
 
-fn put_profile(out: &mut [u8], at: usize, p: Profile, marks: [HeightMark; 50]) -> usize
+fn put_profile(out: &mut [u8], at: usize, p: Profile, marks: [Mark; 50]) -> usize
     ensures { Clipped (profile_text p marks) out.old at out.new result }
 {
     let mut e = at;
+    // Stays: three lists are read at one index, and two zips inside each other are no plainer.
     for i in 0..50 {
-        let h = marks[i];
-        let m = h.mark;
-        e = put_height(out, e, m, p.fnsq[i], p.htr[i]);
+        e = put_height(out, e, marks[i], p.fnsq[i], p.htr[i]);
     }
     e
 }

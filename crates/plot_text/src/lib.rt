@@ -5,8 +5,6 @@ ghost use Rattle.io.specs.Counts.{IsPrefixLen};
 ghost use Rattle.lines.specs.Text.{Put};
 ghost use Rattle.plot_text.specs.PlotText.{plot_text};
 
-use refusal::Outcome;
-
 // The bytes that a text is put into: one of three slots has room.
 pub const ROOM: usize = 24576;
 
@@ -15,11 +13,8 @@ pub fn plot_text(file: &[u8], out: &mut [u8; ROOM]) -> usize
     ensures put { Put (plot_text file.now) out.old 0 out.new result }
     ensures room { IsPrefixLen result out.new }
 {
-    let p = circuit_plot::of_file(file);
-    let sheet = p.sheet;
-    let outcome = sheet.outcome;
-    match outcome {
-        Outcome::Answered => plot_panels::put_plot(out, p),
-        Outcome::Refused(r) => lines::put_refused(out, 0, r),
+    match circuit_plot::of_file(file) {
+        Ok(p) => plot_panels::put_plot(out, p),
+        Err(r) => lines::put_refused(out, 0, r),
     }
 }

@@ -8,12 +8,6 @@ ghost use Rattle.std.specs.Prelude.{◌≤◌};
 use plot_text::ROOM;
 use sheet_text::INPUT;
 
-fn length(low: u8, high: u8) -> usize
-    ensures { result ≤ 0xffff }
-{
-    low as usize + 256 * (high as usize)
-}
-
 // The picture of the first n bytes.
 fn print(file: [u8; INPUT], n: usize)
     requires { n ≤ 4160 }
@@ -42,16 +36,11 @@ fn next() {
     if got < 2 {
         return;
     }
-    plot(length(head[0], head[1]));
+    plot(usize::from(u16::from_le_bytes(head)));
 }
 
 fn main() {
-    next();
-    next();
-    next();
-    next();
-    next();
-    next();
-    next();
-    next();
+    for _ in 0..8 {
+        next();
+    }
 }

@@ -1,14 +1,11 @@
 -- The calls on words and bytes: the number answered, 0 or the refusal's, and the words or bytes lent, afterwards. The count of words is looked at first; a refused call leaves everything.
-use Rattle.std.specs.Prelude.{Bool, true, false, ◌&&◌, List, [], ℕ, leb, length, set}
-use Rattle.refusal.specs.Number.{number_of}
+use Rattle.std.specs.Prelude.{Bool, true, false, ◌&&◌, List, [], ℕ, leb, length, set, Result, Ok, Err}
+use Rattle.refusal.specs.Number.{number_of, answer_number}
 use Rattle.refusal.specs.declared.Refusal.{Refusal}
-use Rattle.refusal.specs.declared.Outcome.{Outcome}
 use Rattle.records.specs.Record.{form64}
 use Rattle.circuit.specs.Read.{read_of}
 use Rattle.circuit.specs.declared.Circuit.{Circuit}
-use Rattle.circuit.specs.declared.ReadAnswer.{ReadAnswer}
 use Rattle.circuit_write.specs.Written as written
-use Rattle.circuit_write.specs.declared.WriteAnswer.{WriteAnswer}
 use Rattle.port_circuit.specs.Words.{circuit_of_words, circuit_into}
 
 pub record PortedCircuit : Type 0 where
@@ -18,12 +15,9 @@ pub record PortedCircuit : Type 0 where
 abbrev pub refused_read : Refusal → List ℕ → PortedCircuit
 refused_read r w = record { number = number_of r; cells = w }
 
-abbrev pub ported_read_by : Outcome → Circuit → List ℕ → PortedCircuit
-ported_read_by Outcome.Answered c w = record { number = 0; cells = circuit_into c w }
-ported_read_by (Outcome.Refused r) c w = refused_read r w
-
-unfoldable pub ported_read_of : ReadAnswer → List ℕ → PortedCircuit
-ported_read_of a w = ported_read_by a.outcome a.circuit w
+unfoldable pub ported_read_of : Result Circuit Refusal → List ℕ → PortedCircuit
+ported_read_of (Ok c) w = record { number = 0; cells = circuit_into c w }
+ported_read_of (Err r) w = refused_read r w
 
 abbrev pub port_read_by : Bool → List ℕ → List ℕ → PortedCircuit
 port_read_by true file w = ported_read_of (read_of form64 file) w
@@ -39,14 +33,14 @@ pub record Wrote : Type 0 where
   pub words : List ℕ
 
 -- how many bytes were written stands in the first word; at a refusal nothing does
-abbrev pub length_into : WriteAnswer → List ℕ → List ℕ
-length_into (WriteAnswer.Written n) out = set out 0 n
-length_into (WriteAnswer.Refused r) out = out
+abbrev pub length_into : Result ℕ Refusal → List ℕ → List ℕ
+length_into (Ok n) out = set out 0 n
+length_into (Err r) out = out
 
 abbrev pub port_write_by : Bool → Circuit → List ℕ → List ℕ → Wrote
 port_write_by true c file out =
     let a = written.write_answer_of form64 c file in
-    record { number = written.write_number a; cells = written.left_of form64 c [] file; words = length_into a out }
+    record { number = answer_number a; cells = written.left_of form64 c [] file; words = length_into a out }
 port_write_by false c file out = record { number = number_of Refusal.Length; cells = file; words = out }
 
 unfoldable pub port_write : List ℕ → List ℕ → List ℕ → Wrote

@@ -1,5 +1,5 @@
 -- What each export answers, and the words that it leaves. A slice that is shorter than its layout is refused with 1, before all else, and then nothing is written.
-use Rattle.std.specs.Prelude.{Bool, true, false, List, ℕ, ltb, length}
+use Rattle.std.specs.Prelude.{Bool, true, false, List, ℕ, ltb, length, Float, Result, Ok, Err}
 use Rattle.std.specs.Float.{binary32}
 use Rattle.std.specs.Float.Ieee.{of_bits}
 use Rattle.port_state.specs.Words.{floats_of, floats_into}
@@ -7,9 +7,11 @@ use Rattle.port_state.specs.Ports.{Ported}
 use Rattle.port_state.specs.State.{state_words, state_of}
 use Rattle.readings.specs.Scan.{reading_of}
 use Rattle.heights.specs.Gethp.{gethp_of, gethp_scan_of}
-use Rattle.parabolas.specs.Bendy.{bendy_answer, pen_answer, layer_number_of, layer_values_of}
+use Rattle.parabolas.specs.Bendy.{bendy_answer, pen_answer, layer_values_of}
 use Rattle.xlin.specs.Xlin.{xlin_found}
-use Rattle.parabolas.specs.declared.LayerNumber.{LayerNumber}
+use Rattle.layers.specs.declared.IonoState.{IonoState}
+use Rattle.refusal.specs.declared.Refusal.{Refusal}
+use Rattle.refusal.specs.Number.{answer_number}
 use Rattle.height_words.specs.Words.{heights_into, found_into, reading_into}
 
 -- is one slice too short, is the other
@@ -21,6 +23,15 @@ unless_either_short false false out a = a
 -- a state's words, and n words to write
 abbrev pub on_state : List ℕ → ℕ → List ℕ → Ported → Ported
 on_state state n out a = unless_either_short (ltb (length state) state_words) (ltb (length out) n) out a
+
+-- and the state that they are read as
+abbrev pub state_by : Bool → Bool → List ℕ → Result IonoState Refusal
+state_by true b state = Err Refusal.Length
+state_by false true state = Err Refusal.Length
+state_by false false state = Ok (state_of state)
+
+unfoldable pub state_with_room : List ℕ → List ℕ → ℕ → Result IonoState Refusal
+state_with_room state out n = state_by (ltb (length state) state_words) (ltb (length out) n) state
 
 unfoldable pub gethp_left : List ℕ → ℕ → List ℕ → Ported
 gethp_left state fxx out = on_state state 4 out (record { number = 0; words = heights_into (gethp_of (state_of state) (of_bits binary32 fxx)) out })
@@ -34,8 +45,8 @@ reading_left state zi out =
     on_state state 3 out (record { number = 0; words = reading_into (reading_of s.htr s.fnsq (of_bits binary32 zi)) out })
 
 -- the refusal's number, or 0 and the value's word
-abbrev pub layer_left : LayerNumber → List ℕ → Ported
-layer_left a out = record { number = layer_number_of a; words = floats_into out 0 (layer_values_of a) }
+abbrev pub layer_left : Result Float Refusal → List ℕ → Ported
+layer_left a out = record { number = answer_number a; words = floats_into out 0 (layer_values_of a) }
 
 unfoldable pub bendy_left : List ℕ → ℕ → ℕ → ℕ → List ℕ → Ported
 bendy_left state i k f out = on_state state 1 out (layer_left (bendy_answer (state_of state) i k (of_bits binary32 f)) out)

@@ -4,8 +4,8 @@ ghost use Rattle.ionogram_words.specs.Sang.{sang_words};
 ghost use Rattle.port_ionogram.specs.Exports.{rows_into, port_selmod, port_genion, port_fobby, port_alosfv, port_sheet};
 
 use port_state::STATE_WORDS;
-use reflectrix::IonogramAnswer;
-use refusal::Outcome;
+use reflectrix::Ionogram;
+use refusal::Refusal;
 
 // out: the angle count
 pub fn port_sang(gcdkm: u32, amind: u32, out: &mut [u32]) -> u32
@@ -30,18 +30,16 @@ pub fn port_selmod(state: &[u32], out: &mut [u32]) -> u32
     0
 }
 
-fn rows_into(a: IonogramAnswer, w: &mut [u32]) -> u32
+fn rows_into(a: Result<Ionogram, Refusal>, w: &mut [u32]) -> u32
     requires { 150 ≤ length w.old }
     ensures { (result ≡ (rows_into a w.old).number) × (w.new ≡ (rows_into a w.old).words) }
 {
-    let o = a.outcome;
-    match o {
-        Outcome::Answered => {
-            let ion = a.ion;
+    match a {
+        Ok(ion) => {
             port_layouts::ionogram_into(ion, w);
             0
         }
-        Outcome::Refused(r) => refusal::number(r),
+        Err(r) => u32::from(r),
     }
 }
 
@@ -89,7 +87,7 @@ pub fn port_fobby(ion: &[u32], nang: u32, cells: &mut [i32]) -> u32
     }
     let rows = port_layouts::ionogram_of(ion);
     let o = reflectrix::fobby(rows, port_state::wide(nang), cells);
-    refusal::outcome_number(o)
+    refusal::answer_number(&o)
 }
 
 // state STATE_WORDS words, layers 44; cells: thirty an angle; out 200: fvert, hprim, htrue, afac,
@@ -120,10 +118,9 @@ pub fn port_sheet(
     let lines = line_words::lines_of(layers);
     let slot = port_state::wide(k);
     let n = port_state::wide(nang);
-    let a = slot_sheet::slot_sheet(s, slot, n, lines, cells);
-    let o = a.outcome;
-    match o {
-        Outcome::Answered => {
+    let sheet = slot_sheet::slot_sheet(s, slot, n, lines, cells);
+    match sheet {
+        Ok(a) => {
             let t = a.state;
             let ion = a.ion;
             let marks = a.marks;
@@ -131,6 +128,6 @@ pub fn port_sheet(
             ionogram_words::marked_into(ion, marks, out);
             0
         }
-        Outcome::Refused(r) => refusal::number(r),
+        Err(r) => u32::from(r),
     }
 }

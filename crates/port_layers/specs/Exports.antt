@@ -1,24 +1,19 @@
 -- The calls on words: the number answered, 0 or the refusal's, and the words afterwards. Lengths are checked first; a refused call leaves every word.
-use Rattle.std.specs.Prelude.{Bool, true, false, ◌&&◌, List, ℕ, ◌/◌, ◌%◌, leb, eqb, length, set}
+use Rattle.std.specs.Prelude.{Bool, true, false, ◌&&◌, List, ℕ, ◌/◌, ◌%◌, leb, eqb, length, set, Result, Ok, Err}
 use Rattle.refusal.specs.declared.Refusal.{Refusal}
-use Rattle.refusal.specs.declared.Outcome.{Outcome}
 use Rattle.layers.specs.Owners.{owner_number, owner_slot, owner_of}
 use Rattle.slots.specs.FromLayers.{from_layers_of}
 use Rattle.slots.specs.Ionset.{ionset_of}
 use Rattle.layers.specs.declared.IonoState.{IonoState}
 use Rattle.layers.specs.declared.Owner.{Owner}
-use Rattle.layers.specs.declared.StateAnswer.{StateAnswer}
 use Rattle.profile.specs.Lecden.{lecden_answer}
 use Rattle.port_state.specs.Words.{count_word}
 use Rattle.port_state.specs.State.{state_words, state_of, state_into}
 use Rattle.port_state.specs.Ports.{Ported, refused_with, points_of}
 
-abbrev pub ported_state_by : Outcome → IonoState → List ℕ → Ported
-ported_state_by Outcome.Answered s w = record { number = 0; words = state_into s w }
-ported_state_by (Outcome.Refused r) s w = refused_with r w
-
-unfoldable pub ported_state_of : StateAnswer → List ℕ → Ported
-ported_state_of a w = ported_state_by a.outcome a.state w
+unfoldable pub ported_state_of : Result IonoState Refusal → List ℕ → Ported
+ported_state_of (Ok s) w = record { number = 0; words = state_into s w }
+ported_state_of (Err r) w = refused_with r w
 
 abbrev pub port_ionset_by : Bool → List ℕ → Ported
 port_ionset_by true w = ported_state_of (ionset_of (state_of w)) w

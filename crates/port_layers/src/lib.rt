@@ -6,23 +6,21 @@ ghost use Rattle.std.specs.Prelude.{◌≡◌, ◌≤◌, length};
 ghost use Rattle.port_layers.specs.Exports.{ported_state_of, port_ionset, port_lecden, port_from_layers, owner_pair, port_owner};
 ghost use Rattle.port_state.specs.State.{state_words};
 
-use layers::{Owner, StateAnswer, owners};
+use layers::{IonoState, Owner, owners};
 use port_state::{STATE_WORDS, count, points_of, state_into, state_of};
-use refusal::Outcome;
+use refusal::Refusal;
 
-fn answer_into(a: StateAnswer, w: &mut [u32]) -> u32
+fn answer_into(a: Result<IonoState, Refusal>, w: &mut [u32]) -> u32
     requires { state_words ≤ length w.old }
     ensures number { result ≡ (ported_state_of a w.old).number }
     ensures words { w.new ≡ (ported_state_of a w.old).words }
 {
-    let o = a.outcome;
-    match o {
-        Outcome::Answered => {
-            let s = a.state;
+    match a {
+        Ok(s) => {
             state_into(s, w);
             0
         }
-        Outcome::Refused(r) => refusal::number(r),
+        Err(r) => u32::from(r),
     }
 }
 
@@ -34,7 +32,7 @@ pub fn port_ionset(state: &mut [u32]) -> u32
         let a = slots::ionset(state_of(state));
         return answer_into(a, state);
     }
-    1
+    Refusal::Length as u32
 }
 
 pub fn port_lecden(state: &mut [u32], k: u32) -> u32
@@ -45,7 +43,7 @@ pub fn port_lecden(state: &mut [u32], k: u32) -> u32
         let a = profile::lecden(state_of(state), port_state::wide(k));
         return answer_into(a, state);
     }
-    1
+    Refusal::Length as u32
 }
 
 pub fn port_from_layers(points: &[u32], state: &mut [u32]) -> u32
@@ -61,16 +59,16 @@ pub fn port_from_layers(points: &[u32], state: &mut [u32]) -> u32
                 return answer_into(a, state);
             }
         }
-        return 5;
+        return Refusal::PointCount as u32;
     }
-    1
+    Refusal::Length as u32
 }
 
 fn owner_pair(o: Owner, out: &mut [u32])
     requires { 2 ≤ length out.old }
     ensures { out.new ≡ owner_pair o out.old }
 {
-    out[0] = owners::number(o);
+    out[0] = u32::from(o);
     out[1] = count(owners::slot(o));
 }
 
@@ -86,5 +84,5 @@ pub fn port_owner(state: &[u32], out: &mut [u32]) -> u32
             return 0;
         }
     }
-    1
+    Refusal::Length as u32
 }

@@ -4,7 +4,7 @@ use Rattle.port_circuit.specs.Words.{words_from, words_into}
 use Rattle.port_state.specs.Words.{floats_of, floats_into}
 use Rattle.reflectrix.specs.declared.Ionogram.{Ionogram}
 use Rattle.shapes.specs.Mark.{mark_number_of}
-use Rattle.shapes.specs.declared.HeightMark.{HeightMark}
+use Rattle.shapes.specs.declared.Mark.{Mark}
 
 -- 150 words: fvert, hprim, htrue, afac, segment
 unfoldable pub ionogram_of : List ℕ → Ionogram
@@ -14,9 +14,6 @@ ionogram_of w = record { fvert = floats_of w 0 30; hprim = floats_of w 30 30; ht
 unfoldable pub ionogram_into : Ionogram → List ℕ → List ℕ
 ionogram_into ion w = words_into (floats_into (floats_into (floats_into (floats_into w 0 ion.fvert) 30 ion.hprim) 60 ion.htrue) 90 ion.afac) 120 ion.segment
 
-abbrev pub mark_number : HeightMark → ℕ
-mark_number h = mark_number_of h.mark
-
 -- the numbers of the marks, from word `from` on
-unfoldable pub marks_into : List HeightMark → List ℕ → ℕ → List ℕ
-marks_into marks w from = words_into w from (map mark_number marks)
+unfoldable pub marks_into : List Mark → List ℕ → ℕ → List ℕ
+marks_into marks w from = words_into w from (map mark_number_of marks)

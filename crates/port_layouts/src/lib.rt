@@ -4,10 +4,11 @@
 ghost use Rattle.std.specs.Prelude.{◌≡◌, map, ◌+◌, ◌≤◌, length};
 ghost use Rattle.port_circuit.specs.Words.{words_from, words_into};
 ghost use Rattle.port_state.specs.Words.{floats_of, floats_into};
-ghost use Rattle.port_layouts.specs.Layouts.{ionogram_of, ionogram_into, mark_number, marks_into};
+ghost use Rattle.shapes.specs.Mark.{mark_number_of};
+ghost use Rattle.port_layouts.specs.Layouts.{ionogram_of, ionogram_into, marks_into};
 
 use reflectrix::Ionogram;
-use shapes::HeightMark;
+use shapes::Mark;
 
 fn floats_30(w: &[u32], from: usize) -> [f32; 30]
     requires { from + 30 ≤ length w.now }
@@ -82,21 +83,19 @@ fn words_50_into(x: [u32; 50], w: &mut [u32], from: usize)
     port_circuit::words_into(&x, w, from);
 }
 
-fn mark_numbers(marks: [HeightMark; 50]) -> [u32; 50]
-    ensures { result ≡ map mark_number marks }
+fn mark_numbers(marks: [Mark; 50]) -> [u32; 50]
+    ensures { result ≡ map mark_number_of marks }
 {
     let mut n = [0u32; 50];
     for i in 0..50 {
-        let h = marks[i];
-        let m = h.mark;
-        let v = shapes::number(m);
+        let v = u32::from(marks[i]);
         n[i] = v;
     }
     n
 }
 
 // The numbers of the marks, from word `from` on.
-pub fn marks_into(marks: [HeightMark; 50], w: &mut [u32], from: usize)
+pub fn marks_into(marks: [Mark; 50], w: &mut [u32], from: usize)
     requires { from + 50 ≤ length w.old }
     ensures { w.new ≡ marks_into marks w.old from }
 {

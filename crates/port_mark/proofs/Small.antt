@@ -3,7 +3,8 @@ use Prim.Native.Nat.{ℕ}
 use mathlib.Core.Path.{◌≡◌, refl}
 use mathlib.Core.List.{List}
 use native.Mathlib.Omega.{arith}
-use Rattle.marking_answer.specs.declared.Marking.{Marking}
+use Rattle.std.specs.Prelude.{Option, None, Some, Result, Ok, Err}
+use Rattle.refusal.specs.declared.Refusal.{Refusal}
 use Rattle.marking.specs.Marked.{marked_of}
 use Rattle.marking.proofs.Laws.{marking-laws}
 use Rattle.marking_words.specs.Words.{SmallLine}
@@ -11,7 +12,7 @@ use Rattle.marking_words.specs.Words.{SmallLine}
 pub small : (input : List ℕ) → SmallLine (marked_of input)
 small input = by (marked_of input) refl
   where
-    by : (m : Marking) → marked_of input ≡ m → SmallLine m
-    by Marking.Same e = tt
-    by (Marking.Differs n) e = omega (arith, marking-laws.most input n e)
-    by (Marking.Refused r) e = tt
+    by : (m : Result (Option ℕ) Refusal) → marked_of input ≡ m → SmallLine m
+    by (Ok None) e = tt
+    by (Ok (Some n)) e = omega (arith, marking-laws.most input n e)
+    by (Err r) e = tt

@@ -1,6 +1,6 @@
 -- What the export answers, and the words that it leaves. Room for no word is refused with 1, before all else.
 use Rattle.std.specs.Prelude.{cond, List, ℕ, ltb, length}
-use Rattle.marking_answer.specs.Answer.{marking_number}
+use Rattle.refusal.specs.Number.{answer_number}
 use Rattle.marking_words.specs.Words.{marking_into}
 use Rattle.marking.specs.Marked.{marked_of}
 
@@ -11,4 +11,4 @@ pub record Ported : Type 0 where
 unfoldable pub mark_left : List ℕ → List ℕ → Ported
 mark_left input out =
     cond (ltb (length out) 1) (record { number = 1; words = out })
-    (record { number = marking_number (marked_of input); words = marking_into (marked_of input) out })
+    (record { number = answer_number (marked_of input); words = marking_into (marked_of input) out })

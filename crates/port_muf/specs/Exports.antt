@@ -1,8 +1,7 @@
 -- What the circuit MUF on words answers, and the words that it leaves. A slice that is shorter than its layout is refused with 1, before all else, and then nothing is written.
-use Rattle.std.specs.Prelude.{Bool, true, false, List, ℕ, ltb, length, Float}
+use Rattle.std.specs.Prelude.{Bool, true, false, List, ℕ, ltb, length, Float, Result, Ok, Err}
 use Rattle.refusal.specs.Number.{number_of}
 use Rattle.refusal.specs.declared.Refusal.{Refusal}
-use Rattle.refusal.specs.declared.Outcome.{Outcome}
 use Rattle.layer_mufs.specs.declared.PathNumbers.{PathNumbers}
 use Rattle.muf.specs.Curmuf.{flat_of}
 use Rattle.muf.specs.declared.AnswerAndRow.{AnswerAndRow}
@@ -24,13 +23,9 @@ leaves number state es out = record { number = number; state = state; es = es; o
 abbrev pub path_numbers_of : List ℕ → PathNumbers
 path_numbers_of w = record { gcd = number w 0; gcdkm = number w 1; amind = number w 2; ssn = number w 3 }
 
-abbrev pub done_left_by : Outcome → AnswerAndRow → List ℕ → List ℕ → List ℕ → HourLeft
-done_left_by Outcome.Answered d state es out =
-    leaves 0 (state_into d.answer.state state) (words_by d.rewrites es d.ksx d.lower) (hour_into d.answer.hour out)
-done_left_by (Outcome.Refused r) d state es out = leaves (number_of r) state es out
-
-unfoldable pub done_left : AnswerAndRow → List ℕ → List ℕ → List ℕ → HourLeft
-done_left d state es out = done_left_by d.answer.outcome d state es out
+unfoldable pub done_left : Result AnswerAndRow Refusal → List ℕ → List ℕ → List ℕ → HourLeft
+done_left (Ok d) state es out = leaves 0 (state_into d.answer.state state) (words_by d.rewrite es) (hour_into d.answer.hour out)
+done_left (Err r) state es out = leaves (number_of r) state es out
 
 -- too few words of the state, too few numbers, no room for the hour
 abbrev pub curmuf_by : Bool → Bool → Bool → HourLeft → HourLeft → HourLeft

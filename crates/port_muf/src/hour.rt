@@ -1,7 +1,8 @@
 // The circuit MUF on words. Es rows may be any number: each is read when its turn comes.
-ghost use Rattle.std.specs.Prelude.{◌≡◌, true, ◌+◌, ◌*◌, ◌<◌, ◌≤◌, length};
+ghost use Rattle.std.specs.Prelude.{◌≡◌, ◌+◌, ◌*◌, ◌<◌, ◌≤◌, length};
 ghost use Rattle.sporadic.specs.Sporadic.{row_at, es_from, start_of};
-ghost use Rattle.muf.specs.Curmuf.{flat_of};
+ghost use Rattle.muf.specs.Curmuf.{rewrite_by, flat_of};
+ghost use Rattle.hour_words.specs.HourWords.{WordThere};
 ghost use Rattle.deviation_words.specs.Floats.{floats};
 ghost use Rattle.port_muf.specs.Exports.{leaves, path_numbers_of, done_left, curmuf_left};
 ghost use Rattle.port_state.specs.State.{state_words};
@@ -10,8 +11,8 @@ use layer_mufs::PathNumbers;
 use layers::IonoState;
 use muf::AnswerAndRow;
 use port_state::STATE_WORDS;
-use refusal::{Outcome, Refusal};
-use sporadic::{EsRow, EsStep};
+use refusal::Refusal;
+use sporadic::{EsRow, EsSearch};
 
 fn word_row(es: &[u32], k: usize) -> EsRow
     requires { 4 * k + 3 < length es.now }
@@ -29,24 +30,15 @@ fn word_row(es: &[u32], k: usize) -> EsRow
 }
 
 // The first n rows, in order.
-fn word_rows(es: &[u32], n: usize, c: PathNumbers) -> EsStep
+fn word_rows(es: &[u32], n: usize, c: PathNumbers) -> Result<EsSearch, Refusal>
     requires { 4 * n ≤ length es.now }
     ensures { result ≡ es_from (row_at (floats es.now)) c n 0 start_of }
 {
     let mut a = sporadic::es_start();
     for k in 0..n {
-        let row = word_row(es, k);
-        let step = sporadic::es_row(a, k, row, c);
-        match step {
-            EsStep::Refused(r) => {
-                return EsStep::Refused(r);
-            }
-            EsStep::Next(b) => {
-                a = b;
-            }
-        }
+        a = sporadic::es_row(a, k, word_row(es, k), c)?;
     }
-    EsStep::Next(a)
+    Ok(a)
 }
 
 // The whole call but for what it writes.
@@ -57,21 +49,21 @@ fn called(
     clat: &[u32],
     clck: &[u32],
     c: PathNumbers,
-) -> AnswerAndRow
+) -> Result<AnswerAndRow, Refusal>
     ensures { result ≡ flat_of s (floats es.now) deciles.now (floats clat.now) (floats clck.now) c }
 {
-    if muf_domain::in_domain(c) {
-        let ks = controlling_slot::controlling(s);
-        if muf_domain::lists_reach(ks, deciles.len(), clat.len(), clck.len()) {
-            let lat = scalar::number(clat[ks]);
-            let clock = scalar::number(clck[ks]);
-            let n = muf_domain::row_count(es.len(), s.km);
-            let step = word_rows(es, n, c);
-            return muf::muf_at_slot(s, ks, step, deciles, lat, clock, c);
-        }
-        return muf::refused_rows_kept(s, Refusal::MufLists);
+    if !muf_domain::in_domain(c) {
+        return Err(Refusal::MufInput);
     }
-    muf::refused_rows_kept(s, Refusal::MufInput)
+    let ks = controlling_slot::controlling(s);
+    if !muf_domain::lists_reach(ks, deciles.len(), clat.len(), clck.len()) {
+        return Err(Refusal::MufLists);
+    }
+    let lat = scalar::number(clat[ks]);
+    let clock = scalar::number(clck[ks]);
+    let n = muf_domain::row_count(es.len(), s.km);
+    let step = word_rows(es, n, c);
+    muf::muf_at_slot(s, ks, step, deciles, lat, clock, c)
 }
 
 fn path_numbers_of(numbers: &[u32]) -> PathNumbers
@@ -90,22 +82,24 @@ fn path_numbers_of(numbers: &[u32]) -> PathNumbers
     }
 }
 
-fn done_into(d: AnswerAndRow, state: &mut [u32], es: &mut [u32], out: &mut [u32]) -> u32
-    requires { (state_words ≤ length state.old) × (54 ≤ length out.old) × (d.rewrites ≡ true → 4 * d.ksx < length es.old) }
+fn done_into(
+    d: Result<AnswerAndRow, Refusal>,
+    state: &mut [u32],
+    es: &mut [u32],
+    out: &mut [u32],
+) -> u32
+    requires { (state_words ≤ length state.old) × (54 ≤ length out.old) × WordThere (rewrite_by d) (length es.old) }
     ensures { leaves result state.new es.new out.new ≡ done_left d state.old es.old out.old }
 {
-    let a = d.answer;
-    let o = a.outcome;
-    match o {
-        Outcome::Refused(r) => refusal::number(r),
-        Outcome::Answered => {
-            let s = a.state;
-            let h = a.hour;
-            port_state::state_into(s, state);
-            hour_words::es_into(d.rewrites, d.ksx, d.lower, es);
-            hour_words::hour_into(h, out);
+    match d {
+        Ok(d) => {
+            let a = d.answer;
+            port_state::state_into(a.state, state);
+            hour_words::es_into(d.rewrite, es);
+            hour_words::hour_into(a.hour, out);
             0
         }
+        Err(r) => u32::from(r),
     }
 }
 

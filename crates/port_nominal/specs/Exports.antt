@@ -1,16 +1,14 @@
 -- What the export answers, and the words that it leaves. A slice that is shorter than its layout is refused with 1, before all
 -- else; nothing is written where a call is refused.
-use Rattle.std.specs.Prelude.{Bool, cond, ◌&&◌, List, [], ◌∷◌, ℕ, zero, suc, ◌+◌, ◌*◌, ◌/◌, ◌%◌, leb, eqb, length, replicate, set, Float}
+use Rattle.std.specs.Prelude.{Bool, cond, ◌&&◌, List, [], ◌∷◌, ℕ, zero, suc, ◌+◌, ◌*◌, ◌/◌, ◌%◌, leb, eqb, length, replicate, set, Float, Result, Ok, Err}
 use Rattle.scalar.specs.Literals.{f0}
 use Rattle.refusal.specs.declared.Refusal.{Refusal}
-use Rattle.refusal.specs.declared.Outcome.{Outcome}
 use Rattle.layers.specs.declared.EsParams.{EsParams}
 use Rattle.muf.specs.declared.MufHour.{MufHour}
 use Rattle.port_state.specs.Ports.{Ported, refused_with, points_of}
 use Rattle.deviation_words.specs.Floats.{number, floats}
 use Rattle.hour_words.specs.HourWords.{hour_into}
 use Rattle.nominal.specs.Nommuf.{nommuf_of}
-use Rattle.nominal.specs.declared.NominalAnswer.{NominalAnswer}
 
 -- Es row k: four words, fs, hs
 unfoldable pub word_row : List ℕ → ℕ → EsParams
@@ -29,15 +27,12 @@ unfoldable pub five_of : List ℕ → ℕ → List Float
 five_of f2m3 zero = replicate 5 f0
 five_of f2m3 (suc n) = set (five_of f2m3 n) n (number f2m3 n)
 
-abbrev pub nominal_by : Outcome → MufHour → List ℕ → Ported
-nominal_by Outcome.Answered hour out = record { number = 0; words = hour_into hour out }
-nominal_by (Outcome.Refused r) hour out = refused_with r out
-
-unfoldable pub nominal_into : NominalAnswer → List ℕ → Ported
-nominal_into a out = nominal_by a.outcome a.hour out
+unfoldable pub nominal_into : Result MufHour Refusal → List ℕ → Ported
+nominal_into (Ok hour) out = record { number = 0; words = hour_into hour out }
+nominal_into (Err r) out = refused_with r out
 
 -- n points and rows, and every F2M3 there is
-unfoldable pub nominal_words : List ℕ → List ℕ → List ℕ → List ℕ → ℕ → NominalAnswer
+unfoldable pub nominal_words : List ℕ → List ℕ → List ℕ → List ℕ → ℕ → Result MufHour Refusal
 nominal_words points f2m3 es numbers n = nommuf_of (points_of points n) (floats f2m3) (word_rows es n) n (number numbers 0) (number numbers 1)
 
 -- the room for the hour, the two numbers, and four words of Es for each point; the lists by their lengths

@@ -7,8 +7,8 @@ ghost use Rattle.nominal.specs.Nommuf.{nommuf_of};
 ghost use Rattle.port_nominal.specs.Exports.{word_row, zero_row, word_rows, five_of, nominal_into, nominal_words, words_reach, five_at_most, nominal_left};
 
 use layers::{EsParams, LayerParams};
-use nominal::NominalAnswer;
-use refusal::Outcome;
+use muf::MufHour;
+use refusal::Refusal;
 
 fn word_row(es: &[u32], k: usize) -> EsParams
     requires { 4 * k + 4 ≤ length es.now }
@@ -68,7 +68,7 @@ fn asked(
     n: usize,
     gcd: f32,
     gcdkm: f32,
-) -> NominalAnswer
+) -> Result<MufHour, Refusal>
     requires { m ≤ length x.now }
     ensures { result ≡ nommuf_of p (take m x.now) rows n gcd gcdkm }
 {
@@ -76,7 +76,7 @@ fn asked(
 }
 
 // The whole call but for what it writes.
-fn called(points: &[u32], f2m3: &[u32], es: &[u32], numbers: &[u32]) -> NominalAnswer
+fn called(points: &[u32], f2m3: &[u32], es: &[u32], numbers: &[u32]) -> Result<MufHour, Refusal>
     requires { (length points.now ≤ 45) × (length f2m3.now ≤ 5) × (2 ≤ length numbers.now) × (4 * (length points.now / 9) ≤ length es.now) }
     ensures { result ≡ nominal_words points.now f2m3.now es.now numbers.now (length points.now / 9) }
 {
@@ -90,18 +90,16 @@ fn called(points: &[u32], f2m3: &[u32], es: &[u32], numbers: &[u32]) -> NominalA
     asked(p, &x, m, rows, n, gcd, gcdkm)
 }
 
-fn answer_into(a: NominalAnswer, out: &mut [u32]) -> u32
+fn answer_into(a: Result<MufHour, Refusal>, out: &mut [u32]) -> u32
     requires { 54 ≤ length out.old }
     ensures { (result ≡ (nominal_into a out.old).number) × (out.new ≡ (nominal_into a out.old).words) }
 {
-    let o = a.outcome;
-    match o {
-        Outcome::Refused(r) => refusal::number(r),
-        Outcome::Answered => {
-            let hour = a.hour;
+    match a {
+        Ok(hour) => {
             hour_words::hour_into(hour, out);
             0
         }
+        Err(r) => u32::from(r),
     }
 }
 

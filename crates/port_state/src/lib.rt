@@ -24,29 +24,11 @@ pub fn floats_of(w: &[u32], from: usize, x: &mut [f32])
     }
 }
 
-fn floats_3(w: &[u32], from: usize) -> [f32; 3]
-    requires { from + 3 ≤ length w.now }
-    ensures { result ≡ floats_of w.now from 3 }
+pub fn floats<const N: usize>(w: &[u32], from: usize) -> [f32; N]
+    requires { from + N ≤ length w.now }
+    ensures { result ≡ floats_of w.now from N }
 {
-    let mut x = [0.0; 3];
-    floats_of(w, from, &mut x);
-    x
-}
-
-fn floats_15(w: &[u32], from: usize) -> [f32; 15]
-    requires { from + 15 ≤ length w.now }
-    ensures { result ≡ floats_of w.now from 15 }
-{
-    let mut x = [0.0; 15];
-    floats_of(w, from, &mut x);
-    x
-}
-
-pub fn floats_50(w: &[u32], from: usize) -> [f32; 50]
-    requires { from + 50 ≤ length w.now }
-    ensures { result ≡ floats_of w.now from 50 }
-{
-    let mut x = [0.0; 50];
+    let mut x = [0.0; N];
     floats_of(w, from, &mut x);
     x
 }
@@ -61,27 +43,6 @@ pub fn floats_into(x: &[f32], w: &mut [u32], from: usize)
         let v = scalar::bits(x[i]);
         w[j] = v;
     }
-}
-
-fn floats_3_into(x: [f32; 3], w: &mut [u32], from: usize)
-    requires { from + 3 ≤ length w.old }
-    ensures { w.new ≡ floats_into w.old from x }
-{
-    floats_into(&x, w, from);
-}
-
-fn floats_15_into(x: [f32; 15], w: &mut [u32], from: usize)
-    requires { from + 15 ≤ length w.old }
-    ensures { w.new ≡ floats_into w.old from x }
-{
-    floats_into(&x, w, from);
-}
-
-fn floats_50_into(x: [f32; 50], w: &mut [u32], from: usize)
-    requires { from + 50 ≤ length w.old }
-    ensures { w.new ≡ floats_into w.old from x }
-{
-    floats_into(&x, w, from);
 }
 
 pub fn signed(w: u32) -> i32
@@ -108,13 +69,11 @@ pub fn yes(w: u32) -> bool
     w != 0
 }
 
+#[tactic(auto, unfolding(crate::specs::Words::flag_of))]
 pub fn flag(b: bool) -> u32
     ensures { result ≡ flag_of b }
 {
-    if b {
-        return 1;
-    }
-    0
+    u32::from(b)
 }
 
 // A word fits a usize.
@@ -125,18 +84,15 @@ pub fn wide(w: u32) -> usize
 }
 
 // A word that is no owner counts as none.
+#[tactic(auto, unfolding(crate::specs::Owners::owner_of_word))]
 fn owner_of_word(w: u32) -> Owner
     ensures { result ≡ owner_of_word w }
 {
-    if w == 4 {
-        return Owner::Supplied;
+    match w {
+        4 => Owner::Supplied,
+        1..=3 => Owner::Slot(wide(w - 1)),
+        _ => Owner::None,
     }
-    if 1 <= w {
-        if w <= 3 {
-            return Owner::Slot(wide(w - 1));
-        }
-    }
-    Owner::None
 }
 
 fn slot_word(k: usize) -> u32
@@ -163,21 +119,15 @@ pub fn state_of(w: &[u32]) -> IonoState
     ensures { result ≡ state_of w.now }
 {
     let mut s = layers::zero_state();
-    let fi = floats_15(w, 0);
-    let yi = floats_15(w, 15);
-    let hi = floats_15(w, 30);
-    let htr = floats_50(w, 47);
-    let fnsq = floats_50(w, 97);
-    let fsecv = floats_3(w, 148);
-    s.fi = fi;
-    s.yi = yi;
-    s.hi = hi;
+    s.fi = floats(w, 0);
+    s.yi = floats(w, 15);
+    s.hi = floats(w, 30);
     s.km = wide(w[45]);
     s.kfx = wide(w[46]);
-    s.htr = htr;
-    s.fnsq = fnsq;
+    s.htr = floats(w, 47);
+    s.fnsq = floats(w, 97);
     s.htr_rises = yes(w[147]);
-    s.fsecv = fsecv;
+    s.fsecv = floats(w, 148);
     s.iedp = signed(w[151]);
     s.ielect = yes(w[152]);
     s.exact_virtual_height = yes(w[154]);
@@ -194,24 +144,18 @@ fn tables_into(s: IonoState, w: &mut [u32])
     requires { state_words ≤ length w.old }
     ensures { w.new ≡ tables_into s w.old }
 {
-    let fi = s.fi;
-    let yi = s.yi;
-    let hi = s.hi;
-    floats_15_into(fi, w, 0);
-    floats_15_into(yi, w, 15);
-    floats_15_into(hi, w, 30);
+    floats_into(&s.fi, w, 0);
+    floats_into(&s.yi, w, 15);
+    floats_into(&s.hi, w, 30);
 }
 
 fn profile_into(s: IonoState, w: &mut [u32])
     requires { state_words ≤ length w.old }
     ensures { w.new ≡ profile_into s w.old }
 {
-    let htr = s.htr;
-    let fnsq = s.fnsq;
-    let fsecv = s.fsecv;
-    floats_50_into(htr, w, 47);
-    floats_50_into(fnsq, w, 97);
-    floats_3_into(fsecv, w, 148);
+    floats_into(&s.htr, w, 47);
+    floats_into(&s.fnsq, w, 97);
+    floats_into(&s.fsecv, w, 148);
 }
 
 fn counts_into(s: IonoState, w: &mut [u32])
@@ -264,10 +208,11 @@ fn point_of(points: &[u32], k: usize) -> LayerParams
     ensures { result ≡ point_of points.now k }
 {
     let at = 9 * k;
-    let fi = floats_3(points, at);
-    let yi = floats_3(points, at + 3);
-    let hi = floats_3(points, at + 6);
-    LayerParams { fi, yi, hi }
+    LayerParams {
+        fi: floats(points, at),
+        yi: floats(points, at + 3),
+        hi: floats(points, at + 6),
+    }
 }
 
 fn zero_point() -> LayerParams

@@ -2,21 +2,21 @@
 #![tactic(auto)]
 
 ghost use Rattle.std.specs.Prelude.{◌≡◌, ◌≤◌, length};
-ghost use Rattle.tariff.specs.Price.{charge_number};
+ghost use Rattle.refusal.specs.Number.{answer_number};
 ghost use Rattle.port_tariff.specs.Exports.{charge_into, price_left};
 
-use tariff::Charge;
+use refusal::Refusal;
 
-fn charge_into(a: Charge, out: &mut [u32]) -> u32
+fn charge_into(a: Result<u32, Refusal>, out: &mut [u32]) -> u32
     requires { 1 ≤ length out.old }
-    ensures { (result ≡ charge_number a) × (out.new ≡ charge_into a out.old) }
+    ensures { (result ≡ answer_number a) × (out.new ≡ charge_into a out.old) }
 {
     match a {
-        Charge::Cents(n) => {
+        Ok(n) => {
             out[0] = n;
             0
         }
-        Charge::Refused(r) => refusal::number(r),
+        Err(r) => u32::from(r),
     }
 }
 
@@ -25,9 +25,10 @@ pub fn port_price(muf: u32, tops: &[u32], rates: &[u32], seconds: u32, out: &mut
     ensures { (result ≡ (price_left muf tops.now rates.now seconds out.old).number) × (out.new ≡ (price_left muf tops.now rates.now seconds out.old).words) }
 {
     if out.len() < 1 {
-        return 1;
+        return u32::from(Refusal::Length);
     }
-    let v = scalar::number(muf);
-    let a = tariff::price(v, tops, rates, seconds);
-    charge_into(a, out)
+    charge_into(
+        tariff::price(scalar::number(muf), tops, rates, seconds),
+        out,
+    )
 }

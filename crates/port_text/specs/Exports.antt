@@ -8,4 +8,4 @@ unfoldable pub sheet_left : List ℕ → List ℕ → List ℕ → PortedText
 sheet_left file out words =
     cond (ltb (length out) 8192) (refused_lent 1 out words)
     (cond (ltb (length words) 1) (refused_lent 1 out words)
-    (left_by (sheet_of file).outcome (sheet_text file) out words))
+    (left_by (sheet_of file) (sheet_text file) out words))

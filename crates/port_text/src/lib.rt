@@ -4,19 +4,21 @@
 ghost use Rattle.std.specs.Prelude.{◌≡◌};
 ghost use Rattle.port_text.specs.Exports.{sheet_left};
 
+use refusal::Refusal;
+
 // file: a circuit file; out: room for 8,192 bytes, into which the text is put; length: a word for the text's length
 pub fn port_sheet_text(file: &[u8], out: &mut [u8], length: &mut [u32]) -> u32
     ensures { (result ≡ (sheet_left file.now out.old length.old).number) × ((out.new ≡ (sheet_left file.now out.old length.old).bytes) × (length.new ≡ (sheet_left file.now out.old length.old).words)) }
 {
     if out.len() < sheet_text::ROOM {
-        return 1;
+        return u32::from(Refusal::Length);
     }
     if length.len() < 1 {
-        return 1;
+        return u32::from(Refusal::Length);
     }
     let mut text = [0u8; sheet_text::ROOM];
-    let a = sheet_text::answer(file, &mut text);
-    let n = a.length;
-    let outcome = a.outcome;
-    lent_text::text_into(outcome, &text[..n], out, length)
+    match sheet_text::answer(file, &mut text) {
+        Ok(n) => lent_text::text_into(Ok(&text[..n]), out, length),
+        Err(r) => lent_text::text_into(Err(r), out, length),
+    }
 }

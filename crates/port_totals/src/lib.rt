@@ -2,42 +2,37 @@
 #![tactic(auto)]
 
 ghost use Rattle.std.specs.Prelude.{◌≡◌, ◌≤◌, length};
-ghost use Rattle.totals.specs.Total.{total_number};
+ghost use Rattle.refusal.specs.Number.{answer_number};
 ghost use Rattle.port_totals.specs.Exports.{total_into, total_left};
 
-use totals::Total;
+use refusal::Refusal;
 
-fn total_into(t: Total, out: &mut [u32]) -> u32
+fn total_into(t: Result<u32, Refusal>, out: &mut [u32]) -> u32
     requires { 1 ≤ length out.old }
-    ensures { (result ≡ total_number t) × (out.new ≡ total_into t out.old) }
+    ensures { (result ≡ answer_number t) × (out.new ≡ total_into t out.old) }
 {
     match t {
-        Total::Cents(n) => {
+        Ok(n) => {
             out[0] = n;
             0
         }
-        Total::Refused(r) => refusal::number(r),
+        Err(r) => u32::from(r),
     }
 }
 
-// out: the cents; from the first price to the last
+// out: the cents
 pub fn port_total(prices: &[u32], out: &mut [u32]) -> u32
     ensures { (result ≡ (total_left prices.now out.old).number) × (out.new ≡ (total_left prices.now out.old).words) }
 {
     if out.len() < 1 {
-        return 1;
+        return u32::from(Refusal::Length);
     }
-    let t = totals::from_first(prices);
-    total_into(t, out)
+    total_into(totals::total(prices), out)
 }
 
-// the same, from the last price to the first
+// the same, of prices that begin with the latest call: their order does not matter
 pub fn port_total_last(prices: &[u32], out: &mut [u32]) -> u32
     ensures { (result ≡ (total_left prices.now out.old).number) × (out.new ≡ (total_left prices.now out.old).words) }
 {
-    if out.len() < 1 {
-        return 1;
-    }
-    let t = totals::from_last(prices);
-    total_into(t, out)
+    port_total(prices, out)
 }

@@ -1,14 +1,12 @@
 -- What each export answers, 0 or the refusal's number, and the lists lent, afterwards. A list that is shorter than its layout
 -- is refused with 1, before all else; a refused call leaves everything.
-use Rattle.std.specs.Prelude.{Bool, true, false, ◌||◌, List, ◌++◌, ℕ, ltb, eqb, ℤ, length, set, drop}
-use Rattle.refusal.specs.Number.{number_of}
+use Rattle.std.specs.Prelude.{Bool, true, false, ◌||◌, List, ◌++◌, ℕ, ltb, eqb, ℤ, Result, Ok, Err, length, set, drop}
+use Rattle.refusal.specs.Number.{number_of, answer_number}
 use Rattle.refusal.specs.declared.Refusal.{Refusal}
-use Rattle.refusal.specs.declared.Outcome.{Outcome}
 use Rattle.port_state.specs.Words.{floats_of}
-use Rattle.traces.specs.Lines.{Compared, compared_of, comparison_number, count_in}
+use Rattle.traces.specs.Lines.{Compared, compared_of, count_in}
 use Rattle.computed_trace.specs.Computed.{trace_of}
-use Rattle.traces.specs.declared.Comparison.{Comparison}
-use Rattle.computed_trace.specs.declared.TraceAnswer.{TraceAnswer}
+use Rattle.computed_trace.specs.declared.ComputedTrace.{ComputedTrace}
 
 -- has the list fewer words than its layout
 abbrev pub short : List ℕ → ℕ → Bool
@@ -28,13 +26,13 @@ abbrev pub count_by : Bool → ℕ → List ℕ → List ℕ
 count_by true n out = set out 0 n
 count_by false n out = out
 
-abbrev pub count_into : Comparison → List ℕ → List ℕ
-count_into c out = count_by (eqb (comparison_number c) 0) (count_in c) out
+abbrev pub count_into : Result ℕ Refusal → List ℕ → List ℕ
+count_into c out = count_by (eqb (answer_number c) 0) (count_in c) out
 
 abbrev pub lines_into : Compared → List ℕ → PortedLines
 lines_into c out =
     record {
-      number = comparison_number c.answer;
+      number = answer_number c.answer;
       khz = c.khz;
       which = c.which;
       difference = c.difference;
@@ -64,14 +62,11 @@ refused_trace r khz height = record { number = number_of r; khz = khz; height = 
 abbrev pub words_at_start : List ℕ → List ℕ → List ℕ
 words_at_start x w = x ++ drop (length x) w
 
-abbrev pub trace_into_by : Outcome → List ℕ → List ℕ → List ℕ → List ℕ → PortedTrace
-trace_into_by Outcome.Answered k h khz height = record { number = 0; khz = words_at_start k khz; height = words_at_start h height }
-trace_into_by (Outcome.Refused r) k h khz height = refused_trace r khz height
+abbrev pub trace_into : Result ComputedTrace Refusal → List ℕ → List ℕ → PortedTrace
+trace_into (Ok t) khz height = record { number = 0; khz = words_at_start t.khz khz; height = words_at_start t.height height }
+trace_into (Err r) khz height = refused_trace r khz height
 
-unfoldable pub trace_into : TraceAnswer → List ℕ → List ℕ → PortedTrace
-trace_into t khz height = trace_into_by t.outcome t.khz t.height khz height
-
-abbrev pub trace_unless : Bool → TraceAnswer → List ℕ → List ℕ → PortedTrace
+abbrev pub trace_unless : Bool → Result ComputedTrace Refusal → List ℕ → List ℕ → PortedTrace
 trace_unless true t khz height = refused_trace Refusal.Length khz height
 trace_unless false t khz height = trace_into t khz height
 

@@ -4,24 +4,24 @@
 
 ghost use Rattle.std.specs.Prelude.{◌≡◌, ◌+◌, ◌≤◌, length};
 ghost use Rattle.port_state.specs.Words.{floats_of};
-ghost use Rattle.traces.specs.Lines.{comparison_number, count_in};
+ghost use Rattle.refusal.specs.Number.{answer_number};
+ghost use Rattle.traces.specs.Lines.{count_in};
 ghost use Rattle.port_traces.specs.Exports.{count_into, port_compare, words_at_start, trace_into, port_trace};
 
-use computed_trace::TraceAnswer;
-use refusal::Outcome;
-use traces::Comparison;
+use computed_trace::ComputedTrace;
+use refusal::Refusal;
 
-fn count_into(c: Comparison, out: &mut [u32]) -> u32
+fn count_into(c: Result<usize, Refusal>, out: &mut [u32]) -> u32
     requires { (1 ≤ length out.old) × (count_in c ≤ 1024) }
-    ensures { (result ≡ comparison_number c) × (out.new ≡ count_into c out.old) }
+    ensures { (result ≡ answer_number c) × (out.new ≡ count_into c out.old) }
 {
-    let number = traces::number(c);
-    if number == 0 {
-        let n = traces::count(c);
-        out[0] = n as u32;
-        return number;
+    match c {
+        Ok(n) => {
+            out[0] = n as u32;
+            0
+        }
+        Err(r) => u32::from(r),
     }
-    number
 }
 
 // The kHz and heights of the first trace, a and ah, and of the second, b and bh; the lines into three lists; out: their count.
@@ -42,10 +42,9 @@ pub fn port_compare(
     ensures out_after { out.new ≡ (port_compare a.now ah.now b.now bh.now khz.old which.old difference.old out.old).out }
 {
     if out.len() < 1 {
-        return 1;
+        return u32::from(Refusal::Length);
     }
-    let c = traces::compare(a, ah, b, bh, khz, which, difference);
-    count_into(c, out)
+    count_into(traces::compare(a, ah, b, bh, khz, which, difference), out)
 }
 
 fn floats_30(w: &[u32], from: usize) -> [f32; 30]
@@ -61,37 +60,22 @@ fn words_into(x: &[u32], w: &mut [u32])
     requires { length x.now ≤ length w.old }
     ensures { w.new ≡ words_at_start x.now w.old }
 {
-    let mut i: usize = 0;
-    while i < x.len() {
-        let v = x[i];
-        w[i] = v;
-        i += 1;
-    }
+    w[..x.len()].copy_from_slice(x);
 }
 
-fn words_30_into(x: [u32; 30], w: &mut [u32])
-    requires { 30 ≤ length w.old }
-    ensures { w.new ≡ words_at_start x w.old }
-{
-    words_into(&x, w);
-}
-
-fn trace_into(t: TraceAnswer, khz: &mut [u32], height: &mut [u32]) -> u32
+fn trace_into(t: Result<ComputedTrace, Refusal>, khz: &mut [u32], height: &mut [u32]) -> u32
     requires { (30 ≤ length khz.old) × (30 ≤ length height.old) }
     ensures value { result ≡ (trace_into t khz.old height.old).number }
     ensures khz_after { khz.new ≡ (trace_into t khz.old height.old).khz }
     ensures height_after { height.new ≡ (trace_into t khz.old height.old).height }
 {
-    let o = t.outcome;
-    match o {
-        Outcome::Answered => {
-            let k = t.khz;
-            let h = t.height;
-            words_30_into(k, khz);
-            words_30_into(h, height);
+    match t {
+        Ok(trace) => {
+            words_into(&trace.khz, khz);
+            words_into(&trace.height, height);
             0
         }
-        Outcome::Refused(r) => refusal::number(r),
+        Err(r) => u32::from(r),
     }
 }
 
@@ -101,17 +85,10 @@ pub fn port_trace(rows: &[u32], khz: &mut [u32], height: &mut [u32]) -> u32
     ensures khz_after { khz.new ≡ (port_trace rows.now khz.old height.old).khz }
     ensures height_after { height.new ≡ (port_trace rows.now khz.old height.old).height }
 {
-    if rows.len() < 60 {
-        return 1;
-    }
-    if khz.len() < 30 {
-        return 1;
-    }
-    if height.len() < 30 {
-        return 1;
+    if rows.len() < 60 || khz.len() < 30 || height.len() < 30 {
+        return u32::from(Refusal::Length);
     }
     let fvert = floats_30(rows, 0);
     let hprim = floats_30(rows, 30);
-    let t = computed_trace::trace_of(fvert, hprim);
-    trace_into(t, khz, height)
+    trace_into(computed_trace::trace_of(fvert, hprim), khz, height)
 }

@@ -1,12 +1,10 @@
 -- `lecden`: the density profile of slot k. It writes the slot's F1 height and semi-thickness, `fsecv[k]`, the profile, the rising mark and the owner, which is slot k; nothing where the profile is supplied. The paper's refusal: 6 for a slot above 2.
-use Rattle.std.specs.Prelude.{Bool, true, false, map, ℕ, ◌+◌, ◌*◌, ltb, set}
+use Rattle.std.specs.Prelude.{Bool, true, false, map, ℕ, ◌+◌, ◌*◌, ltb, set, Result, Ok, Err}
 use Rattle.scalar.specs.F32.{at}
 use Rattle.refusal.specs.declared.Refusal.{Refusal}
-use Rattle.refusal.specs.declared.Outcome.{Outcome}
 use Rattle.layers.specs.State.{with_tables, with_fsecv, with_profile, with_owner}
 use Rattle.layers.specs.declared.IonoState.{IonoState}
 use Rattle.layers.specs.declared.Owner.{Owner}
-use Rattle.layers.specs.declared.StateAnswer.{StateAnswer}
 use Rattle.profile.specs.Rising.{rises_of}
 use Rattle.slot_curves.specs.F1.{valley_of, f1_of, reshaped_of}
 use Rattle.slot_curves.specs.Grid.{heights_of}
@@ -44,10 +42,10 @@ lecden_by false s k = profiled_of s k (slot_at s k)
 unfoldable pub lecden_of : IonoState → ℕ → IonoState
 lecden_of s k = lecden_by (supplied_of s) s k
 
-abbrev pub lecden_answer_by : Bool → IonoState → ℕ → StateAnswer
-lecden_answer_by true s k = record { outcome = Outcome.Answered; state = lecden_of s k }
-lecden_answer_by false s k = record { outcome = Outcome.Refused Refusal.SlotNumber; state = s }
+abbrev pub lecden_answer_by : Bool → IonoState → ℕ → Result IonoState Refusal
+lecden_answer_by true s k = Ok (lecden_of s k)
+lecden_answer_by false s k = Err Refusal.SlotNumber
 
 -- 6 for a slot above 2
-unfoldable pub lecden_answer : IonoState → ℕ → StateAnswer
+unfoldable pub lecden_answer : IonoState → ℕ → Result IonoState Refusal
 lecden_answer s k = lecden_answer_by (ltb k 3) s k

@@ -5,21 +5,17 @@ ghost use Rattle.std.specs.Prelude.{◌≡◌, ◌<◌};
 ghost use Rattle.profile.specs.Rising.{rises_of};
 ghost use Rattle.profile.specs.Lecden.{slot_at, slot_written, supplied_of, lecden_of, lecden_answer};
 
-use layers::{IonoState, Owner, StateAnswer, owners};
-use refusal::{Outcome, Refusal};
+use layers::{IonoState, Owner, owners};
+use refusal::Refusal;
 use slot_curves::Slot;
 
 // The rising test: is each height below the next. A NaN fails it.
 pub fn rises_throughout(htr: &[f32; 50]) -> bool
     ensures { result ≡ rises_of htr.now }
 {
-    for i in 0..49 {
-        let j = i + 1;
-        if htr[i] < htr[j] {} else {
-            return false;
-        }
-    }
-    true
+    htr.iter()
+        .zip(htr.iter().skip(1))
+        .all(|(lower, upper)| *lower < *upper)
 }
 
 pub fn slot_at(s: IonoState, k: usize) -> Slot
@@ -83,18 +79,11 @@ pub fn lecden_slot(s: IonoState, k: usize) -> IonoState
     owners::with_owner(r, Owner::Slot(k))
 }
 
-pub fn lecden(s: IonoState, k: usize) -> StateAnswer
+pub fn lecden(s: IonoState, k: usize) -> Result<IonoState, Refusal>
     ensures { result ≡ lecden_answer s k }
 {
     if k < 3 {
-        let state = lecden_slot(s, k);
-        return StateAnswer {
-            outcome: Outcome::Answered,
-            state,
-        };
+        return Ok(lecden_slot(s, k));
     }
-    StateAnswer {
-        outcome: Outcome::Refused(Refusal::SlotNumber),
-        state: s,
-    }
+    Err(Refusal::SlotNumber)
 }

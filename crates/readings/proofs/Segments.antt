@@ -11,17 +11,16 @@ use Rattle.scalar.specs.F32.{◌-f◌, ◌≤f◌, at}
 use Rattle.scalar.specs.Literals.{f0}
 use Rattle.readings.specs.Scan.{segment_number, or_on, scan_from, scan_of, profile_segment_of, reading_by, reading_of}
 use Rattle.readings.specs.Segments.{segment_at, FirstHeld}
-use Rattle.readings.specs.declared.Hit.{Hit}
-use Rattle.readings.specs.declared.Hit.TheVariants.{At, Miss}
+use Rattle.std.specs.Prelude.{Option, Some, None}
 use Rattle.readings.specs.declared.Reading.{Reading}
 use Rattle.readings.specs.declared.Reading.TheVariants.{Floor, Segment, Top}
 
 module _ (from to : List Float) (probe : Float) where
   abbrev Missed : ℕ → Type 0
-  Missed i = (j : ℕ) → j < i → segment_at from to probe j ≡ Miss
+  Missed i = (j : ℕ) → j < i → segment_at from to probe j ≡ None
 
-  one_more : (i : ℕ) → Missed i → segment_at from to probe i ≡ Miss → Missed (i + 1)
-  one_more i m e j h = elim (eq-or-lt_of_le (below h)) [ inl x ↦ subst (λ (k : ℕ). segment_at from to probe k ≡ Miss) (sym x) e | inr l ↦ m j l ]
+  one_more : (i : ℕ) → Missed i → segment_at from to probe i ≡ None → Missed (i + 1)
+  one_more i m e j h = elim (eq-or-lt_of_le (below h)) [ inl x ↦ subst (λ (k : ℕ). segment_at from to probe k ≡ None) (sym x) e | inr l ↦ m j l ]
     where
       below : j < i + 1 → j ≤ i
       below k = omega arith
@@ -37,9 +36,9 @@ module _ (from to : List Float) (probe : Float) where
       within j h = omega arith
   held-from (suc n) i e m = go (segment_at from to probe i) refl (λ (more : Missed (i + 1)). held-from n (i + 1) (omega arith) more)
     where
-      go : (h : Hit) → segment_at from to probe i ≡ h → (Missed (i + 1) → FirstHeld from to probe (scan_from from to probe n (i + 1))) → FirstHeld from to probe (or_on h i (scan_from from to probe n (i + 1)))
-      go (At v) x rest = (omega arith, x, m)
-      go Miss x rest = rest (one_more i m x)
+      go : (h : Option Float) → segment_at from to probe i ≡ h → (Missed (i + 1) → FirstHeld from to probe (scan_from from to probe n (i + 1))) → FirstHeld from to probe (or_on h i (scan_from from to probe n (i + 1)))
+      go (Some v) x rest = (omega arith, x, m)
+      go None x rest = rest (one_more i m x)
 
   pub first-held : FirstHeld from to probe (scan_of from to probe)
   first-held = held-from 49 0 refl none

@@ -1,10 +1,8 @@
 -- A number read off a profile by a scan: the Rust's `profile_interpolate`, with the kind of the reading kept. `probe` is sought in `from`, and what stands there in `to` is
 -- the answer. A test written as a difference against zero stays one: at two equal infinities it is not a comparison.
-use Rattle.std.specs.Prelude.{Bool, true, false, cond, ◌&&◌, List, ℕ, zero, suc, ◌+◌, Float}
+use Rattle.std.specs.Prelude.{Bool, true, false, cond, ◌&&◌, List, ℕ, zero, suc, ◌+◌, Float, Option, Some, None}
 use Rattle.scalar.specs.F32.{at, ◌+f◌, ◌-f◌, ◌*f◌, ◌/f◌, ◌<f◌, ◌≤f◌, ◌>f◌, ◌≥f◌, ◌==f◌}
 use Rattle.scalar.specs.Literals.{f0}
-use Rattle.readings.specs.declared.Hit.{Hit}
-use Rattle.readings.specs.declared.Hit.TheVariants.{At, Miss}
 use Rattle.readings.specs.declared.Reading.{Reading}
 use Rattle.readings.specs.declared.Reading.TheVariants.{Floor, Segment, Top}
 use Rattle.readings.specs.declared.Found.{Found}
@@ -33,31 +31,31 @@ abbrev pub interpolated : Float → Float → Float → Float → Float → Floa
 interpolated from0 from1 to0 to1 probe = to0 +f (probe -f from0) *f (to1 -f to0) /f (from1 -f from0)
 
 -- does it hold the probe: test by test as in the Rust, with d = from0 - from1; a segment that is not held is passed over
-unfoldable pub segment_of : Float → Float → Float → Float → Float → Hit
+unfoldable pub segment_of : Float → Float → Float → Float → Float → Option Float
 segment_of from0 from1 to0 to1 probe =
     let d = from0 -f from1 in
     let y = interpolated from0 from1 to0 to1 probe in
     cond (d <f f0)
-    (cond (from0 -f probe ≤f f0) (cond (probe -f from1 <f f0) (At y) Miss) (At y))
+    (cond (from0 -f probe ≤f f0) (cond (probe -f from1 <f f0) (Some y) None) (Some y))
     (cond (d ==f f0)
-    (cond (probe -f from0 ==f f0) (At to0) Miss)
-    (cond ((from0 -f probe ≥f f0) && (probe -f from1 >f f0)) (At y) Miss))
+    (cond (probe -f from0 ==f f0) (Some to0) None)
+    (cond ((from0 -f probe ≥f f0) && (probe -f from1 >f f0)) (Some y) None))
 
 -- does the segment hold the probe, and with which number, +0 where it does not
-abbrev pub held_of : Hit → Bool
-held_of (At v) = true
-held_of Miss = false
+abbrev pub held_of : Option Float → Bool
+held_of (Some v) = true
+held_of None = false
 
-abbrev pub hit_value : Hit → Float
-hit_value (At v) = v
-hit_value Miss = f0
+abbrev pub hit_value : Option Float → Float
+hit_value (Some v) = v
+hit_value None = f0
 
 -- ---- the scan: a segment has the number of its lower node, also where its two nodes are equal and met exactly
 abbrev pub or_on_by : Bool → Float → ℕ → Reading → Reading
 or_on_by true v ih r = Segment v ih
 or_on_by false v ih r = r
 
-abbrev pub or_on : Hit → ℕ → Reading → Reading
+abbrev pub or_on : Option Float → ℕ → Reading → Reading
 or_on h ih r = or_on_by (held_of h) (hit_value h) ih r
 
 -- the n segments from ih on: the first that holds the probe, or the last number

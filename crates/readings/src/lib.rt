@@ -3,101 +3,78 @@
 #![tactic(auto)]
 
 ghost use Rattle.std.specs.Prelude.{◌≡◌};
-ghost use Rattle.readings.specs.Scan.{segment_of, held_of, hit_value, scan_of, value_of, reading_kind, segment_number, found_of, reading_of};
+ghost use Rattle.readings.specs.Scan.{segment_of, scan_of, value_of, reading_kind, segment_number, found_of, reading_of};
 ghost use Rattle.readings.specs.Cursor.{climb_of, read_on_of};
 
-// What one segment has for a probe.
-#[derive(Clone, Copy)]
-pub enum Hit {
-    At(f32),
-    Miss,
-}
-
 // The segment from (from0, to0) to (from1, to1): does it hold the probe, and with which number.
-pub fn segment(from0: f32, from1: f32, to0: f32, to1: f32, probe: f32) -> Hit
+pub fn segment(from0: f32, from1: f32, to0: f32, to1: f32, probe: f32) -> Option<f32>
     ensures { result ≡ segment_of from0 from1 to0 to1 probe }
 {
     let d = from0 - from1;
     if d < 0.0 {
         if from0 - probe <= 0.0 {
             if probe - from1 < 0.0 {
-                return Hit::At(to0 + (probe - from0) * (to1 - to0) / (from1 - from0));
+                return Some(to0 + (probe - from0) * (to1 - to0) / (from1 - from0));
             }
-            return Hit::Miss;
+            return None;
         }
-        return Hit::At(to0 + (probe - from0) * (to1 - to0) / (from1 - from0));
+        return Some(to0 + (probe - from0) * (to1 - to0) / (from1 - from0));
     }
     if d == 0.0 {
         if probe - from0 == 0.0 {
-            return Hit::At(to0);
+            return Some(to0);
         }
-        return Hit::Miss;
+        return None;
     }
     if from0 - probe >= 0.0 {
         if probe - from1 > 0.0 {
-            return Hit::At(to0 + (probe - from0) * (to1 - to0) / (from1 - from0));
+            return Some(to0 + (probe - from0) * (to1 - to0) / (from1 - from0));
         }
     }
-    Hit::Miss
-}
-
-// Whether the segment holds the probe.
-pub fn held(h: Hit) -> bool
-    ensures { result ≡ held_of h }
-{
-    match h {
-        Hit::At(_) => true,
-        Hit::Miss => false,
-    }
-}
-
-// +0 where it does not.
-pub fn hit_value(h: Hit) -> f32
-    ensures { result ≡ hit_value h }
-{
-    match h {
-        Hit::At(v) => v,
-        Hit::Miss => 0.0,
-    }
+    None
 }
 
 // A density read, with its number: at or below the floor, on a segment, whose own number stands
 // beside it, or above all of them.
-#[derive(Clone, Copy)]
+#[derive(Clone, Copy, Debug, PartialEq)]
 pub enum Reading {
     Floor(f32),
     Segment(f32, u32),
     Top(f32),
 }
 
-pub fn value(r: Reading) -> f32
-    ensures { result ≡ value_of r }
-{
-    match r {
-        Reading::Floor(v) => v,
-        Reading::Segment(v, _) => v,
-        Reading::Top(v) => v,
+impl Reading {
+    #[tactic(auto, unfolding(crate::specs::Scan::value_of))]
+    pub fn value(self) -> f32
+        ensures { result ≡ value_of self }
+    {
+        match self {
+            Reading::Floor(v) | Reading::Segment(v, _) | Reading::Top(v) => v,
+        }
     }
-}
 
-pub fn kind(r: Reading) -> u32
-    ensures { result ≡ reading_kind r }
-{
-    match r {
-        Reading::Floor(_) => 0,
-        Reading::Segment(_, _) => 1,
-        Reading::Top(_) => 2,
+    // 0 on the floor, 1 on a segment, 2 at the top
+    #[tactic(auto, unfolding(crate::specs::Scan::reading_kind))]
+    pub fn kind(self) -> u32
+        ensures { result ≡ reading_kind self }
+    {
+        match self {
+            Reading::Floor(_) => 0,
+            Reading::Segment(_, _) => 1,
+            Reading::Top(_) => 2,
+        }
     }
-}
 
-// The segment of a reading, from 0: the lower of its two nodes' numbers.
-pub fn segment_number(r: Reading) -> u32
-    ensures { result ≡ segment_number r }
-{
-    match r {
-        Reading::Floor(_) => 0,
-        Reading::Segment(_, n) => n,
-        Reading::Top(_) => 49,
+    // The segment of a reading, from 0: the lower of its two nodes' numbers.
+    #[tactic(auto, unfolding(crate::specs::Scan::segment_number))]
+    pub fn segment_number(self) -> u32
+        ensures { result ≡ segment_number self }
+    {
+        match self {
+            Reading::Floor(_) => 0,
+            Reading::Segment(_, n) => n,
+            Reading::Top(_) => 49,
+        }
     }
 }
 
@@ -105,11 +82,11 @@ pub fn segment_number(r: Reading) -> u32
 pub fn scan(from: &[f32; 50], to: &[f32; 50], probe: f32) -> Reading
     ensures { result ≡ scan_of from.now to.now probe }
 {
+    // Stays: neighbours of two lists by one index, which is the segment's number too.
     for ih in 0..49 {
         let next = ih + 1;
-        match segment(from[ih], from[next], to[ih], to[next], probe) {
-            Hit::At(v) => return Reading::Segment(v, ih as u32),
-            Hit::Miss => {}
+        if let Some(v) = segment(from[ih], from[next], to[ih], to[next], probe) {
+            return Reading::Segment(v, ih as u32);
         }
     }
     let top = to[49];
@@ -128,8 +105,8 @@ pub fn profile_interpolate(from: &[f32; 50], to: &[f32; 50], probe: f32) -> Foun
 {
     let r = scan(from, to, probe);
     Found {
-        value: value(r),
-        segment: segment_number(r),
+        value: r.value(),
+        segment: r.segment_number(),
     }
 }
 
@@ -155,16 +132,13 @@ pub struct Read {
 pub fn climb(htr: &[f32; 50], zi: f32, ih: usize) -> usize
     ensures { result ≡ climb_of htr.now zi ih }
 {
-    let mut on = ih;
-    while on < 49 {
+    for on in ih..49 {
         let next = on + 1;
-        if zi >= htr[next] {
-            on = next;
-        } else {
+        if !(zi >= htr[next]) {
             return on;
         }
     }
-    on
+    ih.max(49)
 }
 
 // The density at the height `zi` on a rising profile, read on from the cursor `ih`. Where `ih` is not above the count of `zi` it is the scan's (crate `walk`).

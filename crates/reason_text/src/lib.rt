@@ -1,83 +1,48 @@
 // Why a circuit file was turned away, in words.
 #![tactic(auto)]
 
+ghost use Rattle.std.specs.Prelude.{◌≡◌};
 ghost use Rattle.lines.specs.Text.{Clipped};
-ghost use Rattle.reason_text.specs.ReasonText.{file_reason, hour_reason, reason_of};
+ghost use Rattle.reason_text.specs.ReasonText.{reason_of};
 
 use refusal::Refusal;
 
-fn put_file_reason(out: &mut [u8], at: usize, n: u32) -> usize
-    ensures { Clipped (file_reason n) out.old at out.new result }
+#[tactic(auto, unfolding(crate::specs::ReasonText::reason_of, crate::specs::ReasonText::file_reason, crate::specs::ReasonText::hour_reason))]
+fn reason(r: Refusal) -> &'static [u8]
+    ensures { result.now ≡ reason_of r }
 {
-    if n == 1 {
-        return lines::put_word(
-            out,
-            at,
-            b"the file's length is not a multiple of 64, or not 128 to 4096 bytes",
-        );
-    }
-    if n == 2 {
-        return lines::put_word(
-            out,
-            at,
+    match r {
+        Refusal::Length => b"the file's length is not a multiple of 64, or not 128 to 4096 bytes",
+        Refusal::RecordZero =>
             b"record 0: kind, number of points, shape, or a byte that must be zero",
-        );
-    }
-    if n == 3 {
-        return lines::put_word(
-            out,
-            at,
+        Refusal::ChainStep =>
             b"a step of the chain leads past the last record, or to a record met before",
-        );
-    }
-    lines::put_word(
-        out,
-        at,
-        b"a record has the wrong kind or a byte that must be zero, or the chain is too short or too long",
-    )
-}
-
-fn put_hour_reason(out: &mut [u8], at: usize, n: u32) -> usize
-    ensures { Clipped (hour_reason n) out.old at out.new result }
-{
-    if n == 7 {
-        return lines::put_word(
-            out,
-            at,
-            b"the path length in kilometres is below 0, or not a number",
-        );
-    }
-    if n == 9 {
-        return lines::put_word(
-            out,
-            at,
+        Refusal::ChainRecord =>
+            b"a record has the wrong kind or a byte that must be zero, or the chain is too short or too long",
+        Refusal::Distance => b"the path length in kilometres is below 0, or not a number",
+        Refusal::MufInput =>
             b"path length outside 0 to 40100 km or 0 to 6.3 radians, or least takeoff angle above 90 degrees",
-        );
-    }
-    if n == 11 {
-        return lines::put_word(
-            out,
-            at,
-            b"a layer's hop count, before its plus one, is not 0 to 999",
-        );
-    }
-    if n == 12 {
-        return lines::put_word(
-            out,
-            at,
+        Refusal::MufHops => b"a layer's hop count, before its plus one, is not 0 to 999",
+        Refusal::TimeBlock =>
             b"the first decile number is above 0 or not a number, and the clock at the controlling slot has no time block",
-        );
+        Refusal::PointCount
+        | Refusal::SlotNumber
+        | Refusal::Reflectrix
+        | Refusal::MufLists
+        | Refusal::Angle
+        | Refusal::F2m3
+        | Refusal::Tariff
+        | Refusal::Seconds
+        | Refusal::Prices
+        | Refusal::Traces
+        | Refusal::Owner
+        | Refusal::SheetLength => b"no circuit file is refused with this number",
     }
-    lines::put_word(out, at, b"no circuit file is refused with this number")
 }
 
 // The refusal's reason, with no line end.
 pub fn put_reason(out: &mut [u8], at: usize, r: Refusal) -> usize
     ensures { Clipped (reason_of r) out.old at out.new result }
 {
-    let n = refusal::number(r);
-    if n <= 4 {
-        return put_file_reason(out, at, n);
-    }
-    put_hour_reason(out, at, n)
+    lines::put_word(out, at, reason(r))
 }

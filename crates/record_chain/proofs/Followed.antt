@@ -1,6 +1,6 @@
 -- What holds of a chain that was followed to its end. `walk-ind` is the induction along a walk, by which each fact goes.
 use Prim.Native.Nat.{ℕ, zero, suc, ◌+◌, ◌*◌, ◌-◌, ◌%◌, ◌≤◌, ◌<◌}
-use mathlib.Core.Path.{◌≡◌, refl, ap, ◌∙◌, sym}
+use mathlib.Core.Path.{◌≡◌, refl, subst}
 use mathlib.Core.List.{List, [], ◌∷◌, ◌++◌}
 use mathlib.Core.Bool.{Bool, true, false, ◌||◌, ◌&&◌}
 use mathlib.Core.Logic.{◌⊎◌, inl, inr, ⊎_elim}
@@ -11,48 +11,47 @@ use lib.ListN.{length, get_or, replicate, length-append}
 use lib.Dec.{eqb, leb}
 use borrow.Author.Tests.{eqb-true, leb-true}
 use Rattle.refusal.specs.declared.Refusal.{Refusal}
-use Rattle.refusal.specs.declared.Outcome.{Outcome}
 use Rattle.record_chain.specs.declared.Chain.{Chain}
-use Rattle.record_chain.specs.declared.Step.{Step}
+use Rattle.std.specs.Prelude.{Option, Some, None, Result, Ok, Err}
 use Rattle.records.specs.declared.Form.{Form}
 use Rattle.records.specs.Record.{Fit, record_at}
-use Rattle.record_chain.specs.Chain.{length_good, record_count, km_of, head_good, by_step, step_of, pick_chain, sound_by, answered_chain, refused, walk, chain_of}
+use Rattle.record_chain.specs.Chain.{length_good, record_count, km_of, head_good, by_step, step_of, pick_chain, sound_by, answered_chain, order_in, walk, chain_of, chain_along}
 use Rattle.records.proofs.Lists.{both}
 use Rattle.record_chain.proofs.Members.{length-padded}
 use Rattle.record_chain.proofs.Steps.{step-to, in-file, counted, Head, head-facts}
 
-module _ (Q : Chain → Type 0) where
-  pub by-step : (s : Step) (e : Chain) (on : ℕ → Chain) → (s ≡ Step.End → Q e)
-      → ((n : ℕ) → s ≡ Step.To n → Q (on n)) → Q (refused Refusal.ChainStep) → Q (by_step s e on)
-  by-step Step.End e on a b c = a refl
-  by-step (Step.To n) e on a b c = b n refl
-  by-step Step.Astray e on a b c = c
+module _ (Q : Result Chain Refusal → Type 0) where
+  pub by-step : (s : Result (Option ℕ) Refusal) (e : Result Chain Refusal) (on : ℕ → Result Chain Refusal) → (s ≡ Ok None → Q e)
+      → ((n : ℕ) → s ≡ Ok (Some n) → Q (on n)) → ((r : Refusal) → s ≡ Err r → Q (Err r)) → Q (by_step s e on)
+  by-step (Ok None) e on a b c = a refl
+  by-step (Ok (Some n)) e on a b c = b n refl
+  by-step (Err r) e on a b c = c r refl
 
-  pub by-pick : (b : Bool) (x y : Chain) → (b ≡ true → Q x) → Q y → Q (pick_chain b x y)
+  pub by-pick : (b : Bool) (x y : Result Chain Refusal) → (b ≡ true → Q x) → Q y → Q (pick_chain b x y)
   by-pick true x y p q = p refl
   by-pick false x y p q = q
 
 -- P holds of what may still follow, the records met and the last of them; Q of the answer.
-module _ (o : Form) (f : List ℕ) (P : ℕ → List ℕ → ℕ → Type 0) (Q : Chain → Type 0)
-    (goes : (left : ℕ) (order : List ℕ) (at n : ℕ) → P (suc left) order at → step_of o f order at ≡ Step.To n
+module _ (o : Form) (f : List ℕ) (P : ℕ → List ℕ → ℕ → Type 0) (Q : Result Chain Refusal → Type 0)
+    (goes : (left : ℕ) (order : List ℕ) (at n : ℕ) → P (suc left) order at → step_of o f order at ≡ Ok (Some n)
     → sound_by o (leb 48 left) (record_at o f n) ≡ true → P left (order ++ (n ∷ [])) n)
-    (ends : (left : ℕ) (order : List ℕ) (at : ℕ) → P left order at → step_of o f order at ≡ Step.End
+    (ends : (left : ℕ) (order : List ℕ) (at : ℕ) → P left order at → step_of o f order at ≡ Ok None
     → (eqb left 48 || eqb left 0) ≡ true → Q (answered_chain order))
-    (stops : (r : Refusal) → Q (refused r))
+    (stops : (r : Refusal) → Q (Err r))
   where
     pub walk-ind : (left : ℕ) (order : List ℕ) (at : ℕ) → P left order at → Q (walk o f left order at)
     unfolding walk
     walk-ind zero order at p =
         by-step Q (step_of o f order at) _ _
         (λ e. by-pick Q (eqb zero 48 || eqb zero 0) _ _ (λ t. ends zero order at p e t) (stops Refusal.ChainRecord))
-        (λ n e. stops Refusal.ChainRecord) (stops Refusal.ChainStep)
+        (λ n e. stops Refusal.ChainRecord) (λ r e. stops r)
     walk-ind (suc left) order at p =
         by-step Q (step_of o f order at) _ _
         (λ e. by-pick Q (eqb (suc left) 48 || eqb (suc left) 0) _ _ (λ t. ends (suc left) order at p e t) (stops Refusal.ChainRecord))
         (λ n e.
         by-pick Q (sound_by o (leb 48 left) (record_at o f n)) _ _
         (λ t. walk-ind left (order ++ (n ∷ [])) n (goes left order at n p e t)) (stops Refusal.ChainRecord))
-        (stops Refusal.ChainStep)
+        (λ r e. stops r)
 
 -- each number of a list is below n
 abbrev pub Below : ℕ → List ℕ → Type 0
@@ -74,9 +73,9 @@ below_at n (x ∷ l) h p (suc i) = below_at n l h p.1 i
 
 -- every record of the chain is in the file
 pub walk-within : (o : Form) (f : List ℕ) (left at : ℕ) (order : List ℕ) → 0 < record_count o f → Below (record_count o f) order
-    → Below (record_count o f) (walk o f left order at).order
+    → Below (record_count o f) (order_in (walk o f left order at))
 walk-within o f left at order h =
-    walk-ind o f (λ k l a. Below (record_count o f) l) (λ c. Below (record_count o f) c.order)
+    walk-ind o f (λ k l a. Below (record_count o f) l) (λ c. Below (record_count o f) (order_in c))
     (λ k l a n p e t. below-append (record_count o f) l (n ∷ []) p (step-to o f l a n e, tt))
     (λ k l a p e t.
     below-append (record_count o f) l (replicate (64 - length l) 0) p (below-zeros (record_count o f) (64 - length l) h))
@@ -86,36 +85,41 @@ one_of : (a b : Bool) → (a || b) ≡ true → (a ≡ true) ⊎ (b ≡ true)
 one_of true b e = inl refl
 one_of false b e = inr e
 
-never : (r : Refusal) → Outcome.Refused r ≡ Outcome.Answered → ⊥
-never r e = let z : ◌≡◌ {A = ℕ} 0 1 = cc in omega arith
+never : {A : Type 0} (r : Refusal) (x : A) → ◌≡◌ {A = Result A Refusal} (Err r) (Ok x) → ⊥
+never r x e = let z : ◌≡◌ {A = ℕ} 0 1 = cc in omega arith
 
 -- a chain that ends has taken all that may follow, or all but the 48 of kind 3; `total` is all it may hold
 pub record Long (total : ℕ) (c : Chain) : Type 0 where
   pub room : length c.order ≡ 64
-  pub count : c.outcome ≡ Outcome.Answered → (c.count ≡ total) ⊎ (c.count + 48 ≡ total)
+  pub count : (c.count ≡ total) ⊎ (c.count + 48 ≡ total)
+
+-- what holds of an answer that is no refusal
+abbrev pub Unrefused : (Chain → Type 0) → Result Chain Refusal → Type 0
+Unrefused P (Ok c) = P c
+Unrefused P (Err r) = Unit
 
 long-end : (total left : ℕ) (order : List ℕ) → length order + left ≡ total → total ≤ 64
-    → (eqb left 48 || eqb left 0) ≡ true → Long total (answered_chain order)
+    → (eqb left 48 || eqb left 0) ≡ true → Long total (chain_along order)
 long-end total left order p h t =
     record {
       room = length-padded 64 order (omega arith);
       count =
-          λ e. ⊎_elim (λ w. inr (omega (arith, eqb-true left 48 w))) (λ w. inl (omega (arith, eqb-true left 0 w)))
+          ⊎_elim (λ w. inr (omega (arith, eqb-true left 48 w))) (λ w. inl (omega (arith, eqb-true left 0 w)))
           (one_of (eqb left 48) (eqb left 0) t);
     }
 
 pub walk-long : (o : Form) (f : List ℕ) (total left at : ℕ) (order : List ℕ) → total ≤ 64 → length order + left ≡ total
-    → Long total (walk o f left order at)
+    → Unrefused (Long total) (walk o f left order at)
 walk-long o f total left at order h p =
-    walk-ind o f (λ k l a. length l + k ≡ total) (Long total)
+    walk-ind o f (λ k l a. length l + k ≡ total) (Unrefused (Long total))
     (λ k l a n q e t. simp (length-append, add-one) (omega arith))
     (λ k l a q e t. long-end total k l q h t)
-    (λ r. record { room = refl; count = λ e. absurd (never r e) }) left order at p
+    (λ r. tt) left order at p
 
-picked : (b : Bool) (x : Chain) (r : Refusal) → (pick_chain b x (refused r)).outcome ≡ Outcome.Answered
-    → (b ≡ true) × (pick_chain b x (refused r) ≡ x)
-picked true x r e = (refl, refl)
-picked false x r e = absurd (never r e)
+picked : (b : Bool) (x : Result Chain Refusal) (r : Refusal) (c : Chain) → pick_chain b x (Err r) ≡ Ok c
+    → (b ≡ true) × (x ≡ Ok c)
+picked true x r c e = (refl, e)
+picked false x r c e = absurd (never r c e)
 
 -- a file whose chain was followed to its end
 pub record Followed (o : Form) (f : List ℕ) (c : Chain) : Type 0 where
@@ -123,42 +127,41 @@ pub record Followed (o : Form) (f : List ℕ) (c : Chain) : Type 0 where
   pub least : 2 * o.size ≤ length f
   pub most : length f ≤ 64 * o.size
   pub head : Head o (record_at o f 0)
-  pub is : c ≡ walk o f (km_of (record_at o f 0) + 48) (0 ∷ []) 0
+  pub is : walk o f (km_of (record_at o f 0) + 48) (0 ∷ []) 0 ≡ Ok c
   pub within : (i : ℕ) → get_or c.order i 0 < record_count o f
   pub long : Long (km_of (record_at o f 0) + 49) c
 
-module _ (o : Form) (fit : Fit o) (f : List ℕ) where
-  walked : Chain
-  walked = walk o f (km_of (record_at o f 0) + 48) (0 ∷ []) 0
-
+module _ (o : Form) (fit : Fit o) (f : List ℕ) (c : Chain) where
   from-walk : length f % o.size ≡ 0 → 2 * o.size ≤ length f → length f ≤ 64 * o.size → Head o (record_at o f 0)
-      → Followed o f walked
-  unfolding walked
-  from-walk a b c h =
+      → walk o f (km_of (record_at o f 0) + 48) (0 ∷ []) 0 ≡ Ok c → Followed o f c
+  from-walk a b m h e =
       let some : 0 < record_count o f = counted o f 1 (omega arith) (omega arith) in
       let fits : km_of (record_at o f 0) + 49 ≤ 64 = omega (arith, h.most) in
       record {
         whole = omega (arith, div-add-mod (length f) o.size);
         least = b;
-        most = c;
+        most = m;
         head = h;
-        is = refl;
+        is = e;
         within =
-            below_at (record_count o f) walked.order some
-            (walk-within o f (km_of (record_at o f 0) + 48) 0 (0 ∷ []) some (some, tt));
-        long = walk-long o f (km_of (record_at o f 0) + 49) (km_of (record_at o f 0) + 48) 0 (0 ∷ []) fits (omega arith);
+            below_at (record_count o f) c.order some
+            (subst (λ (a : Result Chain Refusal). Below (record_count o f) (order_in a)) e
+            (walk-within o f (km_of (record_at o f 0) + 48) 0 (0 ∷ []) some (some, tt)));
+        long =
+            subst (Unrefused (Long (km_of (record_at o f 0) + 49))) e
+            (walk-long o f (km_of (record_at o f 0) + 49) (km_of (record_at o f 0) + 48) 0 (0 ∷ []) fits (omega arith));
       }
 
-  pub followed : (chain_of o f).outcome ≡ Outcome.Answered → Followed o f (chain_of o f)
-  unfolding chain_of walked
+  pub followed : chain_of o f ≡ Ok c → Followed o f c
+  unfolding chain_of
   followed e =
-      let inner = pick_chain (head_good o (record_at o f 0)) walked (refused Refusal.RecordZero) in
-      let a = picked (length_good o f) inner Refusal.Length e in
-      let b = picked (head_good o (record_at o f 0)) walked Refusal.RecordZero (ap (λ (c : Chain). c.outcome) (sym a.1) ∙ e) in
+      let walked = walk o f (km_of (record_at o f 0) + 48) (0 ∷ []) 0 in
+      let inner = pick_chain (head_good o (record_at o f 0)) walked (Err Refusal.RecordZero) in
+      let a = picked (length_good o f) inner Refusal.Length c e in
+      let b = picked (head_good o (record_at o f 0)) walked Refusal.RecordZero c a.1 in
       let g = both (eqb (length f % o.size) 0) (leb (2 * o.size) (length f) && leb (length f) (64 * o.size)) a.0 in
       let l = both (leb (2 * o.size) (length f)) (leb (length f) (64 * o.size)) g.1 in
-      rw (a.1 ∙ b.1)
-      (from-walk (eqb-true _ _ g.0) (leb-true _ _ l.0) (leb-true _ _ l.1) (head-facts o (record_at o f 0) b.0))
+      from-walk (eqb-true _ _ g.0) (leb-true _ _ l.0) (leb-true _ _ l.1) (head-facts o (record_at o f 0) b.0) b.1
 
 module _ (o : Form) (f : List ℕ) (c : Chain) (t : Followed o f c) where
   -- every record of the chain is in the file
@@ -166,6 +169,5 @@ module _ (o : Form) (f : List ℕ) (c : Chain) (t : Followed o f c) where
   there i = in-file o f (get_or c.order i 0) (t.within i)
 
   -- room for the points, and for at most 48 of kind 3 after them
-  pub count-range : c.outcome ≡ Outcome.Answered
-      → (1 + km_of (record_at o f 0) ≤ c.count) × (c.count ≤ km_of (record_at o f 0) + 49)
-  count-range e = ⊎_elim (λ w. (omega arith, omega arith)) (λ w. (omega arith, omega arith)) (t.long.count e)
+  pub count-range : (1 + km_of (record_at o f 0) ≤ c.count) × (c.count ≤ km_of (record_at o f 0) + 49)
+  count-range = ⊎_elim (λ w. (omega arith, omega arith)) (λ w. (omega arith, omega arith)) t.long.count

@@ -1,26 +1,24 @@
 -- Lists of records met, and arrays filled part by part.
-use Prim.Native.Nat.{ℕ, ◌+◌, ◌-◌, ◌≤◌, ◌<◌}
-use mathlib.Core.Path.{◌≡◌}
-use mathlib.Core.List.{List, ◌++◌, append_assoc}
-use mathlib.Core.Bool.{true}
+use Prim.Native.Nat.{ℕ, ◌+◌, ◌-◌, ◌≤◌}
+use mathlib.Core.Path.{◌≡◌, refl}
+use mathlib.Core.List.{List, [], ◌∷◌, ◌++◌, append_assoc}
 use native.Mathlib.Omega.{arith}
-use native.Mathlib.Numerals.{add-one}
-use lib.ListN.{length, get_or, take, drop, length-append, replicate, length-replicate}
-use lib.Seq.{drop-cons, take_at, drop_at}
-use borrow.Author.Tests.{eq-eqb, ne_eqb}
+use lib.ListN.{length, take, drop, length-append, replicate, length-replicate}
+use lib.Seq.{take_at, drop_at}
+use lib.Dec.{eqb}
+use Rattle.std.specs.List.{list_any}
 use Rattle.record_chain.specs.Chain.{member, padded}
 use Rattle.records.proofs.Lists.{drop-replicate}
 use native.Mathlib.Nat.{add-sub_cancel_left}
 
--- a record that is not the one looked for
-pub member-on : (n : ℕ) (l : List ℕ) (i : ℕ) → i < length l → (n ≡ get_or l i 0 → ⊥) → member n (drop i l) ≡ member n (drop (i + 1) l)
-unfolding member
-member-on n l i h e = rw (add-one, drop-cons l i 0, ne_eqb n (get_or l i 0) e)
+eqb-comm : (a b : ℕ) → eqb a b ≡ eqb b a
+eqb-comm a b = grind arith
 
--- the one looked for
-pub member-off : (n : ℕ) (l : List ℕ) (i : ℕ) → i < length l → n ≡ get_or l i 0 → member n (drop i l) ≡ true
+-- looked for from the left, as the slice's method does
+pub any_member : (n : ℕ) (l : List ℕ) → list_any (λ (m : ℕ). eqb m n) l ≡ member n l
 unfolding member
-member-off n l i h e = rw (drop-cons l i 0, eq-eqb n (get_or l i 0) e)
+any_member n [] = refl
+any_member n (m ∷ l) = rw (eqb-comm m n, any_member n l)
 
 pub length-padded : (N : ℕ) (ns : List ℕ) → length ns ≤ N → length (padded N ns) ≡ N
 length-padded N ns h = simp (length-append, length-replicate) (omega arith)

@@ -9,15 +9,16 @@ use native.Mathlib.Nat.{mul-le-mul_left, mul-div-le, le-div_iff_mul-le}
 use lib.ListN.{length, take, drop, set, replicate, length-append}
 use lib.Seq.{take-suc-set, set_at, length-take-le}
 use lib.Dec.{eqb, leb, ltb}
-use borrow.Author.Tests.{ltb-true, leb-true, eqb-true}
+use mathlib.Core.Logic.{◌⊎◌, inl, inr}
+use borrow.Author.Tests.{ltb-true, leb-true, eqb-true, eq-eqb, ne_eqb}
 use Rattle.records.proofs.Lists.{both}
 use Rattle.refusal.specs.declared.Refusal.{Refusal}
-use Rattle.refusal.specs.declared.Outcome.{Outcome}
+use Rattle.refusal.specs.Number.{answer_number}
 use Rattle.record_chain.specs.declared.Chain.{Chain}
-use Rattle.record_chain.specs.declared.Step.{Step}
+use Rattle.std.specs.Prelude.{Option, Some, None, Result, Ok, Err}
 use Rattle.records.specs.declared.Form.{Form}
 use Rattle.records.specs.Record.{record_at, kind_of, next_of, all_zero}
-use Rattle.record_chain.specs.Chain.{head_good, km_of, shape_of, record_count, member, step_by, step_of, step_number, step_index, walk, ended, answered_chain, refused, padded, pick_chain, sound_by}
+use Rattle.record_chain.specs.Chain.{head_good, km_of, shape_of, record_count, member, step_by, step_of, step_index, walk, ended, answered_chain, padded, pick_chain, sound_by}
 
 -- record n of those that the file has is in it
 pub in-file : (o : Form) (f : List ℕ) (n : ℕ) → n < record_count o f → o.size * n + o.size ≤ length f
@@ -30,13 +31,13 @@ pub counted : (o : Form) (f : List ℕ) (n : ℕ) → 0 < o.size → o.size * n 
 counted o f n h k = (le-div_iff_mul-le {k = o.size} {x = n} {y = length f} h).1 (omega arith)
 
 -- an index that a step goes to
-to-by : (b fresh c : Bool) (m n : ℕ) → step_by b (c && fresh) m ≡ Step.To n → (c ≡ true) × (m ≡ n)
+to-by : (b fresh c : Bool) (m n : ℕ) → step_by b (c && fresh) m ≡ Ok (Some n) → (c ≡ true) × (m ≡ n)
 to-by true fresh c m n e = absurd (let z : ◌≡◌ {A = ℕ} 0 1 = cc in omega arith)
 to-by false true true m n e = (refl, cc)
 to-by false false true m n e = absurd (let z : ◌≡◌ {A = ℕ} 0 1 = cc in omega arith)
 to-by false fresh false m n e = absurd (let z : ◌≡◌ {A = ℕ} 0 1 = cc in omega arith)
 
-pub step-to : (o : Form) (f order : List ℕ) (at n : ℕ) → step_of o f order at ≡ Step.To n → n < record_count o f
+pub step-to : (o : Form) (f order : List ℕ) (at n : ℕ) → step_of o f order at ≡ Ok (Some n) → n < record_count o f
 unfolding step_of
 step-to o f order at n e =
     let m = next_of (record_at o f at) in
@@ -44,52 +45,75 @@ step-to o f order at n e =
     rw t.1 at (ltb-true m (record_count o f) t.0)
 
 -- and it is the next index
-pub step-next : (o : Form) (f order : List ℕ) (at n : ℕ) → step_of o f order at ≡ Step.To n → next_of (record_at o f at) ≡ n
+pub step-next : (o : Form) (f order : List ℕ) (at n : ℕ) → step_of o f order at ≡ Ok (Some n) → next_of (record_at o f at) ≡ n
 unfolding step_of
 step-next o f order at n e =
     let m = next_of (record_at o f at) in
     (to-by (eqb m 0) (not (member m order)) (ltb m (record_count o f)) m n e).1
 
-index-by : (b fresh : Bool) (m : ℕ) → eqb m 0 ≡ b → step_number (step_by b fresh m) ≡ 0 → step_index (step_by b fresh m) ≡ m
+-- a step that is refused is astray
+refused-by : (b fresh : Bool) (m : ℕ) (r : Refusal) → step_by b fresh m ≡ Err r → r ≡ Refusal.ChainStep
+refused-by true fresh m r e = absurd (let z : ◌≡◌ {A = ℕ} 0 1 = cc in omega arith)
+refused-by false true m r e = absurd (let z : ◌≡◌ {A = ℕ} 0 1 = cc in omega arith)
+refused-by false false m r e = cc
+
+pub step-astray : (o : Form) (f order : List ℕ) (at : ℕ) (r : Refusal) → step_of o f order at ≡ Err r → r ≡ Refusal.ChainStep
+unfolding step_of
+step-astray o f order at r e =
+    let m = next_of (record_at o f at) in
+    refused-by (eqb m 0) (ltb m (record_count o f) && not (member m order)) m r e
+
+index-by : (b fresh : Bool) (m : ℕ) → eqb m 0 ≡ b → answer_number (step_by b fresh m) ≡ 0 → step_index (step_by b fresh m) ≡ m
 index-by true fresh m e z = sym (eqb-true m 0 e)
 index-by false true m e z = refl
 index-by false false m e z = absurd (omega arith)
 
 -- both promises of a step, by its case
-pub step-told : (o : Form) (f order : List ℕ) (at : ℕ) (s : Step) → s ≡ step_of o f order at
-    → (s ≡ step_of o f order at) × (step_number s ≡ 0 → step_index s ≡ next_of (record_at o f at))
+pub step-told : (o : Form) (f order : List ℕ) (at : ℕ) (s : Result (Option ℕ) Refusal) → s ≡ step_of o f order at
+    → (s ≡ step_of o f order at) × (answer_number s ≡ 0 → step_index s ≡ next_of (record_at o f at))
 unfolding step_of
 step-told o f order at s e =
     let m = next_of (record_at o f at) in
     let fresh = ltb m (record_count o f) && not (member m order) in
-    (e, subst (λ (t : Step). step_number t ≡ 0 → step_index t ≡ m) (sym e) (index-by (eqb m 0) fresh m refl))
+    (e, subst (λ (t : Result (Option ℕ) Refusal). answer_number t ≡ 0 → step_index t ≡ m) (sym e) (index-by (eqb m 0) fresh m refl))
 
 module _ (o : Form) (f order : List ℕ) (at : ℕ) where
-  pub walk_end : (left : ℕ) → step_of o f order at ≡ Step.End → walk o f left order at ≡ ended left (answered_chain order)
+  pub walk_end : (left : ℕ) → step_of o f order at ≡ Ok None → walk o f left order at ≡ ended left (answered_chain order)
   unfolding walk
   walk_end zero e = rw e
   walk_end (suc left) e = rw e
 
-  pub walk-astray : (left : ℕ) → step_of o f order at ≡ Step.Astray → walk o f left order at ≡ refused Refusal.ChainStep
+  pub walk-astray : (left : ℕ) (r : Refusal) → step_of o f order at ≡ Err r → walk o f left order at ≡ Err r
   unfolding walk
-  walk-astray zero e = rw e
-  walk-astray (suc left) e = rw e
+  walk-astray zero r e = rw e
+  walk-astray (suc left) r e = rw e
 
-  pub walk-long : (n left : ℕ) → step_of o f order at ≡ Step.To n → left ≡ 0
-      → walk o f left order at ≡ refused Refusal.ChainRecord
+  pub walk-long : (n left : ℕ) → step_of o f order at ≡ Ok (Some n) → left ≡ 0
+      → walk o f left order at ≡ Err Refusal.ChainRecord
   unfolding walk
   walk-long n left e h = rw (h, e)
 
-  module _ (n left : ℕ) (e : step_of o f order at ≡ Step.To n) (h : left ≡ 0 → ⊥) where
+  -- a chain that ends where it may
+  pub walk-whole : (left : ℕ) → step_of o f order at ≡ Ok None → (left ≡ 48) ⊎ (left ≡ 0)
+      → walk o f left order at ≡ answered_chain order
+  walk-whole left e (inl h) = walk_end left e ∙ rw (eq-eqb left 48 h)
+  walk-whole left e (inr h) = walk_end left e ∙ rw h
+
+  -- and where it may not
+  pub walk-cut : (left : ℕ) → step_of o f order at ≡ Ok None → (left ≡ 48 → ⊥) → (left ≡ 0 → ⊥)
+      → walk o f left order at ≡ Err Refusal.ChainRecord
+  walk-cut left e h k = walk_end left e ∙ rw (ne_eqb left 48 h, ne_eqb left 0 k)
+
+  module _ (n left : ℕ) (e : step_of o f order at ≡ Ok (Some n)) (h : left ≡ 0 → ⊥) where
     walk-to : (k : ℕ) → left ≡ suc k
         → walk o f left order at
         ≡ pick_chain (sound_by o (leb 48 (left - 1)) (record_at o f n)) (walk o f (left - 1) (order ++ (n ∷ [])) n)
-        (refused Refusal.ChainRecord)
+        (Err Refusal.ChainRecord)
     unfolding walk
     walk-to k s = rw (s, e, sub-one)
 
     pub walk-bad : sound_by o (leb 48 (left - 1)) (record_at o f n) ≡ false
-        → walk o f left order at ≡ refused Refusal.ChainRecord
+        → walk o f left order at ≡ Err Refusal.ChainRecord
     walk-bad b = walk-to (left - 1) (omega arith) ∙ rw b refl
 
     pub walk-on : sound_by o (leb 48 (left - 1)) (record_at o f n) ≡ true
@@ -98,10 +122,10 @@ module _ (o : Form) (f order : List ℕ) (at : ℕ) where
 
 -- the array and the count, as the answer
 pub as-answered : (a : List ℕ) (k : ℕ) → a ≡ padded 64 (take k a) → length (take k a) ≡ k
-    → ◌≡◌ {A = Chain} (record { outcome = Outcome.Answered; order = a; count = k }) (answered_chain (take k a))
+    → ◌≡◌ {A = Result Chain Refusal} (Ok (record { order = a; count = k })) (answered_chain (take k a))
 as-answered a k e t =
-    ap {B = Chain} (λ (l : List ℕ). record { outcome = Outcome.Answered; order = l; count = k }) e
-    ∙ ap {B = Chain} (λ (m : ℕ). record { outcome = Outcome.Answered; order = padded 64 (take k a); count = m }) (sym t)
+    ap {B = Result Chain Refusal} (λ (l : List ℕ). Ok (record { order = l; count = k })) e
+    ∙ ap {B = Result Chain Refusal} (λ (m : ℕ). Ok (record { order = padded 64 (take k a); count = m })) (sym t)
 
 pub one_more : (a : List ℕ) (k n : ℕ) → k < length a → take (k + 1) (set a k n) ≡ take k a ++ (n ∷ [])
 one_more a k n h = rw add-one (take-suc-set a k n h)

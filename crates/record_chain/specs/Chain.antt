@@ -1,11 +1,8 @@
 -- The chain of a circuit file: where it leads, and where it is turned away, in the paper's order.
-use Rattle.std.specs.Prelude.{ℕ, zero, suc, ◌+◌, ◌*◌, ◌-◌, ◌/◌, ◌%◌, List, [], ◌∷◌, ◌++◌, Bool, true, false, ◌&&◌, ◌||◌, not, length, get_or, take, drop, replicate, eqb, leb, ltb}
+use Rattle.std.specs.Prelude.{ℕ, zero, suc, ◌+◌, ◌*◌, ◌-◌, ◌/◌, ◌%◌, List, [], ◌∷◌, ◌++◌, Bool, true, false, ◌&&◌, ◌||◌, not, length, get_or, take, drop, replicate, eqb, leb, ltb, Option, Some, None, Result, Ok, Err}
 use Rattle.refusal.specs.declared.Refusal.{Refusal}
-use Rattle.refusal.specs.declared.Outcome.{Outcome}
-use Rattle.refusal.specs.Number.{number_of}
 use Rattle.record_chain.specs.declared.Chain.{Chain}
 use Rattle.records.specs.declared.Form.{Form}
-use Rattle.record_chain.specs.declared.Step.{Step}
 use Rattle.records.specs.Record.{record_at, kind_of, next_of, all_zero, fits}
 
 -- the file's length is a multiple of the record size, and 2 to 64 records
@@ -35,50 +32,54 @@ unfoldable pub member : ℕ → List ℕ → Bool
 member n [] = false
 member n (m ∷ ms) = eqb n m || member n ms
 
-abbrev pub step_by : Bool → Bool → ℕ → Step
-step_by true fresh n = Step.End
-step_by false true n = Step.To n
-step_by false false n = Step.Astray
+-- a step ends the chain, leads to a record, or astray
+abbrev pub step_by : Bool → Bool → ℕ → Result (Option ℕ) Refusal
+step_by true fresh n = Ok None
+step_by false true n = Ok (Some n)
+step_by false false n = Err Refusal.ChainStep
 
 -- the step out of record `at`, after the records of `order`
-unfoldable pub step_of : Form → List ℕ → List ℕ → ℕ → Step
+unfoldable pub step_of : Form → List ℕ → List ℕ → ℕ → Result (Option ℕ) Refusal
 step_of o f order at =
     let next = next_of (record_at o f at) in
     step_by (eqb next 0) (ltb next (record_count o f) && not (member next order)) next
 
--- the paper's number, and the index of the next record, for every case of a step: index 0 ends the chain, and stands beside
--- a refusal too
-abbrev pub step_number : Step → ℕ
-step_number Step.End = 0
-step_number (Step.To n) = 0
-step_number Step.Astray = number_of Refusal.ChainStep
-
-abbrev pub step_index : Step → ℕ
-step_index Step.End = 0
-step_index (Step.To n) = n
-step_index Step.Astray = 0
+-- the index of the next record, for every case of a step: index 0 ends the chain, and stands for a refusal too
+abbrev pub step_index : Result (Option ℕ) Refusal → ℕ
+step_index (Ok None) = 0
+step_index (Ok (Some n)) = n
+step_index (Err r) = 0
 
 abbrev pub padded : ℕ → List ℕ → List ℕ
 padded n l = l ++ replicate (n - length l) 0
 
-abbrev pub refused : Refusal → Chain
-refused r = record { outcome = Outcome.Refused r; order = replicate 64 0; count = 0 }
+abbrev pub chain_along : List ℕ → Chain
+chain_along order = record { order = padded 64 order; count = length order }
 
-abbrev pub answered_chain : List ℕ → Chain
-answered_chain order = record { outcome = Outcome.Answered; order = padded 64 order; count = length order }
+abbrev pub answered_chain : List ℕ → Result Chain Refusal
+answered_chain order = Ok (chain_along order)
 
-abbrev pub pick_chain : Bool → Chain → Chain → Chain
+-- the records and their count, for every case: none at a refusal
+abbrev pub order_in : Result Chain Refusal → List ℕ
+order_in (Ok c) = c.order
+order_in (Err r) = replicate 64 0
+
+abbrev pub count_in : Result Chain Refusal → ℕ
+count_in (Ok c) = c.count
+count_in (Err r) = 0
+
+abbrev pub pick_chain : Bool → Result Chain Refusal → Result Chain Refusal → Result Chain Refusal
 pick_chain true a b = a
 pick_chain false a b = b
 
 -- a chain that ends where `left` more records were allowed: all 48 of kind 3 are left, or none is
-abbrev pub ended : ℕ → Chain → Chain
-ended left c = pick_chain (eqb left 48 || eqb left 0) c (refused Refusal.ChainRecord)
+abbrev pub ended : ℕ → Result Chain Refusal → Result Chain Refusal
+ended left c = pick_chain (eqb left 48 || eqb left 0) c (Err Refusal.ChainRecord)
 
-abbrev pub by_step : Step → Chain → (ℕ → Chain) → Chain
-by_step Step.End e on = e
-by_step (Step.To n) e on = on n
-by_step Step.Astray e on = refused Refusal.ChainStep
+abbrev pub by_step : Result (Option ℕ) Refusal → Result Chain Refusal → (ℕ → Result Chain Refusal) → Result Chain Refusal
+by_step (Ok None) e on = e
+by_step (Ok (Some n)) e on = on n
+by_step (Err r) e on = Err r
 
 -- The record that `left` more may follow: a point while all 48 of kind 3 are left, else one of these.
 abbrev pub sound_by : Form → Bool → List ℕ → Bool
@@ -86,17 +87,17 @@ sound_by o true r = fits 2 (15 + o.extra) r
 sound_by o false r = fits 3 12 r
 
 -- The chain from record `at` on, after the records of `order`, of which it is the last; `left` more may follow.
-unfoldable pub walk : Form → List ℕ → ℕ → List ℕ → ℕ → Chain
-walk o f zero order at = by_step (step_of o f order at) (ended zero (answered_chain order)) (λ n. refused Refusal.ChainRecord)
+unfoldable pub walk : Form → List ℕ → ℕ → List ℕ → ℕ → Result Chain Refusal
+walk o f zero order at = by_step (step_of o f order at) (ended zero (answered_chain order)) (λ n. Err Refusal.ChainRecord)
 walk o f (suc left) order at =
     by_step (step_of o f order at) (ended (suc left) (answered_chain order))
     (λ n.
     pick_chain (sound_by o (leb 48 left) (record_at o f n)) (walk o f left (order ++ (n ∷ [])) n)
-    (refused Refusal.ChainRecord))
+    (Err Refusal.ChainRecord))
 
-unfoldable pub chain_of : Form → List ℕ → Chain
+unfoldable pub chain_of : Form → List ℕ → Result Chain Refusal
 chain_of o f =
     let head = record_at o f 0 in
     pick_chain (length_good o f)
-    (pick_chain (head_good o head) (walk o f (km_of head + 48) (0 ∷ []) 0) (refused Refusal.RecordZero))
-    (refused Refusal.Length)
+    (pick_chain (head_good o head) (walk o f (km_of head + 48) (0 ∷ []) 0) (Err Refusal.RecordZero))
+    (Err Refusal.Length)

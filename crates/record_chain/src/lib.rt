@@ -2,49 +2,19 @@
 #![tactic(auto)]
 
 ghost use Rattle.std.specs.Prelude.{◌≡◌, [], ◌∷◌, ◌+◌, ◌*◌, ◌≤◌, length, leb};
+ghost use Rattle.refusal.specs.Number.{answer_number};
 ghost use Rattle.records.specs.Record.{Fit, form64, record_at, next_of};
-ghost use Rattle.record_chain.specs.Chain.{chain_of, head_good, member, step_of, step_number, step_index, sound_by};
+ghost use Rattle.record_chain.specs.Chain.{chain_of, head_good, member, step_of, step_index, sound_by};
 
 use records::Form;
-use refusal::{Outcome, Refusal};
+use refusal::Refusal;
 
-// The records of a chain, in its order: `count` of them, then zeros. Beside a refusal all are zero.
+// The records of a chain, in its order: `count` of them, then zeros.
+// Stays: a copied record of fixed memory, and the laws speak of its list of 64 with the zeros.
 #[derive(Clone, Copy)]
 pub struct Chain {
-    pub outcome: Outcome,
     pub order: [usize; 64],
     pub count: usize,
-}
-
-// Where the next index of a record leads: nowhere, to a record that is there and was not met before, or astray.
-#[derive(Drop)]
-pub enum Step {
-    End,
-    To(usize),
-    Astray,
-}
-
-fn refused(r: Refusal) -> Chain
-    ensures { result ≡ Rattle.record_chain.specs.Chain.refused r }
-{
-    Chain {
-        outcome: Outcome::Refused(r),
-        order: [0; 64],
-        count: 0,
-    }
-}
-
-fn is_among(list: &[usize], n: usize) -> bool
-    ensures { result ≡ member n list.now }
-{
-    let mut i = 0;
-    while i < list.len() {
-        if n == list[i] {
-            return true;
-        }
-        i += 1;
-    }
-    false
 }
 
 fn head_good(o: Form, r: &[u8]) -> bool
@@ -71,24 +41,28 @@ fn head_good(o: Form, r: &[u8]) -> bool
     records::all_zero(&r[24..])
 }
 
-// The step out of record `at`, after the records of `order`. Unless it is refused it goes where the record's next index says.
-fn step_out(o: Form, file: &[u8], order: &[usize], at: usize) -> Step
+fn is_among(list: &[usize], n: usize) -> bool
+    ensures { result ≡ member n list.now }
+{
+    list.contains(&n)
+}
+
+// The step out of record `at`, after the records of `order`: to no record, or to one that is there and was not met before. Unless
+// it is refused it goes where the record's next index says.
+fn step_out(o: Form, file: &[u8], order: &[usize], at: usize) -> Result<Option<usize>, Refusal>
     requires { Fit o × (o.size * at + o.size ≤ length file.now) }
     ensures value { result ≡ step_of o file.now order.now at }
-    ensures result_value { step_number result ≡ 0 → step_index result ≡ next_of (record_at o file.now at) }
+    ensures result_value { answer_number result ≡ 0 → step_index result ≡ next_of (record_at o file.now at) }
 {
     let size = o.size;
     let next = records::half(&file[size * at..size * at + size], 2);
     if next == 0 {
-        return Step::End;
+        return Ok(None);
     }
-    if next >= file.len() / size {
-        return Step::Astray;
+    if next >= file.len() / size || is_among(order, next) {
+        return Err(Refusal::ChainStep);
     }
-    if is_among(order, next) {
-        return Step::Astray;
-    }
-    Step::To(next)
+    Ok(Some(next))
 }
 
 // Whether the record that a step came to is the one that may stand where `left` more may follow.
@@ -103,20 +77,7 @@ fn may_stand(o: Form, r: &[u8], left: usize) -> bool
     records::sound(r, 3, 12)
 }
 
-// A chain that ends where `left` more records were allowed.
-fn ended(left: usize, c: Chain) -> Chain
-    ensures { result ≡ Rattle.record_chain.specs.Chain.ended left c }
-{
-    if left == 48 {
-        return c;
-    }
-    if left == 0 {
-        return c;
-    }
-    refused(Refusal::ChainRecord)
-}
-
-fn walk(o: Form, file: &[u8], km: usize) -> Chain
+fn walk(o: Form, file: &[u8], km: usize) -> Result<Chain, Refusal>
     requires { Fit o × (o.size ≤ length file.now) × (km ≤ 5) }
     ensures { result ≡ Rattle.record_chain.specs.Chain.walk o file.now (km + 48) (0 ∷ []) 0 }
 {
@@ -125,61 +86,43 @@ fn walk(o: Form, file: &[u8], km: usize) -> Chain
     let mut count: usize = 1;
     let mut at: usize = 0;
     let mut left = km + 48;
-    loop {
-        let s = step_out(o, file, &order[..count], at);
-        match s {
-            Step::End => {
-                let c = Chain {
-                    outcome: Outcome::Answered,
-                    order,
-                    count,
-                };
-                return ended(left, c);
-            }
-            Step::Astray => {
-                return refused(Refusal::ChainStep);
-            }
-            Step::To(next) => {
-                if left == 0 {
-                    return refused(Refusal::ChainRecord);
-                }
-                left = left - 1;
-                if !may_stand(o, &file[size * next..size * next + size], left) {
-                    return refused(Refusal::ChainRecord);
-                }
-                order[count] = next;
-                count = count + 1;
-                at = next;
-            }
+    while let Some(next) = step_out(o, file, &order[..count], at)? {
+        if left == 0 {
+            return Err(Refusal::ChainRecord);
         }
+        left -= 1;
+        if !may_stand(o, &file[size * next..size * next + size], left) {
+            return Err(Refusal::ChainRecord);
+        }
+        order[count] = next;
+        count += 1;
+        at = next;
     }
+    if left != 48 && left != 0 {
+        return Err(Refusal::ChainRecord);
+    }
+    Ok(Chain { order, count })
 }
 
 // The chain of a file, or where it is turned away.
-pub fn follow_form(o: Form, file: &[u8]) -> Chain
+pub fn follow_form(o: Form, file: &[u8]) -> Result<Chain, Refusal>
     requires { Fit o }
     ensures { result ≡ chain_of o file.now }
 {
     let n = file.len();
     let size = o.size;
-    if n % size != 0 {
-        return refused(Refusal::Length);
-    }
-    if n < 2 * size {
-        return refused(Refusal::Length);
-    }
-    if n > 64 * size {
-        return refused(Refusal::Length);
+    if n % size != 0 || n < 2 * size || n > 64 * size {
+        return Err(Refusal::Length);
     }
     let head = &file[0..size];
     if !head_good(o, head) {
-        return refused(Refusal::RecordZero);
+        return Err(Refusal::RecordZero);
     }
     walk(o, file, records::byte(head, 4))
 }
 
 // The same of a file in the paper's form.
-pub fn follow(file: &[u8]) -> Chain
+pub fn follow(file: &[u8]) -> Result<Chain, Refusal>
     ensures { result ≡ chain_of form64 file.now }
 {
     follow_form(records::form64(), file)

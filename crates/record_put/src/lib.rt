@@ -1,7 +1,7 @@
 // One record of a circuit file, put into its part of the file.
 #![tactic(auto)]
 
-ghost use Rattle.std.specs.Prelude.{◌≡◌, ◌+◌, ◌*◌, ◌≤◌, length, replicate, ◌++◌};
+ghost use Rattle.std.specs.Prelude.{◌≡◌, ◌+◌, ◌*◌, ◌≤◌, length, ◌++◌};
 ghost use Rattle.records.specs.Record.{Fit};
 ghost use Rattle.record_put.specs.Bytes.{half_of, word_bytes, bytes_of, record_of, head_of};
 
@@ -30,20 +30,8 @@ fn words(ws: &[u32], out: &mut [u8])
     requires { length out.old ≡ 4 * length ws.now }
     ensures { out.new ≡ bytes_of ws.now }
 {
-    let mut i = 0;
-    while i < ws.len() {
+    for i in 0..ws.len() {
         word(ws[i], &mut out[4 * i..4 * i + 4]);
-        i += 1;
-    }
-}
-
-fn zeros(out: &mut [u8])
-    ensures { out.new ≡ replicate (length out.old) 0 }
-{
-    let mut i = 0;
-    while i < out.len() {
-        out[i] = 0;
-        i += 1;
     }
 }
 
@@ -55,7 +43,7 @@ pub fn record(kind: usize, next: usize, ws: &[u32], out: &mut [u8])
     half(kind, &mut out[0..2]);
     half(next, &mut out[2..4]);
     words(ws, &mut out[4..end]);
-    zeros(&mut out[end..]);
+    out[end..].fill(0);
 }
 
 // A point: its fifteen words, and after them those that the form adds.

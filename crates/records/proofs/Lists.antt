@@ -8,7 +8,8 @@ use native.Mathlib.Numerals.{add-one}
 use lib.ListN.{length, get_or, take, drop, set, length-append, length-drop, drop_of_length-le, replicate, length-map}
 use lib.Seq.{drop-cons, take_all, set_at, length-take-le, take-suc, take-suc-set}
 use lib.Dec.{eqb}
-use borrow.Author.Tests.{ne_eqb, eqb-true}
+use borrow.Author.Tests.{eqb-true}
+use Rattle.std.specs.List.{list_all}
 use Rattle.records.specs.declared.Form.{Form}
 use Rattle.records.specs.Record.{Fit, form64, all_zero, record_words, word_at, record_at}
 use native.Mathlib.Nat.{add-sub_cancel_left, sub-zero, zero-sub, suc-sub-suc, mul-zero}
@@ -22,15 +23,11 @@ pub both : (a b : Bool) → (a && b) ≡ true → (a ≡ true) × (b ≡ true)
 both true b e = (refl, e)
 both false b e = absurd (let z : ◌≡◌ {A = ℕ} 0 1 = cc in omega arith)
 
--- a zero passed
-pub zero-on : (l : List ℕ) (i : ℕ) → i < length l → get_or l i 0 ≡ 0 → all_zero (drop i l) ≡ all_zero (drop (i + 1) l)
+-- looked through from the left, as the iterator's method does
+pub all-zero : (l : List ℕ) → list_all (λ (n : ℕ). eqb n 0) l ≡ all_zero l
 unfolding all_zero
-zero-on l i h e = rw (add-one, drop-cons l i 0, e)
-
--- another byte met
-pub zero-off : (l : List ℕ) (i : ℕ) → i < length l → (get_or l i 0 ≡ 0 → ⊥) → all_zero (drop i l) ≡ false
-unfolding all_zero
-zero-off l i h e = rw (drop-cons l i 0, ne_eqb (get_or l i 0) 0 e)
+all-zero [] = refl
+all-zero (n ∷ l) = rw (all-zero l)
 
 pub length-words : (r : List ℕ) (n : ℕ) → length (record_words r n) ≡ n
 unfolding record_words

@@ -27,14 +27,7 @@ pub fn form64() -> Form
 pub fn all_zero(s: &[u8]) -> bool
     ensures { result ≡ all_zero s.now }
 {
-    let mut i = 0;
-    while i < s.len() {
-        if s[i] != 0 {
-            return false;
-        }
-        i += 1;
-    }
-    true
+    s.iter().all(|b| *b == 0)
 }
 
 fn wide(b: u8) -> usize
@@ -83,10 +76,8 @@ pub fn words(r: &[u8], out: &mut [u32])
     requires { 4 + 4 * length out.old ≤ length r.now }
     ensures { out.new ≡ record_words r.now (length out.old) }
 {
-    let mut i = 0;
-    while i < out.len() {
+    for i in 0..out.len() {
         out[i] = word(r, 4 + 4 * i);
-        i += 1;
     }
 }
 

@@ -1,5 +1,5 @@
 -- `fobby`: the reflectrix. A cell is the oblique frequency in kHz, cut to a whole number, for an angle of the scan and a row of the ionogram. The paper's refusal: 8 for over 40 angles or fewer than 30 cells an angle.
-use Rattle.std.specs.Prelude.{Bool, true, false, ◌&&◌, List, ℕ, zero, suc, ◌+◌, ◌*◌, leb, ℤ, length, set, Float}
+use Rattle.std.specs.Prelude.{Bool, true, false, ◌&&◌, Result, Ok, Err, List, ℕ, zero, suc, ◌+◌, ◌*◌, leb, ℤ, length, set, Float}
 use Rattle.scalar.specs.F32.{◌+f◌, ◌-f◌, ◌*f◌, ◌/f◌, at}
 use Rattle.scalar.specs.Literals.{f0_000001, f1, f1000}
 use Rattle.scalar.specs.Scalar.{max_of, trunc_of}
@@ -7,7 +7,6 @@ use Rattle.scalar.specs.Root.{sqrt_of}
 use Rattle.constants.specs.Constants.{D2R, RZ}
 use Rattle.waves.specs.SinCos.{cos_of}
 use Rattle.refusal.specs.declared.Refusal.{Refusal}
-use Rattle.refusal.specs.declared.Outcome.{Outcome}
 use Rattle.scan_angles.specs.Angles.{ANG}
 use Rattle.reflectrix.specs.declared.Ionogram.{Ionogram}
 
@@ -49,9 +48,9 @@ cells_by false ion nang cells = cells
 unfoldable pub cells_after : Ionogram → ℕ → List ℤ → List ℤ
 cells_after ion nang cells = cells_by (room_for nang cells) ion nang cells
 
-abbrev pub outcome_by : Bool → Outcome
-outcome_by true = Outcome.Answered
-outcome_by false = Outcome.Refused Refusal.Reflectrix
+abbrev pub outcome_by : Bool → Result (Unit {0}) Refusal
+outcome_by true = Ok tt
+outcome_by false = Err Refusal.Reflectrix
 
-unfoldable pub fobby_outcome : ℕ → List ℤ → Outcome
+unfoldable pub fobby_outcome : ℕ → List ℤ → Result (Unit {0}) Refusal
 fobby_outcome nang cells = outcome_by (room_for nang cells)

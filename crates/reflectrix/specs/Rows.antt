@@ -1,4 +1,4 @@
--- An ionogram whose every number is 0: what stands beside a refusal.
+-- An ionogram whose every number is 0: the rows of a slot that is not there.
 use Rattle.std.specs.Prelude.{replicate}
 use Rattle.scalar.specs.Literals.{f0}
 use Rattle.reflectrix.specs.declared.Ionogram.{Ionogram}

@@ -7,7 +7,6 @@ ghost use Rattle.std.specs.Prelude.{◌≡◌};
 ghost use Rattle.reflectrix.specs.Rows.{no_rows};
 
 pub use reflectrix::fobby;
-use refusal::Outcome;
 
 // The thirty rows, by columns.
 #[derive(Clone, Copy)]
@@ -24,7 +23,7 @@ pub struct Ionogram {
     pub segment: [u32; 30],
 }
 
-// Every number 0: what stands beside a refusal.
+// Every number 0: the rows of a slot that is not there.
 pub fn no_rows() -> Ionogram
     ensures { result ≡ no_rows }
 {
@@ -35,10 +34,4 @@ pub fn no_rows() -> Ionogram
         afac: [0.0; 30],
         segment: [0; 30],
     }
-}
-
-#[derive(Clone, Copy)]
-pub struct IonogramAnswer {
-    pub outcome: Outcome,
-    pub ion: Ionogram,
 }

@@ -9,7 +9,7 @@ ghost use Rattle.reflectrix.specs.Fobby.{angles_into, cells_after, fobby_outcome
 
 use crate::Ionogram;
 use constants::RZ;
-use refusal::{Outcome, Refusal};
+use refusal::Refusal;
 
 // The Earth's radius by the cosine of each angle of the scan.
 const RCOSD: [f32; 40] = [
@@ -43,10 +43,8 @@ fn angles(ion: Ionogram, nang: usize, cells: &mut [i32])
     requires { (nang ≤ 40) × (30 * nang ≤ length cells.old) }
     ensures { cells.new ≡ angles_into ion cells.old nang }
 {
-    let fvert = ion.fvert;
-    let htrue = ion.htrue;
-    let fv = cell_rows::padded(fvert);
-    let h = cell_rows::padded(htrue);
+    let fv = cell_rows::padded(ion.fvert);
+    let h = cell_rows::padded(ion.htrue);
     let r = radii(h);
     let low = cell_rows::lows(fv);
     let high = cell_rows::highs(fv);
@@ -55,16 +53,16 @@ fn angles(ion: Ionogram, nang: usize, cells: &mut [i32])
 }
 
 // Cells past the last angle stay; a refused call leaves every cell.
-pub fn fobby(ion: Ionogram, nang: usize, cells: &mut [i32]) -> Outcome
+pub fn fobby(ion: Ionogram, nang: usize, cells: &mut [i32]) -> Result<(), Refusal>
     ensures value { result ≡ fobby_outcome nang cells.old }
     ensures cells_after { cells.new ≡ cells_after ion nang cells.old }
 {
     if nang > 40 {
-        return Outcome::Refused(Refusal::Reflectrix);
+        return Err(Refusal::Reflectrix);
     }
     if cells.len() < 30 * nang {
-        return Outcome::Refused(Refusal::Reflectrix);
+        return Err(Refusal::Reflectrix);
     }
     angles(ion, nang, cells);
-    Outcome::Answered
+    Ok(())
 }

@@ -1,7 +1,6 @@
 -- The number that the paper's table "Where a call is turned away" gives each refusal, with the numbers that requests added.
-use Rattle.std.specs.Prelude.{false, ◌≡◌, ℕ, eqb}
+use Rattle.std.specs.Prelude.{false, ◌≡◌, ℕ, eqb, Result, Ok, Err}
 use Rattle.refusal.specs.declared.Refusal.{Refusal}
-use Rattle.refusal.specs.declared.Outcome.{Outcome}
 
 abbrev pub number_of : Refusal → ℕ
 number_of Refusal.Length = 1
@@ -29,7 +28,7 @@ number_of Refusal.SheetLength = 20
 abbrev pub NoAnswer : Type 0
 NoAnswer = (r : Refusal) → eqb (number_of r) 0 ≡ false
 
--- 0 for an answer
-abbrev pub outcome_number : Outcome → ℕ
-outcome_number Outcome.Answered = 0
-outcome_number (Outcome.Refused r) = number_of r
+-- the number of an answer that may be a refusal: 0 for one that is none
+abbrev pub answer_number : {T : Type 0} → Result T Refusal → ℕ
+answer_number (Ok _) = 0
+answer_number (Err r) = number_of r

@@ -8,7 +8,6 @@ use Rattle.lines.proofs.Sizes.{AtMost, ◌then◌, word, line-feed, times}
 use Rattle.aligned.specs.Ascii.{ascii}
 use Rattle.aligned.proofs.Widths.{right-most}
 use Rattle.shapes.specs.declared.Mark.{Mark}
-use Rattle.shapes.specs.declared.HeightMark.{HeightMark}
 use Rattle.mark_text.proofs.Lengths.{name}
 use Rattle.run_text.specs.RunText.{mark_at, begins_at, ends_at, start_text, end_text, run_text, runs_text}
 
@@ -22,6 +21,6 @@ unfolding end_text
 end true i m = right-most 2 (decimal_of (i + 1)) then word (ascii "  ") then name m then line-feed
 end false i m = record { most = omega arith }
 
-pub runs-most : (marks : List HeightMark) → AtMost (runs_text marks) 1100
+pub runs-most : (marks : List Mark) → AtMost (runs_text marks) 1100
 unfolding runs_text run_text
 runs-most marks = times (run_text marks) 22 50 (λ i h. start (begins_at marks i) i then end (ends_at marks i) i (mark_at marks i))

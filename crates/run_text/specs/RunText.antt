@@ -5,19 +5,18 @@ use Rattle.aligned.specs.Ascii.{ascii}
 use Rattle.aligned.specs.Aligned.{right}
 use Rattle.shapes.specs.Mark.{mark_number_of, name_of}
 use Rattle.shapes.specs.declared.Mark.{Mark}
-use Rattle.shapes.specs.declared.HeightMark.{HeightMark}
 use Rattle.mark_text.specs.MarkText.{no_mark}
 
-unfoldable pub mark_at : List HeightMark → ℕ → Mark
-mark_at marks i = (get_or marks i no_mark).mark
+unfoldable pub mark_at : List Mark → ℕ → Mark
+mark_at marks i = get_or marks i no_mark
 
 abbrev pub same_mark : Mark → Mark → Bool
 same_mark m n = eqb (mark_number_of m) (mark_number_of n)
 
-unfoldable pub begins_at : List HeightMark → ℕ → Bool
+unfoldable pub begins_at : List Mark → ℕ → Bool
 begins_at marks i = cond (eqb i 0) true (not (same_mark (mark_at marks (i - 1)) (mark_at marks i)))
 
-unfoldable pub ends_at : List HeightMark → ℕ → Bool
+unfoldable pub ends_at : List Mark → ℕ → Bool
 ends_at marks i = cond (eqb i 49) true (not (same_mark (mark_at marks i) (mark_at marks (i + 1))))
 
 unfoldable pub start_text : Bool → ℕ → List ℕ
@@ -28,8 +27,8 @@ unfoldable pub end_text : Bool → ℕ → Mark → List ℕ
 end_text true i m = right 2 (decimal_of (i + 1)) ++ (ascii "  " ++ (name_of m ++ (line_feed ∷ [])))
 end_text false i m = []
 
-unfoldable pub run_text : List HeightMark → ℕ → List ℕ
+unfoldable pub run_text : List Mark → ℕ → List ℕ
 run_text marks i = start_text (begins_at marks i) i ++ end_text (ends_at marks i) i (mark_at marks i)
 
-unfoldable pub runs_text : List HeightMark → List ℕ
+unfoldable pub runs_text : List Mark → List ℕ
 runs_text marks = joined (run_text marks) 50

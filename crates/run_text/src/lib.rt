@@ -5,49 +5,33 @@ ghost use Rattle.std.specs.Prelude.{◌≡◌, not, ◌<◌};
 ghost use Rattle.lines.specs.Text.{Clipped};
 ghost use Rattle.run_text.specs.RunText.{mark_at, same_mark, begins_at, ends_at, start_text, end_text, run_text, runs_text};
 
-use shapes::{HeightMark, Mark};
-
-fn mark_at(marks: [HeightMark; 50], i: usize) -> Mark
-    requires { i < 50 }
-    ensures { result ≡ mark_at marks i }
-{
-    let h = marks[i];
-    h.mark
-}
+use shapes::Mark;
 
 // Whether two heights have different marks.
-fn differ(marks: [HeightMark; 50], i: usize, j: usize) -> bool
+#[tactic(auto, unfolding(crate::specs::RunText::mark_at))]
+fn differ(marks: [Mark; 50], i: usize, j: usize) -> bool
     requires { (i < 50) × (j < 50) }
     ensures { result ≡ not (same_mark (mark_at marks i) (mark_at marks j)) }
 {
-    let one = shapes::number(mark_at(marks, i));
-    let other = shapes::number(mark_at(marks, j));
-    if one == other {
-        return false;
-    }
-    true
+    marks[i] != marks[j]
 }
 
 // Whether the height below has another mark, or none is below.
-fn begins_at(marks: [HeightMark; 50], i: usize) -> bool
+#[tactic(auto, unfolding(crate::specs::RunText::begins_at))]
+fn begins_at(marks: [Mark; 50], i: usize) -> bool
     requires { i < 50 }
     ensures { result ≡ begins_at marks i }
 {
-    if i == 0 {
-        return true;
-    }
-    differ(marks, i - 1, i)
+    i == 0 || differ(marks, i - 1, i)
 }
 
 // Whether the height above has another mark, or none is above.
-fn ends_at(marks: [HeightMark; 50], i: usize) -> bool
+#[tactic(auto, unfolding(crate::specs::RunText::ends_at))]
+fn ends_at(marks: [Mark; 50], i: usize) -> bool
     requires { i < 50 }
     ensures { result ≡ ends_at marks i }
 {
-    if i == 49 {
-        return true;
-    }
-    differ(marks, i, i + 1)
+    i == 49 || differ(marks, i, i + 1)
 }
 
 fn put_start(out: &mut [u8], at: usize, begins: bool, i: usize) -> usize
@@ -76,19 +60,19 @@ fn put_end(out: &mut [u8], at: usize, ends: bool, i: usize, m: Mark) -> usize
     at
 }
 
-fn put_run(out: &mut [u8], at: usize, marks: [HeightMark; 50], i: usize) -> usize
+fn put_run(out: &mut [u8], at: usize, marks: [Mark; 50], i: usize) -> usize
     requires { i < 50 }
     ensures { Clipped (run_text marks i) out.old at out.new result }
 {
     let begins = begins_at(marks, i);
     let ends = ends_at(marks, i);
-    let m = mark_at(marks, i);
+    let m = marks[i];
     let a = put_start(out, at, begins, i);
     put_end(out, a, ends, i, m)
 }
 
 // The runs of the fifty heights, from the lowest up.
-pub fn put_runs(out: &mut [u8], at: usize, marks: [HeightMark; 50]) -> usize
+pub fn put_runs(out: &mut [u8], at: usize, marks: [Mark; 50]) -> usize
     ensures { Clipped (runs_text marks) out.old at out.new result }
 {
     let mut e = at;

@@ -1,12 +1,10 @@
 -- The elevation angles of the scan, and `sang`: how many of them apply to a path. The paper's refusal: 7 where the truncated gcdkm / 2000 + 1 is below 1.
-use Rattle.std.specs.Prelude.{Bool, true, false, List, [], ◌∷◌, ℕ, zero, suc, ◌+◌, ◌-◌, eqb, ℤ, pos, nat_abs, get_or, Float}
+use Rattle.std.specs.Prelude.{Bool, true, false, cond, Option, None, Some, Result, Ok, Err, List, [], ◌∷◌, ℕ, zero, suc, ◌+◌, ◌-◌, eqb, ℤ, pos, nat_abs, get_or, Float}
 use Rattle.std.specs.Int.Signed.{lt_z}
 use Rattle.scalar.specs.F32.{◌+f◌, ◌-f◌, ◌/f◌, ◌<f◌, ◌>f◌, ◌≥f◌, at}
 use Rattle.scalar.specs.Literals.{f0, f0_5, f1, f2, f3, f4, f5, f6, f8, f8_5, f10, f12, f14, f16, f18, f20, f22, f24, f26, f28, f30, f32, f34, f36, f38, f40, f42, f44, f46, f48, f50, f52, f54, f56, f60, f65, f70, f75, f80, f85, f89_99, f2000}
 use Rattle.scalar.specs.Scalar.{trunc_of}
 use Rattle.refusal.specs.declared.Refusal.{Refusal}
-use Rattle.refusal.specs.Number.{number_of}
-use Rattle.scan_angles.specs.declared.Scan.{Scan}
 
 -- the elevation angles, degrees
 unfoldable pub ANG : List Float
@@ -28,6 +26,10 @@ distance_step_by false false n = nat_abs n
 unfoldable pub distance_step_of : Float → ℕ
 distance_step_of gcdkm = let n = trunc_of (gcdkm /f f2000 +f f1) in distance_step_by (lt_z n (pos 1)) (lt_z (pos 8) n) n
 
+-- a step that is not refused
+abbrev pub step_found : ℕ → Option ℕ
+step_found id = cond (eqb id 0) None (Some id)
+
 -- the first count whose last angle is at least 8.5 degrees above amind, searched from the angle i on, n angles being left; 40 where there is none
 abbrev pub raised_by : Bool → ℕ → ℕ → ℕ
 raised_by true iang next = iang
@@ -46,18 +48,14 @@ angle_count_by false _ amind iang = iang
 unfoldable pub angle_count_of : Float → ℕ → ℕ
 angle_count_of amind iang = angle_count_by (amind >f f0) (at ANG (iang - 1) -f f10 -f amind <f f0) amind iang
 
-abbrev pub scan_by : Bool → Float → ℕ → Scan
-scan_by true amind id = Scan.Refused Refusal.Distance
-scan_by false amind id = Scan.Angles (angle_count_of amind (get_or NANGX (id - 1) 0))
+abbrev pub scan_by : Bool → Float → ℕ → Result ℕ Refusal
+scan_by true amind id = Err Refusal.Distance
+scan_by false amind id = Ok (angle_count_of amind (get_or NANGX (id - 1) 0))
 
-unfoldable pub sang_of : Float → Float → Scan
+unfoldable pub sang_of : Float → Float → Result ℕ Refusal
 sang_of gcdkm amind = let id = distance_step_of gcdkm in scan_by (eqb id 0) amind id
 
--- the paper's number of each case, 0 for a count, and the count, 0 beside a refusal
-abbrev pub scan_number : Scan → ℕ
-scan_number (Scan.Angles n) = 0
-scan_number (Scan.Refused r) = number_of r
-
-abbrev pub scan_value : Scan → ℕ
-scan_value (Scan.Angles n) = n
-scan_value (Scan.Refused r) = 0
+-- the count, 0 beside a refusal
+abbrev pub scan_value : Result ℕ Refusal → ℕ
+scan_value (Ok n) = n
+scan_value (Err r) = 0

@@ -1,19 +1,13 @@
 // The elevation angles of the scan, degrees, and how many of them apply to a path.
 #![tactic(auto)]
 
-ghost use Rattle.std.specs.Prelude.{◌≡◌, ◌+◌, ◌-◌, ◌<◌, ◌≤◌, get_or};
-ghost use Rattle.scalar.specs.F32.{at};
+ghost use Rattle.std.specs.Prelude.{◌≡◌, ◌<◌, ◌≤◌, get_or, position, Float};
+ghost use Rattle.scalar.specs.F32.{◌-f◌, ◌≥f◌, at};
+ghost use Rattle.scalar.specs.Literals.{f0, f8_5};
 ghost use Rattle.scan_angles.specs.Angles;
-ghost use Rattle.scan_angles.specs.Angles.{distance_step_of, raised_from, angle_count_of, sang_of, scan_number, scan_value};
+ghost use Rattle.scan_angles.specs.Angles.{distance_step_of, step_found, raised_from, angle_count_of, sang_of};
 
 use refusal::Refusal;
-
-// How many of the scan's angles apply to a path.
-#[derive(Clone, Copy)]
-pub enum Scan {
-    Angles(usize),
-    Refused(Refusal),
-}
 
 const ANG: [f32; 40] = [
     0.0, 0.5, 1.0, 2.0, 3.0, 4.0, 5.0, 6.0, 8.0, 10.0, 12.0, 14.0, 16.0, 18.0, 20.0, 22.0, 24.0,
@@ -38,30 +32,32 @@ fn nangx(i: usize) -> usize
     NANGX[i]
 }
 
-// The step of 2000 km that the path lies in, from 1, and 8 for all beyond; 0 where there is none.
-fn step(gcdkm: f32) -> usize
-    ensures { result ≡ distance_step_of gcdkm }
+// The step of 2000 km that the path lies in, from 1, and 8 for all beyond.
+fn step(gcdkm: f32) -> Option<usize>
+    ensures { result ≡ step_found (distance_step_of gcdkm) }
 {
     let id = scalar::trunc(gcdkm / 2000.0 + 1.0);
     if id < 1 {
-        return 0;
+        return None;
     }
     if id > 8 {
-        return 8;
+        return Some(8);
     }
-    id as usize
+    Some(id as usize)
 }
 
-// The first count whose last angle is at least 8.5 degrees above the least takeoff angle.
+// The first place of an angle at least 8.5 degrees above the least takeoff angle.
+fn high_enough(angles: &[f32], amind: f32) -> Option<usize>
+    ensures { result ≡ position (λ (a : Float). a -f f8_5 -f amind ≥f f0) angles.now }
+{
+    angles.iter().position(|a| *a - 8.5 - amind >= 0.0)
+}
+
+// The first count whose last angle is that high.
 fn raised(amind: f32) -> usize
     ensures { result ≡ raised_from amind 40 0 }
 {
-    for i in 0..40 {
-        if angle(i) - 8.5 - amind >= 0.0 {
-            return i + 1;
-        }
-    }
-    40
+    high_enough(&ANG, amind).unwrap_or(39) + 1
 }
 
 // Counted again where the last angle is less than 10 degrees above a least takeoff angle above 0.
@@ -78,32 +74,10 @@ fn count(amind: f32, iang: usize) -> usize
     iang
 }
 
-pub fn sang(gcdkm: f32, amind: f32) -> Scan
+// How many of the scan's angles apply to a path.
+pub fn sang(gcdkm: f32, amind: f32) -> Result<usize, Refusal>
     ensures { result ≡ sang_of gcdkm amind }
 {
-    let id = step(gcdkm);
-    if id == 0 {
-        return Scan::Refused(Refusal::Distance);
-    }
-    Scan::Angles(count(amind, nangx(id - 1)))
-}
-
-// 0 for a count, else the refusal's number.
-pub fn scan_number(a: Scan) -> u32
-    ensures { result ≡ scan_number a }
-{
-    match a {
-        Scan::Angles(_) => 0,
-        Scan::Refused(r) => refusal::number(r),
-    }
-}
-
-// The count, 0 beside a refusal.
-pub fn scan_value(a: Scan) -> usize
-    ensures { result ≡ scan_value a }
-{
-    match a {
-        Scan::Angles(n) => n,
-        Scan::Refused(_) => 0,
-    }
+    let id = step(gcdkm).ok_or(Refusal::Distance)?;
+    Ok(count(amind, nangx(id - 1)))
 }

@@ -45,15 +45,13 @@ pub struct Candidates {
 }
 
 // The tail's densities, in a loop of their own: what is left of a density has no call.
-pub fn tails(c: Curves, htr: [f32; 50]) -> [f32; 50]
+pub fn tails(c: Curves, mut htr: [f32; 50]) -> [f32; 50]
     ensures { result ≡ map (fnd_of c) htr }
 {
-    let mut fnd = htr;
-    for ih in 0..50 {
-        let d = density::tail_density(c, htr[ih]);
-        fnd[ih] = d;
+    for h in &mut htr {
+        *h = density::tail_density(c, *h);
     }
-    fnd
+    htr
 }
 
 pub fn densities(c: Curves, htr: [f32; 50]) -> [f32; 50]

@@ -10,7 +10,6 @@ use Rattle.slot_curves.specs.declared.Slot.{Slot}
 use Rattle.shape_densities.specs.declared.Curves.{Curves}
 use Rattle.shape_densities.specs.declared.Candidates.{Candidates}
 use Rattle.shapes.specs.declared.Mark.{Mark}
-use Rattle.shapes.specs.declared.HeightMark.{HeightMark}
 
 unfoldable pub first_of : Candidates → Float → Mark
 first_of c density =
@@ -25,17 +24,14 @@ mark_of c h =
     let density = largest_of shapes in
     cond (density ==f f0) Mark.Gap (first_of shapes density)
 
-abbrev pub height_mark : Curves → Float → HeightMark
-height_mark c h = record { mark = mark_of c h }
-
 -- none at all fifty
-abbrev pub unmarked : List HeightMark
-unmarked = replicate 50 (record { mark = Mark.None })
+abbrev pub unmarked : List Mark
+unmarked = replicate 50 Mark.None
 
 -- a supplied profile was made of no shape
-abbrev pub marks_by : Bool → Slot → List HeightMark
+abbrev pub marks_by : Bool → Slot → List Mark
 marks_by true p = unmarked
-marks_by false p = map (height_mark (curves_for p)) (htr_of p)
+marks_by false p = map (mark_of (curves_for p)) (htr_of p)
 
-unfoldable pub marks_of : IonoState → ℕ → List HeightMark
+unfoldable pub marks_of : IonoState → ℕ → List Mark
 marks_of s k = marks_by (supplied_of s) (slot_at s k)

@@ -9,7 +9,7 @@ use Rattle.profile.specs.Lecden.{slot_at, lecden_of}
 use Rattle.slot_curves.specs.Draw.{curves_for}
 use Rattle.shape_densities.specs.declared.Curves.{Curves}
 use Rattle.shapes.specs.Mark.{mark_number_of}
-use Rattle.shapes.specs.Marks.{mark_of, height_mark, unmarked, marks_of}
+use Rattle.shapes.specs.Marks.{mark_of, unmarked, marks_of}
 use Rattle.shapes.specs.declared.Mark.{Mark}
 
 -- whether `lecden` works the shape out at h: the tests of the Rust's loop over the heights
@@ -61,4 +61,4 @@ pub record MarkRule (c : Curves) (h : Float) : Type 0 where
 pub record SlotMarks (s : IonoState) (k : ℕ) : Type 0 where
   pub supplied : s.ielect ≡ true → marks_of s k ≡ unmarked
   pub densities : s.ielect ≡ false → (lecden_of s k).fnsq ≡ map (density_of (curves_for (slot_at s k))) (lecden_of s k).htr
-  pub marks : s.ielect ≡ false → marks_of s k ≡ map (height_mark (curves_for (slot_at s k))) (lecden_of s k).htr
+  pub marks : s.ielect ≡ false → marks_of s k ≡ map (mark_of (curves_for (slot_at s k))) (lecden_of s k).htr

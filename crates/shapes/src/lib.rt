@@ -5,46 +5,34 @@
 ghost use Rattle.std.specs.Prelude.{◌≡◌, map, ◌<◌};
 ghost use Rattle.shape_densities.specs.Density.{fnd_of};
 ghost use Rattle.shapes.specs.Mark.{mark_number_of};
-ghost use Rattle.shapes.specs.Marks.{first_of, mark_of, height_mark, unmarked, marks_of};
+ghost use Rattle.shapes.specs.Marks.{first_of, mark_of, unmarked, marks_of};
 
 use layers::IonoState;
 use shape_densities::{Candidates, Curves};
 
-#[derive(Clone, Copy)]
+#[derive(Clone, Copy, Debug, PartialEq, Eq)]
 pub enum Mark {
     // of a supplied profile, and beside a refusal
-    None,
+    None = 0,
     // the exponential tail from the D region up to E
-    Tail,
+    Tail = 1,
     // E's parabola
-    E,
+    E = 2,
     // the straight line between E and F2
-    Valley,
+    Valley = 3,
     // F1, a parabola or a line
-    F1,
+    F1 = 4,
     // F2's parabola
-    F2,
+    F2 = 5,
     // where the density is zero
-    Gap,
+    Gap = 6,
 }
 
-// The mark of one height.
-#[derive(Clone, Copy)]
-pub struct HeightMark {
-    pub mark: Mark,
-}
+impl From<Mark> for u32 {
+    ghost from_gives = { λ m n. n ≡ mark_number_of m };
 
-pub fn number(m: Mark) -> u32
-    ensures { result ≡ mark_number_of m }
-{
-    match m {
-        Mark::None => 0,
-        Mark::Tail => 1,
-        Mark::E => 2,
-        Mark::Valley => 3,
-        Mark::F1 => 4,
-        Mark::F2 => 5,
-        Mark::Gap => 6,
+    fn from(m: Mark) -> u32 {
+        m as u32
     }
 }
 
@@ -79,27 +67,25 @@ fn mark_at(c: Curves, fnd: f32, h: f32) -> Mark
 }
 
 // Of no shape at all fifty heights.
-pub fn no_marks() -> [HeightMark; 50]
+pub fn no_marks() -> [Mark; 50]
     ensures { result ≡ unmarked }
 {
-    let none = HeightMark { mark: Mark::None };
-    [none; 50]
+    [Mark::None; 50]
 }
 
-fn marks_on(c: Curves, htr: [f32; 50]) -> [HeightMark; 50]
-    ensures { result ≡ map (height_mark c) htr }
+fn marks_on(c: Curves, htr: [f32; 50]) -> [Mark; 50]
+    ensures { result ≡ map (mark_of c) htr }
 {
     let fnd = shape_densities::tails(c, htr);
     let mut marks = no_marks();
     for ih in 0..50 {
-        let mark = mark_at(c, fnd[ih], htr[ih]);
-        marks[ih] = HeightMark { mark };
+        marks[ih] = mark_at(c, fnd[ih], htr[ih]);
     }
     marks
 }
 
 // Slot k as `lecden` is to find it: of a slot that it has prepared F1 may be another shape.
-pub fn marks_slot(s: IonoState, k: usize) -> [HeightMark; 50]
+pub fn marks_slot(s: IonoState, k: usize) -> [Mark; 50]
     requires { k < 3 }
     ensures { result ≡ marks_of s k }
 {

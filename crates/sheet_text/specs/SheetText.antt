@@ -1,6 +1,6 @@
 -- What `sheet` prints: the lines of an answered sheet; of a refused file only the refusal.
-use Rattle.std.specs.Prelude.{List, ℕ}
-use Rattle.refusal.specs.declared.Outcome.{Outcome}
+use Rattle.std.specs.Prelude.{List, length, ℕ, ◌≤◌, Result, Ok, Err, ⊤}
+use Rattle.refusal.specs.declared.Refusal.{Refusal}
 use Rattle.lines.specs.Text.{refused_text}
 use Rattle.circuit_sheet.specs.declared.Sheet.{Sheet}
 use Rattle.circuit_sheet.specs.CircuitSheet.{sheet_of}
@@ -8,9 +8,19 @@ unfoldable pub use Rattle.sheet_rows.specs.SheetRows.{row_line}
 unfoldable pub use Rattle.sheet_lines.specs.SheetLines.{muf_line, call_line, slot_line, slot_text, answered_text}
 pub use Rattle.sheet_lines.specs.SheetLines.{call_word, nothing, slot_text_at}
 
-abbrev pub sheet_text_by : Outcome → Sheet → List ℕ
-sheet_text_by Outcome.Answered s = answered_text s
-sheet_text_by (Outcome.Refused r) s = refused_text r
+abbrev pub sheet_text_by : Result Sheet Refusal → List ℕ
+sheet_text_by (Ok s) = answered_text s
+sheet_text_by (Err r) = refused_text r
 
 unfoldable pub sheet_text : List ℕ → List ℕ
-sheet_text f = let s = sheet_of f in sheet_text_by s.outcome s
+sheet_text f = sheet_text_by (sheet_of f)
+
+-- the length of a sheet's text, or the refusal
+abbrev pub text_length_by : Result Sheet Refusal → Result ℕ Refusal
+text_length_by (Ok s) = Ok (length (answered_text s))
+text_length_by (Err r) = Err r
+
+-- at most three slots
+abbrev pub SlotsFew : Result Sheet Refusal → Type 0
+SlotsFew (Ok s) = s.slots ≤ 3
+SlotsFew (Err r) = ⊤

@@ -5,8 +5,6 @@ ghost use Rattle.io.specs.Counts.{IsPrefixLen};
 ghost use Rattle.lines.specs.Text.{Put};
 ghost use Rattle.show_text.specs.ShowText.{show_text};
 
-use refusal::Outcome;
-
 // The bytes that a page is put into: one of three slots has room.
 pub const ROOM: usize = 9216;
 
@@ -15,10 +13,8 @@ pub fn show_text(file: &[u8], out: &mut [u8; ROOM]) -> usize
     ensures put { Put (show_text file.now) out.old 0 out.new result }
     ensures room { IsPrefixLen result out.new }
 {
-    let s = circuit_sheet::of_file(file);
-    let outcome = s.outcome;
-    match outcome {
-        Outcome::Answered => show_page::put_page(out, s),
-        Outcome::Refused(r) => show_page::put_refusal(out, r),
+    match circuit_sheet::of_file(file) {
+        Ok(s) => show_page::put_page(out, s),
+        Err(r) => show_page::put_refusal(out, r),
     }
 }

@@ -8,12 +8,6 @@ ghost use Rattle.std.specs.Prelude.{◌≤◌};
 use sheet_text::INPUT;
 use show_text::ROOM;
 
-fn length(low: u8, high: u8) -> usize
-    ensures { result ≤ 0xffff }
-{
-    low as usize + 256 * (high as usize)
-}
-
 // The page of the first n bytes.
 fn print(file: [u8; INPUT], n: usize) -> bool
     requires { n ≤ 4160 }
@@ -42,16 +36,14 @@ fn next_page() -> bool {
     if got < 2 {
         return false;
     }
-    page(length(head[0], head[1]))
+    page(usize::from(u16::from_le_bytes(head)))
 }
 
 // At most a hundred pages.
 fn main() {
-    let mut i = 0usize;
-    while i < 100 {
+    for _ in 0..100 {
         if !next_page() {
             return;
         }
-        i += 1;
     }
 }

@@ -10,6 +10,7 @@ fn fill(htr: [f32; 50], from: usize, n: usize, hdif: f32) -> [f32; 50]
     ensures { result ≡ filled htr from hdif n }
 {
     let mut l = htr;
+    // Stays: each place is made of the one before it.
     for k in 0..n {
         let i = from + k;
         let v = l[i] + hdif;

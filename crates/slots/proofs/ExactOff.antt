@@ -3,6 +3,7 @@ use mathlib.Core.Bool.{Bool, true, false}
 use mathlib.Core.List.{List}
 use mathlib.Core.Path.{◌≡◌, refl, ◌∙◌}
 use Prim.Native.Nat.{ℕ, zero, suc}
+use Rattle.layers.specs.State.{zero_state, state_after}
 use Rattle.slots.specs.FromLayers.{count_taken, point_set, points_set, empty_of, from_layers_by, from_layers_of}
 use Rattle.slots.specs.ExactOff.{ExactOff}
 use Rattle.layers.specs.declared.IonoState.{IonoState}
@@ -14,12 +15,12 @@ unfolding points_set point_set
 points s params zero = refl
 points s params (suc n) = points s params n
 
-by_count : (b : Bool) (params : List LayerParams) (count : ℕ) → (from_layers_by b params count).state.exact_virtual_height ≡ false
+by_count : (b : Bool) (params : List LayerParams) (count : ℕ) → (state_after zero_state (from_layers_by b params count)).exact_virtual_height ≡ false
 unfolding empty_of
 by_count true params count = points (empty_of count) params count
 by_count false params count = refl
 
-off : (params : List LayerParams) (count : ℕ) → (from_layers_of params count).state.exact_virtual_height ≡ false
+off : (params : List LayerParams) (count : ℕ) → (state_after zero_state (from_layers_of params count)).exact_virtual_height ≡ false
 unfolding from_layers_of
 off params count = by_count (count_taken count) params count
 

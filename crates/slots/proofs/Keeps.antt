@@ -8,7 +8,7 @@ use lib.ListN.{length, length-set}
 use lib.Ieee.{Float}
 use Rattle.scalar.specs.F32.{◌>f◌, at}
 use Rattle.scalar.specs.Literals.{f0}
-use Rattle.layers.specs.State.{with_tables, with_kfx}
+use Rattle.layers.specs.State.{with_tables, with_kfx, state_after}
 use Rattle.layers.specs.Owners.{disowned_by, disowned}
 use Rattle.slots.specs.FromLayers.{count_taken}
 use Rattle.slots.specs.Ionset.{layer_from, two_slots, three_slots, assigned_by, assigned_of, too_close, f1_kept_by, f1_by, f1_settled, f2_settled, slot_settled, slots_settled, ionset_by, ionset_of}
@@ -73,11 +73,11 @@ disowned-kept : (s : IonoState) → IonsetKept s (disowned s)
 unfolding disowned
 disowned-kept s = disowned-by s.ielect s refl
 
-ionset-by : (b : Bool) (s : IonoState) → IonsetKept s (ionset_by b s).state
+ionset-by : (b : Bool) (s : IonoState) → IonsetKept s (state_after s (ionset_by b s))
 unfolding assigned_of
 ionset-by true s = then (assigned-by (leb s.km 1) (leb s.km 3) s) (then (slots_kept _ _) (disowned-kept _))
 ionset-by false s = same s
 
-pub ionset-keeps : (s : IonoState) → IonsetKept s (ionset_of s).state
+pub ionset-keeps : (s : IonoState) → IonsetKept s (state_after s (ionset_of s))
 unfolding ionset_of
 ionset-keeps s = ionset-by (count_taken s.km) s

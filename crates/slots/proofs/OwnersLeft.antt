@@ -1,10 +1,11 @@
 -- `from_layers` starts from nobody's and writes the tables alone; `ionset` ends by `disowned`, which reads `ielect` as it came.
 use mathlib.Core.Bool.{Bool, true, false}
 use mathlib.Core.List.{List}
-use mathlib.Core.Path.{◌≡◌, refl, sym, ap, ◌∙◌}
+use mathlib.Core.Path.{◌≡◌, refl, sym, ap, subst, ◌∙◌}
+use Rattle.std.specs.Prelude.{Result, Ok}
+use Rattle.refusal.specs.declared.Refusal.{Refusal}
 use Prim.Native.Nat.{ℕ, zero, suc}
-use Rattle.refusal.specs.declared.Outcome.{Outcome}
-use Rattle.layers.specs.State.{with_owner}
+use Rattle.layers.specs.State.{zero_state, with_owner, state_after}
 use Rattle.layers.specs.Owners.{owner_by, owner_of, disowned_by, disowned}
 use Rattle.slots.specs.OwnersLeft.{LayersUnowned, IonsetDisowns}
 use Rattle.slots.specs.FromLayers.{count_taken, point_set, points_set, empty_of, from_layers_by, from_layers_of}
@@ -19,7 +20,7 @@ unfolding points_set point_set owner_of
 points-owner s params zero = refl
 points-owner s params (suc n) = points-owner s params n
 
-layers-by : (b : Bool) (params : List LayerParams) (count : ℕ) → owner_of (from_layers_by b params count).state ≡ Owner.None
+layers-by : (b : Bool) (params : List LayerParams) (count : ℕ) → owner_of (state_after zero_state (from_layers_by b params count)) ≡ Owner.None
 unfolding empty_of owner_of
 layers-by true params count = points-owner (empty_of count) params count
 layers-by false params count = refl
@@ -47,13 +48,16 @@ unfolding disowned
 disowned-owner s = disowned-owner-by s.ielect s refl
 
 -- `ionset` refuses, or is answered
-ionset-by : (b : Bool) (s : IonoState) → (ionset_by b s).outcome ≡ Outcome.Answered → owner_of (ionset_by b s).state ≡ owner_by (ionset_by b s).state.ielect Owner.None
-ionset-by true s e = disowned-owner (slots_settled (assigned_of s) (assigned_of s).kfx) ∙ ap (λ (i : Bool). owner_by i Owner.None) (sym (ap (λ (r : IonoState). r.ielect) (disowned-only (slots_settled (assigned_of s) (assigned_of s).kfx))))
-ionset-by false s e = cc
-
-ionset-so : (s : IonoState) → (ionset_of s).outcome ≡ Outcome.Answered → owner_of (ionset_of s).state ≡ owner_by (ionset_of s).state.ielect Owner.None
-unfolding ionset_of
-ionset-so s e = ionset-by (count_taken s.km) s e
+ionset-by : (b : Bool) (s t : IonoState) → ionset_by b s ≡ Ok t → owner_of t ≡ owner_by t.ielect Owner.None
+ionset-by true s t e =
+    let u = slots_settled (assigned_of s) (assigned_of s).kfx in
+    subst (λ (r : IonoState). owner_of r ≡ owner_by r.ielect Owner.None) (ap (state_after s) e)
+    (disowned-owner u ∙ ap (λ (i : Bool). owner_by i Owner.None) (sym (ap (λ (r : IonoState). r.ielect) (disowned-only u))))
+ionset-by false s t e = cc
 
 pub ionset-disowns : IonsetDisowns
-ionset-disowns s e = ionset-so s e ∙ ap (λ (i : Bool). owner_by i Owner.None) (ionset-keeps s).ielect-kept
+unfolding ionset_of
+ionset-disowns s t e =
+    ionset-by (count_taken s.km) s t e
+    ∙ ap (λ (i : Bool). owner_by i Owner.None)
+    (ap (λ (r : Result IonoState Refusal). (state_after s r).ielect) (sym e) ∙ (ionset-keeps s).ielect-kept)

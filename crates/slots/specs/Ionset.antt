@@ -1,15 +1,13 @@
 -- `ionset`: the points' layers assigned to one, two or three slots, then made to agree slot by slot; the profile, which is not these slots', is nobody's, unless it is supplied. The paper's refusal: 5 where the point count is not 1 to 5.
-use Rattle.std.specs.Prelude.{Bool, true, false, ℕ, zero, suc, ◌+◌, ◌*◌, leb, set}
+use Rattle.std.specs.Prelude.{Bool, true, false, ℕ, zero, suc, ◌+◌, ◌*◌, leb, set, Result, Ok, Err}
 use Rattle.scalar.specs.F32.{◌-f◌, ◌>f◌, at}
 use Rattle.scalar.specs.Literals.{f0, f2}
 use Rattle.scalar.specs.Scalar.{min_of}
 use Rattle.refusal.specs.declared.Refusal.{Refusal}
-use Rattle.refusal.specs.declared.Outcome.{Outcome}
 use Rattle.layers.specs.State.{with_tables, with_kfx}
 use Rattle.layers.specs.Owners.{disowned}
 use Rattle.slots.specs.FromLayers.{count_taken}
 use Rattle.layers.specs.declared.IonoState.{IonoState}
-use Rattle.layers.specs.declared.StateAnswer.{StateAnswer}
 unfoldable pub use Rattle.layer_rules.specs.Rules.{too_close}
 
 -- layer i of slot k from point p: `s.fi[k][i] = s.fi[p][i]`, and so for yi and hi
@@ -74,11 +72,11 @@ unfoldable pub slots_settled : IonoState → ℕ → IonoState
 slots_settled s zero = s
 slots_settled s (suc n) = slot_settled (slots_settled s n) n
 
-abbrev pub ionset_by : Bool → IonoState → StateAnswer
+abbrev pub ionset_by : Bool → IonoState → Result IonoState Refusal
 ionset_by true s =
     let t = assigned_of s in
-    record { outcome = Outcome.Answered; state = disowned (slots_settled t t.kfx) }
-ionset_by false s = record { outcome = Outcome.Refused Refusal.PointCount; state = s }
+    Ok (disowned (slots_settled t t.kfx))
+ionset_by false s = Err Refusal.PointCount
 
-unfoldable pub ionset_of : IonoState → StateAnswer
+unfoldable pub ionset_of : IonoState → Result IonoState Refusal
 ionset_of s = ionset_by (count_taken s.km) s

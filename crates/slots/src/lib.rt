@@ -5,8 +5,8 @@ ghost use Rattle.std.specs.Prelude.{◌≡◌, ◌<◌, ◌≤◌};
 ghost use Rattle.slots.specs.FromLayers.{point_set, points_set, empty_of, from_layers_of};
 ghost use Rattle.slots.specs.Ionset.{layer_from, two_slots, three_slots, assigned_of, f1_settled, f2_settled, slot_settled, slots_settled, ionset_of};
 
-use layers::{IonoState, LayerParams, StateAnswer};
-use refusal::{Outcome, Refusal};
+use layers::{IonoState, LayerParams};
+use refusal::Refusal;
 
 // `iedp` is -1, as the Fortran starts with: heights off the profile only.
 fn empty(n: usize) -> IonoState
@@ -22,18 +22,9 @@ fn set_point(mut s: IonoState, k: usize, p: LayerParams) -> IonoState
     requires { k < 5 }
     ensures { result ≡ point_set s k p }
 {
-    let fi = s.fi;
-    let yi = s.yi;
-    let hi = s.hi;
-    let f = p.fi;
-    let y = p.yi;
-    let h = p.hi;
-    let fi = layer_rules::set_row(fi, k, f);
-    let yi = layer_rules::set_row(yi, k, y);
-    let hi = layer_rules::set_row(hi, k, h);
-    s.fi = fi;
-    s.yi = yi;
-    s.hi = hi;
+    s.fi = layer_rules::set_row(s.fi, k, p.fi);
+    s.yi = layer_rules::set_row(s.yi, k, p.yi);
+    s.hi = layer_rules::set_row(s.hi, k, p.hi);
     s
 }
 
@@ -42,6 +33,7 @@ fn set_points(s: IonoState, params: [LayerParams; 5], n: usize) -> IonoState
     ensures { result ≡ points_set s params n }
 {
     let mut t = s;
+    // Stays: k is the point's row in the tables too.
     for k in 0..n {
         let p = params[k];
         t = set_point(t, k, p);
@@ -50,20 +42,13 @@ fn set_points(s: IonoState, params: [LayerParams; 5], n: usize) -> IonoState
 }
 
 // The state of the first `count` points; what stands past them is not read.
-pub fn from_layers(params: [LayerParams; 5], count: usize) -> StateAnswer
+pub fn from_layers(params: [LayerParams; 5], count: usize) -> Result<IonoState, Refusal>
     ensures { result ≡ from_layers_of params count }
 {
     if layer_rules::count_taken(count) {
-        let state = set_points(empty(count), params, count);
-        return StateAnswer {
-            outcome: Outcome::Answered,
-            state,
-        };
+        return Ok(set_points(empty(count), params, count));
     }
-    StateAnswer {
-        outcome: Outcome::Refused(Refusal::PointCount),
-        state: layers::zero_state(),
-    }
+    Err(Refusal::PointCount)
 }
 
 fn layer_from(mut s: IonoState, k: usize, p: usize, i: usize) -> IonoState
@@ -158,6 +143,7 @@ fn settle_slots(s: IonoState, n: usize) -> IonoState
     ensures { result ≡ slots_settled s n }
 {
     let mut t = s;
+    // Stays: k is the slot's number, and no list is read.
     for k in 0..n {
         t = settle_slot(t, k);
     }
@@ -166,20 +152,13 @@ fn settle_slots(s: IonoState, n: usize) -> IonoState
 
 // Of two slots or three, one at an end of the path has E and F1 from the point there and F2 from
 // the next point inward. Then the layers of each slot are made to agree.
-pub fn ionset(s: IonoState) -> StateAnswer
+pub fn ionset(s: IonoState) -> Result<IonoState, Refusal>
     ensures { result ≡ ionset_of s }
 {
     if layer_rules::count_taken(s.km) {
         let t = assign(s);
         let n = t.kfx;
-        let state = layers::owners::disown(settle_slots(t, n));
-        return StateAnswer {
-            outcome: Outcome::Answered,
-            state,
-        };
+        return Ok(layers::owners::disown(settle_slots(t, n)));
     }
-    StateAnswer {
-        outcome: Outcome::Refused(Refusal::PointCount),
-        state: s,
-    }
+    Err(Refusal::PointCount)
 }

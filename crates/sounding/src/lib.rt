@@ -2,11 +2,11 @@
 #![tactic(auto)]
 
 ghost use Rattle.std.specs.Prelude.{◌≡◌, ◌<◌};
-ghost use Rattle.sounding.specs.Genion.{fvert_at, genion_of, refused_rows, genion_answer};
+ghost use Rattle.sounding.specs.Genion.{fvert_at, genion_of, genion_answer};
 
 use layers::{IonoState, owners};
-use reflectrix::{Ionogram, IonogramAnswer};
-use refusal::{Outcome, Refusal};
+use reflectrix::Ionogram;
+use refusal::Refusal;
 
 fn fvert_at(s: IonoState, k: usize) -> [f32; 30]
     requires { k < 3 }
@@ -27,27 +27,15 @@ pub fn genion_slot(s: IonoState, k: usize) -> Ionogram
     sounding_rows::rows(s, k, fv)
 }
 
-fn refused(r: Refusal) -> IonogramAnswer
-    ensures { result ≡ refused_rows r }
-{
-    IonogramAnswer {
-        outcome: Outcome::Refused(r),
-        ion: reflectrix::no_rows(),
-    }
-}
-
 // The ionogram of a slot that the profile was made for, or of any slot off a supplied profile.
-pub fn genion(s: IonoState, k: usize) -> IonogramAnswer
+pub fn genion(s: IonoState, k: usize) -> Result<Ionogram, Refusal>
     ensures { result ≡ genion_answer s k }
 {
-    if k <= 2 {
-        if owners::owned_by(s, k) {
-            return IonogramAnswer {
-                outcome: Outcome::Answered,
-                ion: genion_slot(s, k),
-            };
-        }
-        return refused(Refusal::Owner);
+    if k > 2 {
+        return Err(Refusal::SlotNumber);
     }
-    refused(Refusal::SlotNumber)
+    if !owners::owned_by(s, k) {
+        return Err(Refusal::Owner);
+    }
+    Ok(genion_slot(s, k))
 }

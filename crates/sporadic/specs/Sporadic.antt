@@ -1,21 +1,19 @@
 -- The sporadic E section of `curmuf`: of the rows that reflect, the one with the lowest MUF controls. A row is `fs[0]`, `fs[1]`, `fs[2]` and `hs` of the Rust's `EsParams`.
-use Rattle.std.specs.Prelude.{Bool, true, false, List, ℕ, zero, suc, ◌+◌, ◌*◌, Float}
+use Rattle.refusal.specs.declared.Refusal.{Refusal}
+use Rattle.std.specs.Prelude.{Bool, true, false, List, ℕ, zero, suc, ◌+◌, ◌*◌, Float, Some, None, Result, Ok, Err}
 use Rattle.scalar.specs.F32.{◌+f◌, ◌-f◌, ◌*f◌, ◌/f◌, ◌≤f◌, ◌<f◌, ◌>f◌, ◌≥f◌, at}
 use Rattle.scalar.specs.Literals.{f0, f0_1, f0_5, f1, f1_28, f2, f3_1, f1000}
 use Rattle.scalar.specs.Scalar.{min_of}
 use Rattle.scalar.specs.Root.{sqrt_of}
 use Rattle.waves.specs.SinCos.{sin_of, cos_of}
 use Rattle.arcs.specs.Atan.{atan_of}
-use Rattle.refusal.specs.Number.{number_of}
 use Rattle.constants.specs.Constants.{RZ}
 use Rattle.hops.specs.Geometry.{hops_of}
-use Rattle.hops.specs.declared.Hops.{Hops}
 use Rattle.e_lines.specs.Lines.{layer_line_of, zero_line}
 use Rattle.layer_mufs.specs.declared.PathNumbers.{PathNumbers}
 use Rattle.sporadic.specs.declared.EsRow.{EsRow}
 use Rattle.sporadic.specs.declared.EsRay.{EsRay}
 use Rattle.sporadic.specs.declared.EsSearch.{EsSearch}
-use Rattle.sporadic.specs.declared.EsStep.{EsStep}
 use Rattle.sporadic.specs.declared.EsLine.{EsLine}
 
 unfoldable pub ray_of : Float → Float → Float → EsRay
@@ -37,44 +35,40 @@ taken_by false a k row ray hop esd =
 unfoldable pub taken_of : EsSearch → ℕ → EsRow → EsRay → Float → EsSearch
 taken_of a k row ray hop = let esd = row.fs1 *f ray.secp in taken_by (a.esmuf -f esd >f f0) a k row ray hop esd
 
-abbrev pub hop_by : Hops → EsSearch → ℕ → EsRow → PathNumbers → EsStep
-hop_by (Hops.Count hop) a k row c = EsStep.Next (taken_of a k row (ray_of row.hs hop c.gcd) hop)
-hop_by (Hops.Refused r) a k row c = EsStep.Refused r
+abbrev pub hop_by : Result Float Refusal → EsSearch → ℕ → EsRow → PathNumbers → Result EsSearch Refusal
+hop_by (Ok hop) a k row c = Ok (taken_of a k row (ray_of row.hs hop c.gcd) hop)
+hop_by (Err r) a k row c = Err r
 
 -- fs[1] <= 0: the row is passed over
-abbrev pub row_by : Bool → EsSearch → ℕ → EsRow → PathNumbers → EsStep
-row_by true a k row c = EsStep.Next a
+abbrev pub row_by : Bool → EsSearch → ℕ → EsRow → PathNumbers → Result EsSearch Refusal
+row_by true a k row c = Ok a
 row_by false a k row c = hop_by (hops_of c.gcdkm c.amind row.hs) a k row c
 
-unfoldable pub es_row_of : EsSearch → ℕ → EsRow → PathNumbers → EsStep
+unfoldable pub es_row_of : EsSearch → ℕ → EsRow → PathNumbers → Result EsSearch Refusal
 es_row_of a k row c = row_by (row.fs1 ≤f f0) a k row c
 
 unfoldable pub start_of : EsSearch
 start_of = record { esmuf = f1000; ksx = 0; tdelx = f0; secpx = f0; hop = f0; fs0 = f0; fs1 = f0; fs2 = f0; hs = f0 }
 
--- the paper's number of each case, 0 for a search, and the search, of +0 beside a refusal
-abbrev pub es_step_number : EsStep → ℕ
-es_step_number (EsStep.Next a) = 0
-es_step_number (EsStep.Refused r) = number_of r
-
+-- the search, of +0 beside a refusal
 abbrev pub no_search : EsSearch
 no_search = record { esmuf = f0; ksx = 0; tdelx = f0; secpx = f0; hop = f0; fs0 = f0; fs1 = f0; fs2 = f0; hs = f0 }
 
-abbrev pub step_value : EsStep → EsSearch
-step_value (EsStep.Next a) = a
-step_value (EsStep.Refused r) = no_search
+abbrev pub step_value : Result EsSearch Refusal → EsSearch
+step_value (Ok a) = a
+step_value (Err r) = no_search
 
 -- row k of a flat list
 abbrev pub row_at : List Float → ℕ → EsRow
 row_at es k = record { fs0 = at es (4 * k); fs1 = at es (4 * k + 1); fs2 = at es (4 * k + 2); hs = at es (4 * k + 3) }
 
-abbrev pub next_by : EsStep → (EsSearch → EsStep) → EsStep
-next_by (EsStep.Next b) rest = rest b
-next_by (EsStep.Refused r) rest = EsStep.Refused r
+abbrev pub next_by : Result EsSearch Refusal → (EsSearch → Result EsSearch Refusal) → Result EsSearch Refusal
+next_by (Ok b) rest = rest b
+next_by (Err r) rest = Err r
 
 -- n rows from row k on, in order
-unfoldable pub es_from : (ℕ → EsRow) → PathNumbers → ℕ → ℕ → EsSearch → EsStep
-es_from row c zero k a = EsStep.Next a
+unfoldable pub es_from : (ℕ → EsRow) → PathNumbers → ℕ → ℕ → EsSearch → Result EsSearch Refusal
+es_from row c zero k a = Ok a
 es_from row c (suc n) k a = next_by (es_row_of a k (row k) c) (λ b. es_from row c n (k + 1) b)
 
 -- xes + zdif < 0, xes - zdif < 0
@@ -86,7 +80,7 @@ sigl4_by false false xes sigb sigu4 = sigu4
 unfoldable pub sigl4_of : Float → Float → Float → Float
 sigl4_of xes sigb sigu4 = let zdif = f0_1 in sigl4_by (xes +f zdif <f f0) (xes -f zdif <f f0) xes sigb sigu4
 
--- fe is the Rust's s.fi[ks][0]; `lower` is what it writes to es[ksx].fs[0]
+-- fe is the Rust's s.fi[ks][0]; `rewrite` is what it writes to es[ksx].fs[0]
 unfoldable pub es_found_of : EsSearch → Float → EsLine
 es_found_of a fe =
     let sigu4 = (a.fs2 -f a.fs1) /f f1_28 in
@@ -97,13 +91,12 @@ es_found_of a fe =
     let sigl4 = min_of (sigl4_of xes sigb sigu4) sigz in
     record {
       line = layer_line_of (sigl4 *f a.secpx) (sigu4 *f a.secpx) (atan_of a.tdelx) a.hs a.hs a.fs1 a.hop a.esmuf;
-      rewrites = true;
-      lower = a.fs1 -f f1_28 *f sigl4;
+      rewrite = Some (record { ksx = a.ksx; lower = a.fs1 -f f1_28 *f sigl4 });
     }
 
 -- esmuf - 1000 >= 0, the start's MUF: no row controls
 abbrev pub es_line_by : Bool → EsSearch → Float → EsLine
-es_line_by true a fe = record { line = zero_line; rewrites = false; lower = f0 }
+es_line_by true a fe = record { line = zero_line; rewrite = None }
 es_line_by false a fe = es_found_of a fe
 
 unfoldable pub es_line_of : EsSearch → Float → EsLine

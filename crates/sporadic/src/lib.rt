@@ -6,7 +6,6 @@ ghost use Rattle.sporadic.specs.Sporadic.{ray_of, taken_of, es_row_of, start_of,
 ghost use Rattle.sporadic.specs.Says.{RowSays, RowsSay};
 
 use constants::RZ;
-use hops::Hops;
 use layer_mufs::PathNumbers;
 use layers::LayerMuf;
 use refusal::Refusal;
@@ -42,18 +41,18 @@ pub struct EsSearch {
     pub hs: f32,
 }
 
-#[derive(Drop)]
-pub enum EsStep {
-    Next(EsSearch),
-    Refused(Refusal),
+// The row whose lower decile is written anew, and that decile.
+#[derive(Clone, Copy)]
+pub struct Rewrite {
+    pub ksx: usize,
+    pub lower: f32,
 }
 
-// The Es line, and the lower decile that is written into its row if one controls.
-#[derive(Drop)]
+// The Es line, and what is written into its row if one controls.
+#[derive(Clone, Copy)]
 pub struct EsLine {
     pub line: LayerMuf,
-    pub rewrites: bool,
-    pub lower: f32,
+    pub rewrite: Option<Rewrite>,
 }
 
 pub fn es_ray(hs: f32, hop: f32, gcd: f32) -> EsRay
@@ -99,22 +98,16 @@ fn es_taken(a: EsSearch, k: usize, row: EsRow, ray: EsRay, hop: f32) -> EsSearch
 }
 
 // One row's turn: passed over where its median is at most 0.
-pub fn es_row(a: EsSearch, k: usize, row: EsRow, c: PathNumbers) -> EsStep
+pub fn es_row(a: EsSearch, k: usize, row: EsRow, c: PathNumbers) -> Result<EsSearch, Refusal>
     ensures value { result ≡ es_row_of a k row c }
     ensures row_says { RowSays result a k row c }
 {
     if row.fs1 <= 0.0 {
-        return EsStep::Next(a);
+        return Ok(a);
     }
-    let count = hops::hop_count(c.gcdkm, c.amind, row.hs);
-    match count {
-        Hops::Refused(r) => EsStep::Refused(r),
-        Hops::Count(hop) => {
-            let ray = es_ray(row.hs, hop, c.gcd);
-            let b = es_taken(a, k, row, ray, hop);
-            EsStep::Next(b)
-        }
-    }
+    let hop = hops::hop_count(c.gcdkm, c.amind, row.hs)?;
+    let ray = es_ray(row.hs, hop, c.gcd);
+    Ok(es_taken(a, k, row, ray, hop))
 }
 
 // No row controls yet.
@@ -151,25 +144,16 @@ fn flat_row(es: &[f32], k: usize) -> EsRow
 }
 
 // The first n rows, in order.
-pub fn es_rows(es: &[f32], n: usize, c: PathNumbers) -> EsStep
+pub fn es_rows(es: &[f32], n: usize, c: PathNumbers) -> Result<EsSearch, Refusal>
     requires { 4 * n ≤ length es.now }
     ensures value { result ≡ es_from (row_at es.now) c n 0 start_of }
     ensures rows_say { RowsSay result (row_at es.now) c n 0 start_of }
 {
     let mut a = es_start();
     for k in 0..n {
-        let row = flat_row(es, k);
-        let step = es_row(a, k, row, c);
-        match step {
-            EsStep::Refused(r) => {
-                return EsStep::Refused(r);
-            }
-            EsStep::Next(b) => {
-                a = b;
-            }
-        }
+        a = es_row(a, k, flat_row(es, k), c)?;
     }
-    EsStep::Next(a)
+    Ok(a)
 }
 
 // The spread below the median, by where the lower decile stands to the regular E: over 0.1 MHz
@@ -211,8 +195,7 @@ fn es_found(a: EsSearch, fe: f32) -> EsLine
     );
     EsLine {
         line,
-        rewrites: true,
-        lower,
+        rewrite: Some(Rewrite { ksx: a.ksx, lower }),
     }
 }
 
@@ -223,8 +206,7 @@ pub fn es_line(a: EsSearch, fe: f32) -> EsLine
         let line = e_lines::zero_line();
         return EsLine {
             line,
-            rewrites: false,
-            lower: 0.0,
+            rewrite: None,
         };
     }
     es_found(a, fe)

@@ -1,6 +1,8 @@
 -- The paper's marked trials as one table: what is tried, and the answer. Numbers stand as the paper writes them: `decimal 3125 3` is the f32 nearest to 3.125.
-use Rattle.std.specs.Prelude.{List, [], ◌∷◌, ◌≡◌, ℕ, zero, suc, ℤ, pos, replicate, Float}
+use Rattle.std.specs.Prelude.{List, [], ◌∷◌, ◌≡◌, ℕ, ℤ, pos, replicate, Float, Result, Ok, Err}
 use Rattle.std.specs.Float.{nan}
+use Rattle.refusal.specs.Number.{number_of}
+use Rattle.refusal.specs.declared.Refusal.{Refusal}
 use Rattle.scalar.specs.F32.{negf, at}
 use Rattle.scalar.specs.Literals.{f0, f1, f10, f50, decimal}
 use Rattle.scalar.specs.Scalar.{trunc_of}
@@ -8,8 +10,8 @@ use Rattle.scalar.specs.Root.{sqrt_of}
 use Rattle.layers.specs.declared.LayerParams.{LayerParams}
 use Rattle.slots.specs.FromLayers.{from_layers_of}
 use Rattle.slots.specs.Ionset.{ionset_of}
-use Rattle.deciles.specs.F2dis.{icc_of, f2dis_of, deviation_number}
-use Rattle.scan_angles.specs.Angles.{sang_of, scan_number, scan_value}
+use Rattle.deciles.specs.F2dis.{icc_of, f2dis_of}
+use Rattle.scan_angles.specs.Angles.{sang_of}
 
 pub data Trial : Type 0 where
   -- `sang` at gcdkm and amind
@@ -21,35 +23,34 @@ pub data Trial : Type 0 where
   -- the F1 that `ionset` leaves of E, F1 and F2
   kept_f1 : Float → Float → Float → Trial
 
-pub data Result : Type 0 where
-  count : ℕ → Result
-  refused : ℕ → Result
-  whole : ℤ → Result
-  number : Float → Result
+pub data TrialAnswer : Type 0 where
+  count : ℕ → TrialAnswer
+  refused : ℕ → TrialAnswer
+  whole : ℤ → TrialAnswer
+  number : Float → TrialAnswer
 
--- the paper's number, 0 for an answer, and the count
-abbrev pub result_by : ℕ → ℕ → Result
-result_by zero n = count n
-result_by (suc r) n = refused (suc r)
+-- what is answered, or the refusal by the paper's number
+abbrev pub answer_by : {A : Type 0} → (A → TrialAnswer) → Result A Refusal → TrialAnswer
+answer_by f (Ok a) = f a
+answer_by f (Err r) = refused (number_of r)
 
 abbrev pub starred_point : Float → Float → Float → LayerParams
 starred_point e one two = record { fi = e ∷ one ∷ two ∷ []; yi = replicate 3 f0; hi = replicate 3 f0 }
 
-unfoldable pub result_of : Trial → Result
-result_of (sang gcdkm amind) = let a = sang_of gcdkm amind in result_by (scan_number a) (scan_value a)
+unfoldable pub result_of : Trial → TrialAnswer
+result_of (sang gcdkm amind) = answer_by count (sang_of gcdkm amind)
 result_of (truncation x) = whole (trunc_of x)
 result_of (root x) = number (sqrt_of x)
-result_of (block clck) = result_by (deviation_number (f2dis_of (replicate 576 f1) f10 f50 f0 f10 clck)) (icc_of clck)
+result_of (block clck) = answer_by (λ _. count (icc_of clck)) (f2dis_of (replicate 576 f1) f10 f50 f0 f10 clck)
 result_of (kept_f1 e one two) =
-    let slots = (ionset_of (from_layers_of (starred_point e one two ∷ []) 1).state).state in
-    number (at slots.fi 1)
+    answer_by (λ made. answer_by (λ slots. number (at slots.fi 1)) (ionset_of made)) (from_layers_of (starred_point e one two ∷ []) 1)
 
 pub record StarredRow : Type 0 where
   pub trial : Trial
-  pub paper : Result
+  pub paper : TrialAnswer
 
 infix 20 ◌gives◌
-abbrev pub ◌gives◌ : Trial → Result → StarredRow
+abbrev pub ◌gives◌ : Trial → TrialAnswer → StarredRow
 t gives r = record { trial = t; paper = r }
 
 abbrev pub km : ℕ → Float

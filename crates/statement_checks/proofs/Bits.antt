@@ -3,6 +3,8 @@ use mathlib.Core.List.{List, [], ◌∷◌}
 use mathlib.Core.Path.{◌≡◌, refl, ap, ap₂}
 use Prim.Native.Nat.{ℕ}
 use lib.Ieee.{Float}
+use Rattle.std.specs.Prelude.{Result, Ok, Err, IfOk}
+use Rattle.refusal.specs.declared.Refusal.{Refusal}
 use Rattle.scalar.specs.F32.{at}
 use Rattle.same.specs.Same.{AllF32, SameAll}
 use Rattle.same.proofs.Same.{same-is-equal}
@@ -12,9 +14,9 @@ use Rattle.layers.specs.declared.EsParams.{EsParams}
 use Rattle.slot_curves.specs.declared.Slot.{Slot}
 use Rattle.reflectrix.specs.declared.Ionogram.{Ionogram}
 use Rattle.muf.specs.declared.MufHour.{MufHour}
-use Rattle.call_lists.specs.Calls.{EsRows, flat, records, Answer, of_muf, of_sheet, of_nominal}
+use Rattle.call_lists.specs.Calls.{EsRows, flat, records, SlotRows, Answer, of_muf, of_sheet, of_nominal}
 use Rattle.call_lists.specs.Lists.{Every}
-use Rattle.call_lists.specs.SameLists.{Pairwise, SameLine, SameHour, SameRecord, SameEs, SameRows, SameAnswer, SameSlot, SameState}
+use Rattle.call_lists.specs.SameLists.{Pairwise, SameLine, SameHour, SameRecord, SameEs, SameRows, SameSlotRows, SameResult, SameAnswer, SameSlot, SameState}
 use Rattle.statement_checks.specs.Bits.{LineF32, HourF32, RecordF32, EsF32, RowsF32, AnswerF32, SlotF32, StateF32, BitsAreAll}
 
 -- ---- lists
@@ -66,19 +68,29 @@ rows-equal i j p q t =
 
 -- ---- answers, slots, states
 
+slot-rows-equal : (a b : SlotRows) → RowsF32 a.ion → RowsF32 b.ion → SameSlotRows a b → a ≡ b
+slot-rows-equal a b p q t = let ion = rows-equal a.ion b.ion p q t.0 in λ i. record { ion = ion i; marks = t.1 i }
+
+result-equal : {A : Type 0} (F : A → Type 0) (R : A → A → Type 0) → ((x y : A) → F x → F y → R x y → x ≡ y) → (a b : Result A Refusal) → IfOk a F → IfOk b F → SameResult R a b → a ≡ b
+result-equal F R h (Ok x) (Ok y) p q t = ap Ok (h x y p q t)
+result-equal F R h (Ok x) (Err r) p q t = absurd t
+result-equal F R h (Err r) (Ok y) p q t = absurd t
+result-equal F R h (Err q) (Err r) p u t = ap Err t
+
 answer-equal : (a b : Answer) → AnswerF32 a → AnswerF32 b → SameAnswer a b → a ≡ b
-answer-equal (of_muf o h es) (of_muf u g ds) p q t =
-    let hour = hour-equal h g p.0 q.0 t.1 in
-    let rows = es-equal es ds p.1 q.1 t.2 in
-    λ i. of_muf (t.0 i) (hour i) (rows i)
-answer-equal (of_muf o h es) (of_sheet u j n ds) p q t = absurd t
-answer-equal (of_muf o h es) (of_nominal u g) p q t = absurd t
-answer-equal (of_sheet o k m cs) (of_muf u g ds) p q t = absurd t
-answer-equal (of_sheet o k m cs) (of_sheet u j n ds) p q t = let rows = rows-equal k j p q t.1 in λ i. of_sheet (t.0 i) (rows i) (t.2 i) (t.3 i)
-answer-equal (of_sheet o k m cs) (of_nominal u g) p q t = absurd t
-answer-equal (of_nominal o h) (of_muf u g ds) p q t = absurd t
-answer-equal (of_nominal o h) (of_sheet u j n ds) p q t = absurd t
-answer-equal (of_nominal o h) (of_nominal u g) p q t = let hour = hour-equal h g p q t.1 in λ i. of_nominal (t.0 i) (hour i)
+answer-equal (of_muf h es) (of_muf g ds) p q t =
+    let hour = result-equal HourF32 SameHour hour-equal h g p.0 q.0 t.0 in
+    let rows = es-equal es ds p.1 q.1 t.1 in
+    λ i. of_muf (hour i) (rows i)
+answer-equal (of_muf h es) (of_sheet j ds) p q t = absurd t
+answer-equal (of_muf h es) (of_nominal g) p q t = absurd t
+answer-equal (of_sheet k cs) (of_muf g ds) p q t = absurd t
+answer-equal (of_sheet k cs) (of_sheet j ds) p q t =
+    let rows = result-equal (λ (r : SlotRows). RowsF32 r.ion) SameSlotRows slot-rows-equal k j p q t.0 in λ i. of_sheet (rows i) (t.1 i)
+answer-equal (of_sheet k cs) (of_nominal g) p q t = absurd t
+answer-equal (of_nominal h) (of_muf g ds) p q t = absurd t
+answer-equal (of_nominal h) (of_sheet j ds) p q t = absurd t
+answer-equal (of_nominal h) (of_nominal g) p q t = ap of_nominal (result-equal HourF32 SameHour hour-equal h g p q t)
 
 slot-equal : (p q : Slot) → SlotF32 p → SlotF32 q → SameSlot p q → p ≡ q
 slot-equal p q f g t =

@@ -12,7 +12,7 @@ pub files-as-read : FilesAsRead
 files-as-read =
     record {
       every-fit = λ size first extra p q r. (p, omega arith, omega arith);
-      room = λ text out e h. let room = le_of_eq (sym h) in (text-written text out e room, text-read-back text out e room);
+      room = λ text out c e h. let room = le_of_eq (sym h) in (text-written text out c e room, text-read-back text out c e room);
       decided = λ input. marking-laws.decided input (4 + 64 * 64 + 49153) (le_refl _);
       return = refl;
     }

@@ -1,7 +1,7 @@
 -- Along the list.
 use mathlib.Core.Bool.{Bool, true, false, ◌&&◌}
 use mathlib.Core.List.{List, [], ◌∷◌}
-use mathlib.Core.Option.{some}
+use Rattle.std.specs.Prelude.{Some}
 use mathlib.Core.Path.{◌≡◌, refl, sym, ap, ◌∙◌}
 use Prim.Native.Nat.{ℕ, ◌+◌, ◌≤◌}
 use native.Mathlib.Omega.{arith}
@@ -66,7 +66,7 @@ one_of j k i true false a b p q h = let z = one-most a in omega arith
 one_of j k i false true a b p q h = let z = one-most b in omega arith
 one_of j k i false false a b p q h = omega arith
 
-muf-and-sheet : (s : IonoState) (es : EsRows) (f2d clat clck : List Float) (c : PathNumbers) (k nang : ℕ) (layers : List LayerMuf) (cells : List ℤ) → (picked_slot s (a_muf es f2d clat clck c) ≡ some k → ⊥) → InWords s (a_muf es f2d clat clck c ∷ (a_sheet k nang layers cells ∷ []))
+muf-and-sheet : (s : IonoState) (es : EsRows) (f2d clat clck : List Float) (c : PathNumbers) (k nang : ℕ) (layers : List LayerMuf) (cells : List ℤ) → (picked_slot s (a_muf es f2d clat clck c) ≡ Some k → ⊥) → InWords s (a_muf es f2d clat clck c ∷ (a_sheet k nang layers cells ∷ []))
 unfolding mufs_in sheets_in
 muf-and-sheet s es f2d clat clck c k nang layers cells h =
     let a = answered s (a_sheet k nang layers cells) in
@@ -74,7 +74,7 @@ muf-and-sheet s es f2d clat clck c k nang layers cells h =
       one-muf = omega arith;
       one-sheet = λ i. let z = one-most (eqb k i && a) in omega arith;
       none-of-its-pick = (
-        λ e i p. let z = other k i (eqb k i) a refl (λ (d : k ≡ i). h (p ∙ ap some (sym d))) in omega arith,
+        λ e i p. let z = other k i (eqb k i) a refl (λ (d : k ≡ i). h (p ∙ ap Some (sym d))) in omega arith,
         (λ e i p. absurd (false-true e), tt),
       );
     }

@@ -1,5 +1,5 @@
 -- What is said of answers, slots and states by bits is all of them: where their numbers are f32, the same ones are equal.
-use Rattle.std.specs.Prelude.{List, [], ◌∷◌, ◌≡◌}
+use Rattle.std.specs.Prelude.{List, [], ◌∷◌, ◌≡◌, IfOk}
 use Rattle.same.specs.Same.{AllF32}
 use Rattle.layers.specs.declared.IonoState.{IonoState}
 use Rattle.layers.specs.declared.LayerMuf.{LayerMuf}
@@ -33,10 +33,11 @@ pub record RowsF32 (i : Ionogram) : Type 0 where
   pub htrue : AllF32 i.htrue
   pub afac : AllF32 i.afac
 
+-- where it is answered; beside a refusal there is no number
 abbrev pub AnswerF32 : Answer → Type 0
-AnswerF32 (of_muf o h es) = HourF32 h × EsF32 es
-AnswerF32 (of_sheet o i marks cells) = RowsF32 i
-AnswerF32 (of_nominal o h) = HourF32 h
+AnswerF32 (of_muf h es) = IfOk h HourF32 × EsF32 es
+AnswerF32 (of_sheet a cells) = IfOk a (λ r. RowsF32 r.ion)
+AnswerF32 (of_nominal h) = IfOk h HourF32
 
 abbrev pub SlotF32 : Slot → Type 0
 SlotF32 p = AllF32 (p.fi0 ∷ p.fi1 ∷ p.fi2 ∷ p.yi0 ∷ p.yi1 ∷ p.yi2 ∷ p.hi0 ∷ p.hi1 ∷ p.hi2 ∷ p.fsec ∷ [])

@@ -3,7 +3,7 @@ use Rattle.std.specs.Prelude.{Bool, true, ◌&&◌, List, [], ◌∷◌, ◌≡�
 use Rattle.scalar.specs.F32.{◌<f◌, negf}
 use Rattle.scalar.specs.Literals.{Literal, is, literals, f1}
 use Rattle.nominal_factors.specs.Coefficients.{coefficients}
-use Rattle.starred.specs.Starred.{Trial, Result, StarredRow, ◌gives◌, result_of, Holds}
+use Rattle.starred.specs.Starred.{Trial, TrialAnswer, StarredRow, ◌gives◌, result_of, Holds}
 
 -- each literal is above the one before it, the first above x: so none stands twice
 abbrev pub climbs : Float → List Literal → Bool
@@ -22,6 +22,6 @@ pub record LiteralsListed : Type 0 where
 
 -- what `starred-trials` holds of: the trial and the paper's result as written, and that the one gives the other
 pub record TrialsListed : Type 0 where
-  pub trial : (t : Trial) (r : Result) → (t gives r).trial ≡ t
-  pub paper : (t : Trial) (r : Result) → (t gives r).paper ≡ r
-  pub holds : (t : Trial) (r : Result) (rows : List StarredRow) → Holds ((t gives r) ∷ rows) → (result_of t ≡ r) × Holds rows
+  pub trial : (t : Trial) (r : TrialAnswer) → (t gives r).trial ≡ t
+  pub paper : (t : Trial) (r : TrialAnswer) → (t gives r).paper ≡ r
+  pub holds : (t : Trial) (r : TrialAnswer) (rows : List StarredRow) → Holds ((t gives r) ∷ rows) → (result_of t ≡ r) × Holds rows

@@ -1,6 +1,5 @@
 -- Lists of calls in the paper's words, and the mark in place of refusal 13.
-use Rattle.std.specs.Prelude.{true, false, ◌||◌, List, [], ◌∷◌, ◌≡◌, ℕ, ℤ, Float}
-use Rattle.std.proofs.Math.Option.{some}
+use Rattle.std.specs.Prelude.{true, false, ◌||◌, List, [], ◌∷◌, ◌≡◌, ℕ, ℤ, Float, Some}
 use Rattle.scalar.specs.F32.{◌<f◌, ◌>f◌, negf}
 use Rattle.scalar.specs.Literals.{f4}
 use Rattle.layers.specs.declared.IonoState.{IonoState}
@@ -21,7 +20,7 @@ pub record WordsAsRead : Type 0 where
       → answered s (a_sheet k nang layers cells) ≡ false → InWords s calls → InWords s (a_sheet k nang layers cells ∷ calls)
   -- a MUF and a sheet of a slot that it does not pick, and sheets of two slots
   pub muf-and-sheet : (s : IonoState) (es : EsRows) (f2d clat clck : List Float) (c : PathNumbers) (k nang : ℕ) (layers : List LayerMuf) (cells : List ℤ)
-      → (picked_slot s (a_muf es f2d clat clck c) ≡ some k → ⊥) → InWords s (a_muf es f2d clat clck c ∷ (a_sheet k nang layers cells ∷ []))
+      → (picked_slot s (a_muf es f2d clat clck c) ≡ Some k → ⊥) → InWords s (a_muf es f2d clat clck c ∷ (a_sheet k nang layers cells ∷ []))
   pub two-sheets : (s : IonoState) (j k m n : ℕ) (layers lines : List LayerMuf) (cells rows : List ℤ)
       → (j ≡ k → ⊥) → InWords s (a_sheet j m layers cells ∷ (a_sheet k n lines rows ∷ []))
 

@@ -36,6 +36,7 @@ fn put_up(out: &mut [u8], at: usize, km: u64) -> usize
     lines::put_word(out, f, b"</text>\n")
 }
 
+// Stays: two loops, since a closure over the lent text would need a promise longer than the loop that it spares.
 fn put_frequencies(out: &mut [u8], at: usize) -> usize
     ensures { Clipped (joined across_at 7) out.old at out.new result }
 {

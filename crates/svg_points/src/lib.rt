@@ -4,11 +4,11 @@
 ghost use Rattle.std.specs.Prelude.{◌≡◌};
 ghost use Rattle.svg_points.specs.Points.{units_of, point_drawn_of};
 
-// A point of the frame, by its units from the left and from the top of the panel, or none.
-#[derive(Clone, Copy)]
-pub enum Drawn {
-    At(u64, u64),
-    Nowhere,
+// A point of the frame, by its units from the left and from the top of the panel.
+#[derive(Clone, Copy, Debug, PartialEq, Eq)]
+pub struct Place {
+    pub x: u64,
+    pub y: u64,
 }
 
 // A number's place on an axis with k units for each one of it; 2^32 where it is below zero, no number or
@@ -22,17 +22,17 @@ fn units(v: f32, k: u32) -> u64
     figures::times(v, k)
 }
 
-// The point of a frequency in MHz and a height in km.
-pub fn point(f: f32, h: f32) -> Drawn
+// The point of a frequency in MHz and a height in km, where it is in the frame.
+pub fn point(f: f32, h: f32) -> Option<Place>
     ensures { result ≡ point_drawn_of f h }
 {
     let x = units(f, 190);
     let y = units(h, 5);
-    if x > 5700 {
-        return Drawn::Nowhere;
+    if x > 5700 || y > 3000 {
+        return None;
     }
-    if y > 3000 {
-        return Drawn::Nowhere;
-    }
-    Drawn::At(700 + x, 3500 - y)
+    Some(Place {
+        x: 700 + x,
+        y: 3500 - y,
+    })
 }

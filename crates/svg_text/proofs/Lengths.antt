@@ -3,13 +3,14 @@ use mathlib.Core.Path.{refl}
 use Prim.Native.Nat.{ℕ}
 use native.Mathlib.Omega.{arith}
 use lib.Ieee.{Float}
+use Rattle.std.specs.Prelude.{Option, None, Some}
 use Rattle.scalar.specs.Literals.{f0}
 use Rattle.lines.proofs.Sizes.{AtMost, ◌then◌, word, decimal}
 use Rattle.figures.specs.Figure.{figure_of}
 use Rattle.figure_text.specs.FigureText.{figure_text}
 use Rattle.figure_text.proofs.Widths.{figure-five}
 use Rattle.shapes.specs.declared.Mark.{Mark}
-use Rattle.svg_points.specs.declared.Drawn.{Drawn}
+use Rattle.svg_points.specs.declared.Place.{Place}
 use Rattle.aligned.specs.Ascii.{ascii}
 use Rattle.svg_points.specs.Points.{point_drawn_of}
 use Rattle.svg_text.specs.Pieces.{id_of, use_text, mark_by, mark_text, line_text, muf_by, muf_text}
@@ -33,9 +34,9 @@ unfolding use_text
 used m x y =
     word (ascii "<use href='#") then id m then word (ascii "' x='") then decimal x then word (ascii "' y='") then decimal y then word (ascii "'/>\n")
 
-mark-by : (d : Drawn) (m : Mark) → AtMost (mark_by d m) 72
-mark-by (Drawn.At x y) m = used m x y
-mark-by Drawn.Nowhere m = none 72
+mark-by : (d : Option Place) (m : Mark) → AtMost (mark_by d m) 72
+mark-by (Some p) m = used m p.x p.y
+mark-by None m = none 72
 
 pub mark : (m : Mark) (f h : Float) → AtMost (mark_text m f h) 72
 unfolding mark_text
@@ -46,9 +47,9 @@ unfolding line_text
 line x muf =
     word (ascii "<path class='muf' d='M") then decimal x then word (ascii " 500V3500'/><text class='m' x='") then decimal x then word (ascii "' y='440'>MUF ") then figure muf then word (ascii " MHz</text>\n")
 
-muf-by : (d : Drawn) (muf : Float) → AtMost (muf_by d muf) 124
-muf-by (Drawn.At x y) muf = line x muf
-muf-by Drawn.Nowhere muf = none 124
+muf-by : (d : Option Place) (muf : Float) → AtMost (muf_by d muf) 124
+muf-by (Some p) muf = line p.x muf
+muf-by None muf = none 124
 
 pub muf-line : (muf : Float) → AtMost (muf_text muf) 124
 unfolding muf_text

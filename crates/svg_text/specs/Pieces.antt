@@ -1,12 +1,12 @@
 -- The marks of a profile's heights and the MUF's line, as SVG.
-use Rattle.std.specs.Prelude.{List, [], ◌++◌, ℕ, Float}
+use Rattle.std.specs.Prelude.{List, [], ◌++◌, ℕ, Option, None, Some, Float}
 use Rattle.scalar.specs.Literals.{f0}
 use Rattle.lines.specs.Text.{decimal_of}
 use Rattle.figures.specs.Figure.{figure_of}
 use Rattle.figure_text.specs.FigureText.{figure_text}
 use Rattle.shapes.specs.declared.Mark.{Mark}
 use Rattle.aligned.specs.Ascii.{ascii}
-use Rattle.svg_points.specs.declared.Drawn.{Drawn}
+use Rattle.svg_points.specs.declared.Place.{Place}
 use Rattle.svg_points.specs.Points.{point_drawn_of}
 
 -- the form of each mark, as it is named in the picture
@@ -23,9 +23,9 @@ unfoldable pub use_text : Mark → ℕ → ℕ → List ℕ
 use_text m x y =
     ascii "<use href='#" ++ (id_of m ++ (ascii "' x='" ++ (decimal_of x ++ (ascii "' y='" ++ (decimal_of y ++ ascii "'/>\n")))))
 
-abbrev pub mark_by : Drawn → Mark → List ℕ
-mark_by (Drawn.At x y) m = use_text m x y
-mark_by Drawn.Nowhere m = []
+abbrev pub mark_by : Option Place → Mark → List ℕ
+mark_by (Some p) m = use_text m p.x p.y
+mark_by None m = []
 
 -- the mark of a height, at its plasma frequency
 unfoldable pub mark_text : Mark → Float → Float → List ℕ
@@ -35,9 +35,9 @@ unfoldable pub line_text : ℕ → Float → List ℕ
 line_text x muf =
     ascii "<path class='muf' d='M" ++ (decimal_of x ++ (ascii " 500V3500'/><text class='m' x='" ++ (decimal_of x ++ (ascii "' y='440'>MUF " ++ (figure_text (figure_of muf) ++ ascii " MHz</text>\n")))))
 
-abbrev pub muf_by : Drawn → Float → List ℕ
-muf_by (Drawn.At x y) muf = line_text x muf
-muf_by Drawn.Nowhere muf = []
+abbrev pub muf_by : Option Place → Float → List ℕ
+muf_by (Some p) muf = line_text p.x muf
+muf_by None muf = []
 
 -- over the frequency axis, from the height 0 up
 unfoldable pub muf_text : Float → List ℕ

@@ -1,35 +1,37 @@
 // The marks of a profile and the MUF's line in a panel of the picture, as SVG in lent bytes.
 #![tactic(auto)]
 
+ghost use Rattle.std.specs.Prelude.{◌≡◌};
 ghost use Rattle.lines.specs.Text.{Clipped};
 ghost use Rattle.svg_text.specs.Pieces.{id_of, use_text, mark_text, line_text, muf_text};
 
 use shapes::Mark;
-use svg_points::Drawn;
+use svg_points::Place;
 
-fn put_id(out: &mut [u8], at: usize, m: Mark) -> usize
-    ensures { Clipped (id_of m) out.old at out.new result }
+#[tactic(auto, unfolding(crate::specs::Pieces::id_of))]
+fn id(m: Mark) -> &'static [u8]
+    ensures { result.now ≡ id_of m }
 {
     match m {
-        Mark::None => lines::put_word(out, at, b"none"),
-        Mark::Tail => lines::put_word(out, at, b"tail"),
-        Mark::E => lines::put_word(out, at, b"E"),
-        Mark::Valley => lines::put_word(out, at, b"valley"),
-        Mark::F1 => lines::put_word(out, at, b"F1"),
-        Mark::F2 => lines::put_word(out, at, b"F2"),
-        Mark::Gap => lines::put_word(out, at, b"gap"),
+        Mark::None => b"none",
+        Mark::Tail => b"tail",
+        Mark::E => b"E",
+        Mark::Valley => b"valley",
+        Mark::F1 => b"F1",
+        Mark::F2 => b"F2",
+        Mark::Gap => b"gap",
     }
 }
 
-fn put_use(out: &mut [u8], at: usize, m: Mark, x: u64, y: u64) -> usize
-    ensures { Clipped (use_text m x y) out.old at out.new result }
+fn put_use(out: &mut [u8], at: usize, m: Mark, p: Place) -> usize
+    ensures { Clipped (use_text m p.x p.y) out.old at out.new result }
 {
     let a = lines::put_word(out, at, b"<use href='#");
-    let b = put_id(out, a, m);
+    let b = lines::put_word(out, a, id(m));
     let c = lines::put_word(out, b, b"' x='");
-    let d = lines::put_decimal(out, c, x);
+    let d = lines::put_decimal(out, c, p.x);
     let e = lines::put_word(out, d, b"' y='");
-    let f = lines::put_decimal(out, e, y);
+    let f = lines::put_decimal(out, e, p.y);
     lines::put_word(out, f, b"'/>\n")
 }
 
@@ -37,10 +39,9 @@ fn put_use(out: &mut [u8], at: usize, m: Mark, x: u64, y: u64) -> usize
 pub fn put_mark(out: &mut [u8], at: usize, m: Mark, f: f32, h: f32) -> usize
     ensures { Clipped (mark_text m f h) out.old at out.new result }
 {
-    let here = svg_points::point(f, h);
-    match here {
-        Drawn::At(x, y) => put_use(out, at, m, x, y),
-        Drawn::Nowhere => at,
+    match svg_points::point(f, h) {
+        Some(p) => put_use(out, at, m, p),
+        None => at,
     }
 }
 
@@ -60,9 +61,8 @@ fn put_line(out: &mut [u8], at: usize, x: u64, muf: f32) -> usize
 pub fn put_muf(out: &mut [u8], at: usize, muf: f32) -> usize
     ensures { Clipped (muf_text muf) out.old at out.new result }
 {
-    let foot = svg_points::point(muf, 0.0);
-    match foot {
-        Drawn::At(x, _) => put_line(out, at, x, muf),
-        Drawn::Nowhere => at,
+    match svg_points::point(muf, 0.0) {
+        Some(foot) => put_line(out, at, foot.x, muf),
+        None => at,
     }
 }

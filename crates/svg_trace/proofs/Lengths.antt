@@ -9,7 +9,8 @@ use lib.Dec.{leb}
 use lib.Ieee.{Float}
 use lib.ListN.{length}
 use Rattle.lines.proofs.Sizes.{AtMost, ◌then◌, decimal, field, times}
-use Rattle.svg_points.specs.declared.Drawn.{Drawn}
+use Rattle.std.specs.Prelude.{Option, None, Some}
+use Rattle.svg_points.specs.declared.Place.{Place}
 use Rattle.svg_trace.specs.Trace.{pen_text, pair_text, step_text, row_point, before_of, step_at, trace_text}
 
 -- a text whose bytes are counted by computing
@@ -19,19 +20,19 @@ counted t n e = record { most = leb-true _ _ e }
 pub none : (n : ℕ) → AtMost [] n
 none n = record { most = omega arith }
 
-pen : (d : Drawn) → AtMost (pen_text d) 1
+pen : (d : Option Place) → AtMost (pen_text d) 1
 unfolding pen_text
-pen (Drawn.At x y) = counted _ 1 refl
-pen Drawn.Nowhere = counted _ 1 refl
+pen (Some p) = counted _ 1 refl
+pen None = counted _ 1 refl
 
 pair : (x y : ℕ) → AtMost (pair_text x y) 41
 unfolding pair_text
 pair x y = decimal x then field y
 
-step : (b d : Drawn) → AtMost (step_text b d) 42
+step : (b d : Option Place) → AtMost (step_text b d) 42
 unfolding step_text
-step b (Drawn.At x y) = pen b then pair x y
-step b Drawn.Nowhere = none 42
+step b (Some p) = pen b then pair p.x p.y
+step b None = none 42
 
 pub trace : (f h : List Float) → AtMost (trace_text f h) 1260
 unfolding trace_text

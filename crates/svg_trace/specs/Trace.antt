@@ -1,30 +1,30 @@
 -- The line through the rows of an ionogram, as the data of an SVG path.
-use Rattle.std.specs.Prelude.{List, [], ◌++◌, ℕ, zero, suc, Float}
+use Rattle.std.specs.Prelude.{List, [], ◌++◌, ℕ, zero, suc, Option, None, Some, Float}
 use Rattle.scalar.specs.F32.{at}
 use Rattle.lines.specs.Text.{decimal_of, field_of, joined}
 use Rattle.aligned.specs.Ascii.{ascii}
-use Rattle.svg_points.specs.declared.Drawn.{Drawn}
+use Rattle.svg_points.specs.declared.Place.{Place}
 use Rattle.svg_points.specs.Points.{point_drawn_of}
 
 -- a line is drawn on from the point before, and starts anew where there was none
-unfoldable pub pen_text : Drawn → List ℕ
-pen_text (Drawn.At x y) = ascii "L"
-pen_text Drawn.Nowhere = ascii "M"
+unfoldable pub pen_text : Option Place → List ℕ
+pen_text (Some p) = ascii "L"
+pen_text None = ascii "M"
 
 unfoldable pub pair_text : ℕ → ℕ → List ℕ
 pair_text x y = decimal_of x ++ field_of y
 
 -- of a point and the one before it; nothing of a point that is not drawn
-unfoldable pub step_text : Drawn → Drawn → List ℕ
-step_text before (Drawn.At x y) = pen_text before ++ pair_text x y
-step_text before Drawn.Nowhere = []
+unfoldable pub step_text : Option Place → Option Place → List ℕ
+step_text before (Some p) = pen_text before ++ pair_text p.x p.y
+step_text before None = []
 
 -- row i's point, and the one before it
-abbrev pub row_point : List Float → List Float → ℕ → Drawn
+abbrev pub row_point : List Float → List Float → ℕ → Option Place
 row_point f h i = point_drawn_of (at f i) (at h i)
 
-unfoldable pub before_of : List Float → List Float → ℕ → Drawn
-before_of f h zero = Drawn.Nowhere
+unfoldable pub before_of : List Float → List Float → ℕ → Option Place
+before_of f h zero = None
 before_of f h (suc i) = row_point f h i
 
 abbrev pub step_at : List Float → List Float → ℕ → List ℕ

@@ -4,34 +4,34 @@
 ghost use Rattle.lines.specs.Text.{Clipped};
 ghost use Rattle.svg_trace.specs.Trace.{pen_text, pair_text, step_text, trace_text};
 
-use svg_points::Drawn;
+use svg_points::Place;
 
 // Whether the line is drawn on from the point before, or starts here.
-fn put_pen(out: &mut [u8], at: usize, last: Drawn) -> usize
+fn put_pen(out: &mut [u8], at: usize, last: Option<Place>) -> usize
     ensures { Clipped (pen_text last) out.old at out.new result }
 {
     match last {
-        Drawn::At(_, _) => lines::put_byte(out, at, b'L'),
-        Drawn::Nowhere => lines::put_byte(out, at, b'M'),
+        Some(_) => lines::put_byte(out, at, b'L'),
+        None => lines::put_byte(out, at, b'M'),
     }
 }
 
-fn put_pair(out: &mut [u8], at: usize, x: u64, y: u64) -> usize
-    ensures { Clipped (pair_text x y) out.old at out.new result }
+fn put_pair(out: &mut [u8], at: usize, p: Place) -> usize
+    ensures { Clipped (pair_text p.x p.y) out.old at out.new result }
 {
-    let a = lines::put_decimal(out, at, x);
-    lines::put_field(out, a, y)
+    let a = lines::put_decimal(out, at, p.x);
+    lines::put_field(out, a, p.y)
 }
 
-fn put_step(out: &mut [u8], at: usize, last: Drawn, here: Drawn) -> usize
+fn put_step(out: &mut [u8], at: usize, last: Option<Place>, here: Option<Place>) -> usize
     ensures { Clipped (step_text last here) out.old at out.new result }
 {
     match here {
-        Drawn::At(x, y) => {
+        Some(p) => {
             let a = put_pen(out, at, last);
-            put_pair(out, a, x, y)
+            put_pair(out, a, p)
         }
-        Drawn::Nowhere => at,
+        None => at,
     }
 }
 
@@ -40,9 +40,9 @@ pub fn put_trace(out: &mut [u8], at: usize, f: [f32; 30], h: [f32; 30]) -> usize
     ensures { Clipped (trace_text f h) out.old at out.new result }
 {
     let mut e = at;
-    let mut last = Drawn::Nowhere;
-    for i in 0..30 {
-        let here = svg_points::point(f[i], h[i]);
+    let mut last = None;
+    for (f, h) in f.iter().zip(&h) {
+        let here = svg_points::point(*f, *h);
         e = put_step(out, e, last, here);
         last = here;
     }

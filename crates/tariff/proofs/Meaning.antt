@@ -1,20 +1,24 @@
 -- Each test of the definition holds where its meaning does, and only there.
 use mathlib.Core.Bool.{Bool, true, false, cond, ◌&&◌, false≢true}
 use mathlib.Core.List.{List, [], ◌∷◌}
-use mathlib.Core.Path.{◌≡◌, refl, ap}
-use Prim.Native.Nat.{ℕ, zero, suc, ◌+◌, ◌-◌, ◌*◌, ◌/◌, ◌%◌, ◌≤◌, ◌<◌}
+use mathlib.Core.Path.{◌≡◌, refl, ap, sym}
+use Prim.Native.Nat.{ℕ, zero, suc, ◌+◌, ◌*◌, ◌/◌, ◌%◌, ◌≤◌, ◌<◌}
 use native.Mathlib.Nat.{le_antisymm, mul-le-mul}
 use native.Mathlib.Numerals.{add-one}
 use native.Mathlib.Omega.{arith}
-use borrow.Author.Tests.{leb-true, leb-false, ltb-true, ltb-false, le-leb, le-ltb, lt-leb, lt-ltb, eqb-true, eqb-false, eq-eqb}
+use borrow.Author.Tests.{leb-true, leb-false, ltb-true, le-leb, lt-leb, lt-ltb, eqb-true, eqb-false, eq-eqb}
 use lib.Dec.{eqb, leb, ltb}
 use lib.Ieee.{Float}
 use lib.ListN.{length, get_or}
+use Rattle.std.specs.Prelude.{Some, Ok, Err}
+use Rattle.std.specs.Int.{div_ceil}
+use Rattle.std.specs.List.{list_all, position_or_len, IsAllAdjacentAnswer}
+use Rattle.std.proofs.lemmas.Bool.Decides.{nat_tests}
+use Rattle.std.proofs.lemmas.List.Recursion.{same_from_clauses, is_position_or_len}
 use Rattle.refusal.specs.declared.Refusal.{Refusal}
 use Rattle.figures.specs.Figure.{figure_of}
 use Rattle.figures.specs.declared.Printed.{Printed}
-use Rattle.tariff.specs.declared.Charge.{Charge}
-use Rattle.tariff.specs.Price.{within, rising, tariff_good, first_band, rounded_up, figure_price, printed_price, price_of}
+use Rattle.tariff.specs.Price.{within, rising, tariff_good, first_band, band_of, rounded_up, figure_price, printed_price, price_of}
 use Rattle.tariff.specs.Meaning.{Described, TariffRule, FirstBand, BandRule, LeastCents, CentsRule, Priced, OnlySeconds, PriceRule}
 
 pub and_left : (a b : Bool) → (a && b) ≡ true → a ≡ true
@@ -55,39 +59,34 @@ rising-only [] f = refl
 rising-only (x ∷ []) f = refl
 rising-only (x ∷ y ∷ ys) f = rw (lt-ltb x y (f 0 (omega arith)), rising-only (y ∷ ys) (λ i h. f (suc i) (omega arith)))
 
--- where a test fails at one place
-pub within-not : (most : ℕ) (xs : List ℕ) (i : ℕ) → i < length xs → most < get_or xs i 0 → within most xs ≡ false
+-- the library's answers
+pub within-all : (most : ℕ) (xs : List ℕ) → list_all (λ x. leb x most) xs ≡ within most xs
 unfolding within
-within-not most [] i h l = absurd (omega arith)
-within-not most (x ∷ xs) zero h l = rw (lt-leb x most l)
-within-not most (x ∷ xs) (suc i) h l = rw (within-not most xs i (omega arith) l, and-false)
+within-all most xs = same_from_clauses (list_all (λ x. leb x most)) (within most) (λ x b. leb x most && b) refl (λ _ _. refl) (λ _ _. refl) xs
 
-pub rising-not : (xs : List ℕ) (i : ℕ) → suc i < length xs → get_or xs (suc i) 0 ≤ get_or xs i 0 → rising xs ≡ false
+pub rising-not : (xs : List ℕ) (i : ℕ) → suc i < length xs → ltb (get_or xs i 0) (get_or xs (suc i) 0) ≡ false → rising xs ≡ false
 unfolding rising
-rising-not [] i h l = absurd (omega arith)
-rising-not (x ∷ []) i h l = absurd (omega arith)
-rising-not (x ∷ y ∷ ys) zero h l = rw (le-ltb x y l)
-rising-not (x ∷ y ∷ ys) (suc i) h l = rw (rising-not (y ∷ ys) i (omega arith) l, and-false)
+rising-not [] i h t = absurd (omega arith)
+rising-not (x ∷ []) i h t = absurd (omega arith)
+rising-not (x ∷ y ∷ ys) zero h t = rw t
+rising-not (x ∷ y ∷ ys) (suc i) h t = rw (rising-not (y ∷ ys) i (omega arith) t, and-false)
 
--- one place more, i counted from 1
-pub rising-fails : (xs : List ℕ) (i : ℕ) → 1 ≤ i → i < length xs → get_or xs i 0 ≤ get_or xs (i - 1) 0 → rising xs ≡ false
-rising-fails xs zero h l k = absurd (omega arith)
-rising-fails xs (suc i) h l k = let e : suc i - 1 ≡ i = omega arith in rising-not xs i l (rw e at k)
-
-pub rising-more : (xs : List ℕ) (i : ℕ) → 1 ≤ i → ((k : ℕ) → suc k < i → get_or xs k 0 < get_or xs (suc k) 0) → get_or xs (i - 1) 0 < get_or xs i 0 → (k : ℕ) → suc k < i + 1 → get_or xs k 0 < get_or xs (suc k) 0
-rising-more xs zero h f l k m = absurd (omega arith)
-rising-more xs (suc i) h f l k m = let e : suc i - 1 ≡ i = omega arith in by (ltb k i) refl (rw e at l)
-  where
-    by : (b : Bool) → ltb k i ≡ b → get_or xs i 0 < get_or xs (suc i) 0 → get_or xs k 0 < get_or xs (suc k) 0
-    by true t l = let h = ltb-true k i t in f k (omega arith)
-    by false t l = let h = ltb-false k i t in let e : k ≡ i = omega arith in rw e l
+pub rising-by : (xs : List ℕ) (r : Bool) → IsAllAdjacentAnswer (λ x y b. b ≡ ltb x y) xs r → r ≡ rising xs
+rising-by xs true h = sym (rising-only xs (λ i l. let t : ltb (get_or xs i 0) (get_or xs (i + 1) 0) ≡ true = sym (h i 0 (omega arith)) in ltb-true _ _ (rw (add-one i) at t)))
+rising-by xs false h = let t : ltb (get_or xs h.0 0) (get_or xs (h.0 + 1) 0) ≡ false = sym (h.2 0) in sym (rising-not xs h.0 (let l = h.1 in omega arith) (rw (add-one h.0) at t))
 
 -- ---- the band
 
-pub none_first : (n : ℕ) (tops : List ℕ) → ((i : ℕ) → i < length tops → get_or tops i 0 < n) → length tops ≡ first_band n tops
+suc-one : (k : ℕ) → suc k ≡ 1 + k
+suc-one k = omega arith
+
+pub first-position : (n : ℕ) (tops : List ℕ) → first_band n tops ≡ position_or_len (λ top. leb n top) tops
 unfolding first_band
-none_first n [] f = refl
-none_first n (top ∷ tops) f = rw (lt-leb n top (f 0 (omega arith))) (ap suc (none_first n tops (λ i h. f (suc i) (omega arith))))
+first-position n tops = is_position_or_len (first_band n) (λ top. leb n top) refl (λ _ tops. rw (suc-one (first_band n tops))) tops
+
+-- the band found is one of the tariff's, and the first
+pub band-in : (n : ℕ) (tops : List ℕ) (band : ℕ) → Some band ≡ band_of n tops → (band < length tops) × (band ≡ first_band n tops)
+band-in n tops band e = grind (arith, nat_tests)
 
 pub first-is : (n : ℕ) (tops : List ℕ) → first_band n tops < length tops → FirstBand n tops (first_band n tops)
 unfolding first_band
@@ -136,6 +135,10 @@ least-only n c l = le_antisymm (l.least _ (least-is n).reaches) ((least-is n).le
 pub cents-rule : CentsRule
 cents-rule = record { is = least-is; only = least-only }
 
+pub rounded-by : (n : ℕ) → div_ceil n 60 ≡ rounded_up n
+unfolding rounded_up
+rounded-by n = grind (arith, nat_tests)
+
 -- ---- the tariff
 
 pub described : (tops rates : List ℕ) → tariff_good tops rates ≡ true → Described tops rates
@@ -164,23 +167,23 @@ product-most tops rates band seconds t h l = mul-le-mul ((described tops rates t
 
 -- ---- the price
 
-answered : (n : ℕ) (tops rates : List ℕ) (seconds c : ℕ) → figure_price n tops rates seconds ≡ Charge.Cents c → (first_band n tops < length tops) × (1 ≤ seconds) × (seconds ≤ 86400) × (rounded_up (get_or rates (first_band n tops) 0 * seconds) ≡ c)
+answered : (n : ℕ) (tops rates : List ℕ) (seconds c : ℕ) → figure_price n tops rates seconds ≡ Ok c → (first_band n tops < length tops) × (1 ≤ seconds) × (seconds ≤ 86400) × (rounded_up (get_or rates (first_band n tops) 0 * seconds) ≡ c)
 unfolding figure_price
 answered n tops rates seconds c e = by (ltb (first_band n tops) (length tops)) (leb 1 seconds) (leb seconds 86400) refl refl refl e
   where
     by : (b s t : Bool) → ltb (first_band n tops) (length tops) ≡ b → leb 1 seconds ≡ s → leb seconds 86400 ≡ t
-        → cond b (cond (s && t) (Charge.Cents (rounded_up (get_or rates (first_band n tops) 0 * seconds))) (Charge.Refused Refusal.Seconds)) (Charge.Refused Refusal.Tariff) ≡ Charge.Cents c
+        → cond b (cond (s && t) (Ok (rounded_up (get_or rates (first_band n tops) 0 * seconds))) (Err Refusal.Seconds)) (Err Refusal.Tariff) ≡ Ok c
         → (first_band n tops < length tops) × (1 ≤ seconds) × (seconds ≤ 86400) × (rounded_up (get_or rates (first_band n tops) 0 * seconds) ≡ c)
     by true true true p q r e = (ltb-true _ _ p, leb-true _ _ q, leb-true _ _ r, cc)
     by true true false p q r e = absurd (let z : ◌≡◌ {A = ℕ} 0 1 = cc in omega arith)
     by true false t p q r e = absurd (let z : ◌≡◌ {A = ℕ} 0 1 = cc in omega arith)
     by false s t p q r e = absurd (let z : ◌≡◌ {A = ℕ} 0 1 = cc in omega arith)
 
-priced : (muf : Float) (tops rates : List ℕ) (seconds c : ℕ) → price_of muf tops rates seconds ≡ Charge.Cents c → Priced muf tops rates seconds c
+priced : (muf : Float) (tops rates : List ℕ) (seconds c : ℕ) → price_of muf tops rates seconds ≡ Ok c → Priced muf tops rates seconds c
 unfolding price_of
 priced muf tops rates seconds c e = by (tariff_good tops rates) (figure_of muf) refl refl e
   where
-    by : (b : Bool) (p : Printed) → tariff_good tops rates ≡ b → figure_of muf ≡ p → cond b (printed_price p tops rates seconds) (Charge.Refused Refusal.Tariff) ≡ Charge.Cents c → Priced muf tops rates seconds c
+    by : (b : Bool) (p : Printed) → tariff_good tops rates ≡ b → figure_of muf ≡ p → cond b (printed_price p tops rates seconds) (Err Refusal.Tariff) ≡ Ok c → Priced muf tops rates seconds c
     by true (Printed.Tenths n) t f e = let a = answered n tops rates seconds c e in record { tariff = described tops rates t; tenths = n; printed = f; band = first_band n tops; first = first-is n tops a.0; started = a.1; ended = a.2; cents = rw (← a.3) (least-is _) }
     by true (Printed.Minus n) t f e = absurd (let z : ◌≡◌ {A = ℕ} 0 1 = cc in omega arith)
     by true Printed.Stars t f e = absurd (let z : ◌≡◌ {A = ℕ} 0 1 = cc in omega arith)
@@ -188,7 +191,7 @@ priced muf tops rates seconds c e = by (tariff_good tops rates) (figure_of muf) 
     by true Printed.NotANumber t f e = absurd (let z : ◌≡◌ {A = ℕ} 0 1 = cc in omega arith)
     by false p t f e = absurd (let z : ◌≡◌ {A = ℕ} 0 1 = cc in omega arith)
 
-answers : (muf : Float) (tops rates : List ℕ) (seconds c : ℕ) → Priced muf tops rates seconds c → price_of muf tops rates seconds ≡ Charge.Cents c
+answers : (muf : Float) (tops rates : List ℕ) (seconds c : ℕ) → Priced muf tops rates seconds c → price_of muf tops rates seconds ≡ Ok c
 unfolding price_of figure_price
 answers muf tops rates seconds c p =
     let b = first-only _ tops _ p.first in
@@ -196,28 +199,28 @@ answers muf tops rates seconds c p =
     let k : LeastCents (get_or rates (first_band p.tenths tops) 0 * seconds) c = rw b at p.cents in
     rw (good-by tops rates p.tariff, p.printed, lt-ltb _ _ l, le-leb _ _ p.started, le-leb _ _ p.ended, ← least-only _ c k)
 
-most : (muf : Float) (tops rates : List ℕ) (seconds c : ℕ) → price_of muf tops rates seconds ≡ Charge.Cents c → c ≤ 14400000
+most : (muf : Float) (tops rates : List ℕ) (seconds c : ℕ) → price_of muf tops rates seconds ≡ Ok c → c ≤ 14400000
 most muf tops rates seconds c e =
     let p = priced muf tops rates seconds c e in
     p.cents.least 14400000 (product-most tops rates p.band seconds (good-by tops rates p.tariff) p.first.among p.ended)
 
-late : (n : ℕ) (tops rates : List ℕ) (seconds : ℕ) → figure_price n tops rates seconds ≡ Charge.Refused Refusal.Seconds → (first_band n tops < length tops) × (1 ≤ seconds → seconds ≤ 86400 → ⊥)
+late : (n : ℕ) (tops rates : List ℕ) (seconds : ℕ) → figure_price n tops rates seconds ≡ Err Refusal.Seconds → (first_band n tops < length tops) × (1 ≤ seconds → seconds ≤ 86400 → ⊥)
 unfolding figure_price
 late n tops rates seconds e = by (ltb (first_band n tops) (length tops)) (leb 1 seconds) (leb seconds 86400) refl refl refl e
   where
     by : (b s t : Bool) → ltb (first_band n tops) (length tops) ≡ b → leb 1 seconds ≡ s → leb seconds 86400 ≡ t
-        → cond b (cond (s && t) (Charge.Cents (rounded_up (get_or rates (first_band n tops) 0 * seconds))) (Charge.Refused Refusal.Seconds)) (Charge.Refused Refusal.Tariff) ≡ Charge.Refused Refusal.Seconds
+        → cond b (cond (s && t) (Ok (rounded_up (get_or rates (first_band n tops) 0 * seconds))) (Err Refusal.Seconds)) (Err Refusal.Tariff) ≡ Err Refusal.Seconds
         → (first_band n tops < length tops) × (1 ≤ seconds → seconds ≤ 86400 → ⊥)
     by true true true p q r e = absurd (let z : ◌≡◌ {A = ℕ} 0 1 = cc in omega arith)
     by true true false p q r e = (ltb-true _ _ p, λ x y. let l = leb-false seconds 86400 r in omega arith)
     by true false t p q r e = (ltb-true _ _ p, λ x y. let l = leb-false 1 seconds q in omega arith)
     by false s t p q r e = absurd (let z : ◌≡◌ {A = ℕ} 0 1 = cc in omega arith)
 
-only-seconds : (muf : Float) (tops rates : List ℕ) (seconds : ℕ) → price_of muf tops rates seconds ≡ Charge.Refused Refusal.Seconds → OnlySeconds muf tops rates seconds
+only-seconds : (muf : Float) (tops rates : List ℕ) (seconds : ℕ) → price_of muf tops rates seconds ≡ Err Refusal.Seconds → OnlySeconds muf tops rates seconds
 unfolding price_of
 only-seconds muf tops rates seconds e = by (tariff_good tops rates) (figure_of muf) refl refl e
   where
-    by : (b : Bool) (p : Printed) → tariff_good tops rates ≡ b → figure_of muf ≡ p → cond b (printed_price p tops rates seconds) (Charge.Refused Refusal.Tariff) ≡ Charge.Refused Refusal.Seconds → OnlySeconds muf tops rates seconds
+    by : (b : Bool) (p : Printed) → tariff_good tops rates ≡ b → figure_of muf ≡ p → cond b (printed_price p tops rates seconds) (Err Refusal.Tariff) ≡ Err Refusal.Seconds → OnlySeconds muf tops rates seconds
     by true (Printed.Tenths n) t f e = let a = late n tops rates seconds e in record { tariff = described tops rates t; tenths = n; printed = f; band = first_band n tops; first = first-is n tops a.0; outside = a.1 }
     by true (Printed.Minus n) t f e = absurd (let z : ◌≡◌ {A = ℕ} 0 1 = cc in omega arith)
     by true Printed.Stars t f e = absurd (let z : ◌≡◌ {A = ℕ} 0 1 = cc in omega arith)

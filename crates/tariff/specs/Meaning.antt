@@ -1,9 +1,8 @@
 -- What the tests of the definition mean, in the request's words.
-use Rattle.std.specs.Prelude.{true, List, ◌≡◌, ℕ, ◌+◌, ◌*◌, ◌≤◌, ◌<◌, Float, length, get_or}
+use Rattle.std.specs.Prelude.{true, List, ◌≡◌, ℕ, ◌+◌, ◌*◌, ◌≤◌, ◌<◌, Ok, Err, Float, length, get_or}
 use Rattle.figures.specs.Figure.{figure_of}
 use Rattle.figures.specs.declared.Printed.{Printed}
 use Rattle.refusal.specs.declared.Refusal.{Refusal}
-use Rattle.tariff.specs.declared.Charge.{Charge}
 use Rattle.tariff.specs.Price.{tariff_good, first_band, rounded_up, price_of}
 
 -- a tariff as described
@@ -60,7 +59,7 @@ pub record OnlySeconds (muf : Float) (tops rates : List ℕ) (seconds : ℕ) : T
 
 -- the answer is the price where there is one, and cents are never answered otherwise; 16 is answered only where nothing calls for 15
 pub record PriceRule : Type 0 where
-  pub is : (muf : Float) (tops rates : List ℕ) (seconds c : ℕ) → price_of muf tops rates seconds ≡ Charge.Cents c → Priced muf tops rates seconds c
-  pub only : (muf : Float) (tops rates : List ℕ) (seconds c : ℕ) → Priced muf tops rates seconds c → price_of muf tops rates seconds ≡ Charge.Cents c
-  pub most : (muf : Float) (tops rates : List ℕ) (seconds c : ℕ) → price_of muf tops rates seconds ≡ Charge.Cents c → c ≤ 14400000
-  pub sixteen : (muf : Float) (tops rates : List ℕ) (seconds : ℕ) → price_of muf tops rates seconds ≡ Charge.Refused Refusal.Seconds → OnlySeconds muf tops rates seconds
+  pub is : (muf : Float) (tops rates : List ℕ) (seconds c : ℕ) → price_of muf tops rates seconds ≡ Ok c → Priced muf tops rates seconds c
+  pub only : (muf : Float) (tops rates : List ℕ) (seconds c : ℕ) → Priced muf tops rates seconds c → price_of muf tops rates seconds ≡ Ok c
+  pub most : (muf : Float) (tops rates : List ℕ) (seconds c : ℕ) → price_of muf tops rates seconds ≡ Ok c → c ≤ 14400000
+  pub sixteen : (muf : Float) (tops rates : List ℕ) (seconds : ℕ) → price_of muf tops rates seconds ≡ Err Refusal.Seconds → OnlySeconds muf tops rates seconds

@@ -1,10 +1,8 @@
 -- The price of a call by a tariff: tops in tenths of a MHz, rates in cents a minute, one of each for every band.
-use Rattle.std.specs.Prelude.{Bool, true, cond, ◌&&◌, List, [], ◌∷◌, ℕ, suc, ◌+◌, ◌*◌, ◌/◌, ◌%◌, eqb, leb, ltb, Float, length, get_or}
+use Rattle.std.specs.Prelude.{Bool, true, cond, ◌&&◌, List, [], ◌∷◌, ℕ, suc, ◌+◌, ◌*◌, ◌/◌, ◌%◌, eqb, leb, ltb, Option, Some, None, Result, Ok, Err, Float, length, get_or}
 use Rattle.figures.specs.Figure.{figure_of}
 use Rattle.figures.specs.declared.Printed.{Printed}
 use Rattle.refusal.specs.declared.Refusal.{Refusal}
-use Rattle.refusal.specs.Number.{number_of}
-use Rattle.tariff.specs.declared.Charge.{Charge}
 
 -- is no number of the list above `most`
 unfoldable pub within : ℕ → List ℕ → Bool
@@ -28,36 +26,35 @@ unfoldable pub first_band : ℕ → List ℕ → ℕ
 first_band tenths [] = 0
 first_band tenths (top ∷ tops) = cond (leb tenths top) 0 (suc (first_band tenths tops))
 
+-- the band, if a top reaches the figure
+abbrev pub band_of : ℕ → List ℕ → Option ℕ
+band_of tenths tops = cond (ltb (first_band tenths tops) (length tops)) (Some (first_band tenths tops)) None
+
 -- n / 60, rounded up to a whole number
 unfoldable pub rounded_up : ℕ → ℕ
 rounded_up n = cond (eqb (n % 60) 0) (n / 60) (n / 60 + 1)
 
 -- a figure in tenths: 15 where no band reaches it, then 16 for the seconds
-unfoldable pub figure_price : ℕ → List ℕ → List ℕ → ℕ → Charge
+unfoldable pub figure_price : ℕ → List ℕ → List ℕ → ℕ → Result ℕ Refusal
 figure_price tenths tops rates seconds =
     let band = first_band tenths tops in
     cond (ltb band (length tops))
-    (cond (leb 1 seconds && leb seconds 86400) (Charge.Cents (rounded_up (get_or rates band 0 * seconds))) (Charge.Refused Refusal.Seconds))
-    (Charge.Refused Refusal.Tariff)
+    (cond (leb 1 seconds && leb seconds 86400) (Ok (rounded_up (get_or rates band 0 * seconds))) (Err Refusal.Seconds))
+    (Err Refusal.Tariff)
 
 -- a figure that is not a number from 0.0 to 999.9 has no price
-abbrev pub printed_price : Printed → List ℕ → List ℕ → ℕ → Charge
+abbrev pub printed_price : Printed → List ℕ → List ℕ → ℕ → Result ℕ Refusal
 printed_price (Printed.Tenths n) tops rates seconds = figure_price n tops rates seconds
-printed_price (Printed.Minus n) tops rates seconds = Charge.Refused Refusal.Tariff
-printed_price Printed.Stars tops rates seconds = Charge.Refused Refusal.Tariff
-printed_price Printed.Infinite tops rates seconds = Charge.Refused Refusal.Tariff
-printed_price Printed.NotANumber tops rates seconds = Charge.Refused Refusal.Tariff
+printed_price (Printed.Minus n) tops rates seconds = Err Refusal.Tariff
+printed_price Printed.Stars tops rates seconds = Err Refusal.Tariff
+printed_price Printed.Infinite tops rates seconds = Err Refusal.Tariff
+printed_price Printed.NotANumber tops rates seconds = Err Refusal.Tariff
 
-unfoldable pub price_of : Float → List ℕ → List ℕ → ℕ → Charge
+unfoldable pub price_of : Float → List ℕ → List ℕ → ℕ → Result ℕ Refusal
 price_of muf tops rates seconds =
-    cond (tariff_good tops rates) (printed_price (figure_of muf) tops rates seconds) (Charge.Refused Refusal.Tariff)
-
--- the paper's number of each case, 0 for an answer
-abbrev pub charge_number : Charge → ℕ
-charge_number (Charge.Cents n) = 0
-charge_number (Charge.Refused r) = number_of r
+    cond (tariff_good tops rates) (printed_price (figure_of muf) tops rates seconds) (Err Refusal.Tariff)
 
 -- the cents, none beside a refusal
-abbrev pub charge_values : Charge → List ℕ
-charge_values (Charge.Cents n) = n ∷ []
-charge_values (Charge.Refused r) = []
+abbrev pub charge_values : Result ℕ Refusal → List ℕ
+charge_values (Ok n) = n ∷ []
+charge_values (Err r) = []

@@ -9,8 +9,8 @@ use native.Mathlib.Omega.{arith}
 use borrow.Author.Tests.{leb-true}
 use lib.Dec.{leb}
 use lib.ListN.{length}
+use Rattle.std.specs.Prelude.{Ok, Err}
 use Rattle.refusal.specs.declared.Refusal.{Refusal}
-use Rattle.totals.specs.declared.Total.{Total}
 use Rattle.totals.specs.Total.{sum_of, prices_good, total_of}
 use Rattle.totals.specs.Orders.{AnyOrder, NewestFirst, AtMost}
 use Rattle.totals.proofs.Sums.{sum-most}
@@ -48,7 +48,7 @@ any_order ps qs p =
 pub newest-first : NewestFirst
 newest-first ps = any_order (reverse ps) ps (reverse_perm ps)
 
-most-by : (ps : List ℕ) (few good : Bool) (n : ℕ) → leb (length ps) 256 ≡ few → prices_good ps ≡ good → cond (few && good) (Total.Cents (sum_of ps)) (Total.Refused Refusal.Prices) ≡ Total.Cents n → n ≤ 3686400000
+most-by : (ps : List ℕ) (few good : Bool) (n : ℕ) → leb (length ps) 256 ≡ few → prices_good ps ≡ good → cond (few && good) (Ok (sum_of ps)) (Err Refusal.Prices) ≡ Ok n → n ≤ 3686400000
 most-by ps true true n f g e = let s : sum_of ps ≡ n = cc in omega (arith, leb-true (length ps) 256 f, sum-most ps g)
 most-by ps true false n f g e = let z : ◌≡◌ {A = ℕ} 0 1 = cc in omega arith
 most-by ps false good n f g e = let z : ◌≡◌ {A = ℕ} 0 1 = cc in omega arith

@@ -10,11 +10,12 @@ use lib.Dec.{eqb}
 use lib.IntN.{pos, ◌-ℤ◌}
 use lib.ListN.{length, get_or, drop, length-map, length-drop}
 use lib.Seq.{ext_get_or}
-use Rattle.trace_lines.specs.Lines.{in_both, in_first, in_second, of_first, of_second, listed, trace_lines, line_at}
+use Rattle.trace_lines.specs.Lines.{in_both, which_number, of_first, of_second, listed, trace_lines, line_at}
 use Rattle.trace_laws.specs.Held.{Has, HasRow, True, lines_khz, shared, Held, LinesCount}
 use Rattle.trace_laws.specs.Held as specs
 use Rattle.trace_laws.specs.Held.True.{both, first, second}
 use Rattle.trace_lines.specs.declared.Line.{Line}
+use Rattle.trace_lines.specs.declared.Which.{Which}
 use Rattle.trace_lines.proofs.Places.{Above, Up, up, up-drop}
 use Rattle.trace_lines.proofs.Steps.{goes}
 use Rattle.trace_laws.proofs.Held.{In, has_in, in-has, khz-at, one_place, held}
@@ -61,11 +62,11 @@ row_has : (xs hs : List ℕ) (f g h : ℕ) → f ≡ g → HasRow xs hs f h → 
 row_has xs hs f g h e r = record { place = r.place; within = r.within; is = r.khz ∙ e }
 
 in_both_lem : (f g h h' k k' : ℕ) → f ≡ g → h ≡ h' → k ≡ k'
-    → ◌≡◌ {A = Line} (record { khz = f; which = in_both; difference = pos h -ℤ pos k })
-    (record { khz = g; which = in_both; difference = pos h' -ℤ pos k' })
+    → ◌≡◌ {A = Line} (record { khz = f; which = Which.Both; difference = pos h -ℤ pos k })
+    (record { khz = g; which = Which.Both; difference = pos h' -ℤ pos k' })
 in_both_lem f g h h' k k' p q r = rw (p, q, r)
 
-in_one : (f g w : ℕ) → f ≡ g
+in_one : (f g : ℕ) (w : Which) → f ≡ g
     → ◌≡◌ {A = Line} (record { khz = f; which = w; difference = pos 0 }) (record { khz = g; which = w; difference = pos 0 })
 in_one f g w p = rw p
 
@@ -85,7 +86,7 @@ module _ (a ah b bh : List ℕ) (u : Up a) (v : Up b) where
       absurd (n (row_has b bh f' f k' (sym g) s'))
   one-true l m e (first f h r n p) (first f' h' r' n' p') =
       let g : f ≡ f' = sym (ap (λ (x : Line). x.khz) p) ∙ e ∙ ap (λ (x : Line). x.khz) p' in
-      p ∙ in_one f f' in_first g ∙ sym p'
+      p ∙ in_one f f' Which.First g ∙ sym p'
   one-true l m e (first f h r n p) (second f' k' r' n' p') =
       let g : f ≡ f' = sym (ap (λ (x : Line). x.khz) p) ∙ e ∙ ap (λ (x : Line). x.khz) p' in
       absurd (n (row_has b bh f' f k' (sym g) r'))
@@ -97,7 +98,7 @@ module _ (a ah b bh : List ℕ) (u : Up a) (v : Up b) where
       absurd (n (row_has a ah f' f h' (sym g) r'))
   one-true l m e (second f k r n p) (second f' k' r' n' p') =
       let g : f ≡ f' = sym (ap (λ (x : Line). x.khz) p) ∙ e ∙ ap (λ (x : Line). x.khz) p' in
-      p ∙ in_one f f' in_second g ∙ sym p'
+      p ∙ in_one f f' Which.Second g ∙ sym p'
 
   same-khz : (ls ms : List Line) → Held a ah b bh ls → Held a ah b bh ms → lines_khz ls ≡ lines_khz ms
   same-khz ls ms p q =
@@ -121,7 +122,7 @@ only-lines a ah b bh ls ra rb p =
 
 -- ---- the count
 
-shared-cons : (l : Line) (ls : List Line) → shared (l ∷ ls) ≡ cond (eqb l.which in_both) 1 0 + shared ls
+shared-cons : (l : Line) (ls : List Line) → shared (l ∷ ls) ≡ cond (eqb (which_number l.which) in_both) 1 0 + shared ls
 unfolding shared
 shared-cons l ls = refl
 

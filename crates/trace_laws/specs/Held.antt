@@ -1,8 +1,9 @@
 -- What the lines of two traces are, by their properties alone, and that nothing else has them.
 use Rattle.std.specs.Prelude.{ℕ, ◌+◌, ◌<◌, ◌≡◌, true, cond, ◌⊎◌, List, [], ◌∷◌, map, eqb, pos, ◌-ℤ◌, length, get_or}
 use Rattle.trace_lines.specs.Trace.{rises, Rows}
-use Rattle.trace_lines.specs.Lines.{in_both, in_first, in_second, trace_lines, line_at}
+use Rattle.trace_lines.specs.Lines.{in_both, which_number, trace_lines, line_at}
 use Rattle.trace_lines.specs.declared.Line.{Line}
+use Rattle.trace_lines.specs.declared.Which.{Which}
 
 -- one of the numbers is f
 pub record Has (xs : List ℕ) (f : ℕ) : Type 0 where
@@ -19,11 +20,11 @@ pub record HasRow (xs hs : List ℕ) (f h : ℕ) : Type 0 where
 
 -- what a line says is so
 pub data True (a ah b bh : List ℕ) (l : Line) : Type 0 where
-  both : (f h k : ℕ) → HasRow a ah f h → HasRow b bh f k → l ≡ record { khz = f; which = in_both; difference = pos h -ℤ pos k }
+  both : (f h k : ℕ) → HasRow a ah f h → HasRow b bh f k → l ≡ record { khz = f; which = Which.Both; difference = pos h -ℤ pos k }
       → True a ah b bh l
-  first : (f h : ℕ) → HasRow a ah f h → (Has b f → ⊥) → l ≡ record { khz = f; which = in_first; difference = pos 0 }
+  first : (f h : ℕ) → HasRow a ah f h → (Has b f → ⊥) → l ≡ record { khz = f; which = Which.First; difference = pos 0 }
       → True a ah b bh l
-  second : (f k : ℕ) → HasRow b bh f k → (Has a f → ⊥) → l ≡ record { khz = f; which = in_second; difference = pos 0 }
+  second : (f k : ℕ) → HasRow b bh f k → (Has a f → ⊥) → l ≡ record { khz = f; which = Which.Second; difference = pos 0 }
       → True a ah b bh l
 
 -- exactly one line is at f kHz
@@ -36,7 +37,7 @@ pub record OneLine (ls : List Line) (f : ℕ) : Type 0 where
 -- how many lines are in both
 unfoldable pub shared : List Line → ℕ
 shared [] = 0
-shared (l ∷ ls) = cond (eqb l.which in_both) 1 0 + shared ls
+shared (l ∷ ls) = cond (eqb (which_number l.which) in_both) 1 0 + shared ls
 
 abbrev pub lines_khz : List Line → List ℕ
 lines_khz ls = map (λ (l : Line). l.khz) ls

@@ -12,9 +12,10 @@ use lib.ListN.{length, get_or, drop}
 use lib.Seq.{drop-cons}
 use borrow.Author.Tests.{ltb-true, ltb-false, eq-eqb, ne_eqb}
 use Rattle.trace_lines.specs.Trace.{height_at_khz}
-use Rattle.trace_lines.specs.Lines.{in_both, in_first, in_second, of_first, of_second, listed, trace_line, trace_lines, line_at}
+use Rattle.trace_lines.specs.Lines.{in_both, which_number, of_first, of_second, listed, trace_line, trace_lines, line_at}
 use Rattle.trace_lines.specs.Trace.{Rows}
 use Rattle.trace_lines.specs.declared.Line.{Line}
+use Rattle.trace_lines.specs.declared.Which.{Which}
 use Rattle.trace_lines.proofs.Places.{Above, Up, above-less, up, listed_above, listed-first, listed-second, listed-both}
 
 pub height-here : (x h : ℕ) (xs hs : List ℕ) → height_at_khz (x ∷ xs) (h ∷ hs) x ≡ some h
@@ -47,29 +48,29 @@ second-later y k a ah ys ks (f ∷ l) p =
     rw (height-later y k f ys ks p.0, second-later y k a ah ys ks l p.1)
 
 pub step-first : (x h : ℕ) (xs hs b bh : List ℕ) → Above x xs → Above x b
-    → trace_lines (x ∷ xs) (h ∷ hs) b bh ≡ record { khz = x; which = in_first; difference = pos 0 } ∷ trace_lines xs hs b bh
+    → trace_lines (x ∷ xs) (h ∷ hs) b bh ≡ record { khz = x; which = Which.First; difference = pos 0 } ∷ trace_lines xs hs b bh
 unfolding trace_lines
 step-first x h xs hs b bh p q =
     rw (listed-first x xs b q, height-here x h xs hs, height-below x b bh q)
-    (ap (λ (ls : List Line). record { khz = x; which = in_first; difference = pos 0 } ∷ ls)
+    (ap (λ (ls : List Line). record { khz = x; which = Which.First; difference = pos 0 } ∷ ls)
     (first-later x h xs hs b bh (listed xs b) (listed_above x xs b p q)))
 
 pub step-second : (y k : ℕ) (a ah ys ks : List ℕ) → Above y a → Above y ys
-    → trace_lines a ah (y ∷ ys) (k ∷ ks) ≡ record { khz = y; which = in_second; difference = pos 0 } ∷ trace_lines a ah ys ks
+    → trace_lines a ah (y ∷ ys) (k ∷ ks) ≡ record { khz = y; which = Which.Second; difference = pos 0 } ∷ trace_lines a ah ys ks
 unfolding trace_lines
 step-second y k a ah ys ks p q =
     rw (listed-second y a ys p q, height-below y a ah p)
-    (ap (λ (ls : List Line). record { khz = y; which = in_second; difference = pos 0 } ∷ ls)
+    (ap (λ (ls : List Line). record { khz = y; which = Which.Second; difference = pos 0 } ∷ ls)
     (second-later y k a ah ys ks (listed a ys) (listed_above y a ys p q)))
 
 pub step_both : (x h k : ℕ) (xs hs ys ks : List ℕ) → Above x xs → Above x ys
     → trace_lines (x ∷ xs) (h ∷ hs) (x ∷ ys) (k ∷ ks)
-    ≡ record { khz = x; which = in_both; difference = pos h -ℤ pos k } ∷ trace_lines xs hs ys ks
+    ≡ record { khz = x; which = Which.Both; difference = pos h -ℤ pos k } ∷ trace_lines xs hs ys ks
 unfolding trace_lines
 step_both x h k xs hs ys ks p q =
     let r = listed_above x xs ys p q in
     rw (listed-both x xs ys q, height-here x h xs hs, height-here x k ys ks)
-    (ap (λ (ls : List Line). record { khz = x; which = in_both; difference = pos h -ℤ pos k } ∷ ls)
+    (ap (λ (ls : List Line). record { khz = x; which = Which.Both; difference = pos h -ℤ pos k } ∷ ls)
     (first-later x h xs hs (x ∷ ys) (k ∷ ks) (listed xs ys) r ∙ second-later x k xs hs ys ks (listed xs ys) r))
 
 -- one line, and what it leaves
@@ -82,14 +83,14 @@ pub record Goes (a ah b bh : List ℕ) (ls : List Line) : Type 0 where
       (drop (of_second line.which) bh)
   pub first_fits : of_first line.which ≤ length a
   pub second_fits : of_second line.which ≤ length b
-  pub rows : 1 + cond (eqb line.which in_both) 1 0 ≡ of_first line.which + of_second line.which
+  pub rows : 1 + cond (eqb (which_number line.which) in_both) 1 0 ≡ of_first line.which + of_second line.which
 
 goes_by : (x h y k : ℕ) (xs hs ys ks : List ℕ) → Above x xs → Above y ys → (s t : Bool) → ltb x y ≡ s → ltb y x ≡ t
     → Goes (x ∷ xs) (h ∷ hs) (y ∷ ys) (k ∷ ks) (trace_lines (x ∷ xs) (h ∷ hs) (y ∷ ys) (k ∷ ks))
 goes_by x h y k xs hs ys ks p q true t e g =
     let m : x < y = ltb-true x y e in
     record {
-      line = record { khz = x; which = in_first; difference = pos 0 };
+      line = record { khz = x; which = Which.First; difference = pos 0 };
       is = step-first x h xs hs (y ∷ ys) (k ∷ ks) p (m, above-less y x ys (omega arith) q);
       first_fits = omega arith;
       second_fits = omega arith;
@@ -98,7 +99,7 @@ goes_by x h y k xs hs ys ks p q true t e g =
 goes_by x h y k xs hs ys ks p q false true e g =
     let m : y < x = ltb-true y x g in
     record {
-      line = record { khz = y; which = in_second; difference = pos 0 };
+      line = record { khz = y; which = Which.Second; difference = pos 0 };
       is = step-second y k (x ∷ xs) (h ∷ hs) ys ks (m, above-less x y xs (omega arith) p) q;
       first_fits = omega arith;
       second_fits = omega arith;
@@ -111,7 +112,7 @@ goes_by x h y k xs hs ys ks p q false false e g =
     subst
     (λ (z : ℕ). Goes (x ∷ xs) (h ∷ hs) (z ∷ ys) (k ∷ ks) (trace_lines (x ∷ xs) (h ∷ hs) (z ∷ ys) (k ∷ ks))) same
     (record {
-      line = record { khz = x; which = in_both; difference = pos h -ℤ pos k };
+      line = record { khz = x; which = Which.Both; difference = pos h -ℤ pos k };
       is = step_both x h k xs hs ys ks p (above-less y x ys (omega arith) q);
       first_fits = omega arith;
       second_fits = omega arith;
@@ -124,7 +125,7 @@ goes [] ah [] bh u v e g h = absurd (omega arith)
 goes [] ah (y ∷ ys) [] u v e g h = absurd (omega arith)
 goes [] ah (y ∷ ys) (k ∷ ks) u v e g h =
     record {
-      line = record { khz = y; which = in_second; difference = pos 0 };
+      line = record { khz = y; which = Which.Second; difference = pos 0 };
       is = step-second y k [] ah ys ks tt v.0;
       first_fits = omega arith;
       second_fits = omega arith;
@@ -133,7 +134,7 @@ goes [] ah (y ∷ ys) (k ∷ ks) u v e g h =
 goes (x ∷ xs) [] b bh u v e g h = absurd (omega arith)
 goes (x ∷ xs) (h₁ ∷ hs) [] bh u v e g h =
     record {
-      line = record { khz = x; which = in_first; difference = pos 0 };
+      line = record { khz = x; which = Which.First; difference = pos 0 };
       is = step-first x h₁ xs hs [] bh u.0 tt;
       first_fits = omega arith;
       second_fits = omega arith;
@@ -158,7 +159,7 @@ above-next (x ∷ l) (suc i) u h = above-next l i u.1 (omega arith)
 
 module _ (a ah b bh : List ℕ) (ra : Rows a ah) (rb : Rows b bh) (i j : ℕ) where
   pub head_first : i < length a → (j < length b → get_or a i 0 < get_or b j 0)
-      → record { khz = get_or a i 0; which = in_first; difference = pos 0 }
+      → record { khz = get_or a i 0; which = Which.First; difference = pos 0 }
       ≡ line_at (trace_lines (drop i a) (drop i ah) (drop j b) (drop j bh)) 0
   head_first h k =
       let u = up a ra.rising in
@@ -172,7 +173,7 @@ module _ (a ah b bh : List ℕ) (ra : Rows a ah) (rb : Rows b bh) (i j : ℕ) wh
       (above_from (get_or a i 0) b j (up b rb.rising) k)))
 
   pub head-second : j < length b → (i < length a → get_or b j 0 < get_or a i 0)
-      → record { khz = get_or b j 0; which = in_second; difference = pos 0 }
+      → record { khz = get_or b j 0; which = Which.Second; difference = pos 0 }
       ≡ line_at (trace_lines (drop i a) (drop i ah) (drop j b) (drop j bh)) 0
   head-second h k =
       let v = up b rb.rising in
@@ -186,7 +187,7 @@ module _ (a ah b bh : List ℕ) (ra : Rows a ah) (rb : Rows b bh) (i j : ℕ) wh
       (above_from (get_or b j 0) a i (up a ra.rising) k) (above-next b j v h)))
 
   pub head-both : i < length a → j < length b → get_or a i 0 ≡ get_or b j 0
-      → record { khz = get_or a i 0; which = in_both; difference = pos (get_or ah i 0) -ℤ pos (get_or bh j 0) }
+      → record { khz = get_or a i 0; which = Which.Both; difference = pos (get_or ah i 0) -ℤ pos (get_or bh j 0) }
       ≡ line_at (trace_lines (drop i a) (drop i ah) (drop j b) (drop j bh)) 0
   head-both h k e =
       let u = up a ra.rising in

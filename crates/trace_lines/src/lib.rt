@@ -3,13 +3,44 @@
 
 ghost use Rattle.std.specs.Prelude.{◌≡◌, ◌+◌, ◌≤◌, ◌<◌, pos, ◌-ℤ◌, length, drop};
 ghost use Rattle.trace_lines.specs.Trace.{Rows};
-ghost use Rattle.trace_lines.specs.Lines.{of_first, of_second, trace_lines, line_at};
+ghost use Rattle.trace_lines.specs.Lines.{which_number, of_first, of_second, trace_lines, line_at};
 
-#[derive(Drop)]
+// Which of the traces have a row at a line's kHz, with the number that says so in the lists that callers lend.
+#[derive(Clone, Copy, Debug, PartialEq, Eq)]
+pub enum Which {
+    Both = 0,
+    First = 1,
+    Second = 2,
+}
+
+impl From<Which> for u32 {
+    ghost from_gives = { λ w n. n ≡ which_number w };
+
+    fn from(w: Which) -> u32 {
+        w as u32
+    }
+}
+
+impl Which {
+    // How many rows of the first a line so marked accounts for,
+    pub fn of_first(self) -> usize
+        ensures { result ≡ of_first self }
+    {
+        usize::from(self != Which::Second)
+    }
+
+    // and how many of the second.
+    pub fn of_second(self) -> usize
+        ensures { result ≡ of_second self }
+    {
+        usize::from(self != Which::First)
+    }
+}
+
+#[derive(Clone, Copy, Debug, PartialEq, Eq)]
 pub struct Line {
     pub khz: u32,
-    // 0 in both, 1 in the first only, 2 in the second only
-    pub which: u32,
+    pub which: Which,
     // the first's height less the second's, in tenths of a kilometre; 0 where there is one only
     pub difference: i64,
 }
@@ -17,27 +48,7 @@ pub struct Line {
 fn less(h: u32, k: u32) -> i64
     ensures { result ≡ pos h -ℤ pos k }
 {
-    h as i64 - k as i64
-}
-
-// How many rows of the first a line so marked accounts for,
-pub fn of_first(which: u32) -> usize
-    ensures { result ≡ of_first which }
-{
-    if which == 2 {
-        return 0;
-    }
-    1
-}
-
-// and how many of the second.
-pub fn of_second(which: u32) -> usize
-    ensures { result ≡ of_second which }
-{
-    if which == 1 {
-        return 0;
-    }
-    1
+    i64::from(h) - i64::from(k)
 }
 
 // The first line of what is left: the first's rows from i on, the second's from j on.
@@ -48,14 +59,14 @@ pub fn next(a: &[u32], ah: &[u32], b: &[u32], bh: &[u32], i: usize, j: usize) ->
     if i == a.len() {
         return Line {
             khz: b[j],
-            which: 2,
+            which: Which::Second,
             difference: 0,
         };
     }
     if j == b.len() {
         return Line {
             khz: a[i],
-            which: 1,
+            which: Which::First,
             difference: 0,
         };
     }
@@ -64,21 +75,20 @@ pub fn next(a: &[u32], ah: &[u32], b: &[u32], bh: &[u32], i: usize, j: usize) ->
     if f < g {
         return Line {
             khz: f,
-            which: 1,
+            which: Which::First,
             difference: 0,
         };
     }
     if g < f {
         return Line {
             khz: g,
-            which: 2,
+            which: Which::Second,
             difference: 0,
         };
     }
-    let d = less(ah[i], bh[j]);
     Line {
         khz: f,
-        which: 0,
-        difference: d,
+        which: Which::Both,
+        difference: less(ah[i], bh[j]),
     }
 }

@@ -12,7 +12,7 @@ use Rattle.trace_lines.specs.Trace.{rises, fit}
 use Rattle.trace_lines.specs.Lines.{trace_lines}
 use Rattle.traces.specs.Lines.{ready, column, compared_of}
 use Rattle.trace_lines.specs.Trace.{Rows}
-use Rattle.traces.specs.declared.Comparison.{Comparison}
+use Rattle.std.specs.Prelude.{Ok, Err}
 use Rattle.trace_lines.proofs.Places.{both}
 use Rattle.traces.proofs.Merged.{khz_in, which_in, difference_in}
 
@@ -55,7 +55,7 @@ module _ (a ah b bh khz which : List ℕ) (difference : List ℤ) where
 
   pub refused : ready a ah b bh khz which difference ≡ false
       → let r = compared_of a ah b bh khz which difference in
-      (Comparison.Refused Refusal.Traces ≡ r.answer) × ((khz ≡ r.khz) × ((which ≡ r.which) × (difference ≡ r.difference)))
+      (Err Refusal.Traces ≡ r.answer) × ((khz ≡ r.khz) × ((which ≡ r.which) × (difference ≡ r.difference)))
   unfolding compared_of
   refused e = rw e (refl, (refl, (refl, refl)))
 
@@ -64,6 +64,6 @@ module _ (a ah b bh khz which : List ℕ) (difference : List ℤ) where
       → which' ≡ column which_in (trace_lines a ah b bh) which
       → difference' ≡ column difference_in (trace_lines a ah b bh) difference
       → let r = compared_of a ah b bh khz which difference in
-      (Comparison.Lines n ≡ r.answer) × ((khz' ≡ r.khz) × ((which' ≡ r.which) × (difference' ≡ r.difference)))
+      (Ok n ≡ r.answer) × ((khz' ≡ r.khz) × ((which' ≡ r.which) × (difference' ≡ r.difference)))
   unfolding compared_of
-  answered n khz' which' difference' e p q r s = rw e (ap Comparison.Lines p, (q, (r, s)))
+  answered n khz' which' difference' e p q r s = rw e (ap Ok p, (q, (r, s)))

@@ -7,7 +7,7 @@ use native.Mathlib.Numerals.{add-one}
 use lib.IntN.{ℤ}
 use lib.ListN.{length, drop, set, length-drop, drop_of_length-le}
 use lib.Seq.{drop-drop}
-use Rattle.trace_lines.specs.Lines.{of_first, of_second, listed, trace_lines, line_at}
+use Rattle.trace_lines.specs.Lines.{which_number, of_first, of_second, listed, trace_lines, line_at}
 use Rattle.traces.specs.Lines.{column}
 use Rattle.trace_lines.specs.Trace.{Rows}
 use Rattle.trace_lines.specs.declared.Line.{Line}
@@ -19,7 +19,7 @@ abbrev pub khz_in : Line → ℕ
 khz_in l = l.khz
 
 abbrev pub which_in : Line → ℕ
-which_in l = l.which
+which_in l = which_number l.which
 
 abbrev pub difference_in : Line → ℤ
 difference_in l = l.difference
@@ -78,7 +78,7 @@ module _ (a ah b bh khz₀ which₀ : List ℕ) (difference₀ : List ℤ) (ra :
 
         next-kept :
             let l = next-goes.line in
-            Kept a ah b bh khz₀ which₀ difference₀ (set khz n l.khz) (set which n l.which)
+            Kept a ah b bh khz₀ which₀ difference₀ (set khz n l.khz) (set which n (which_number l.which))
             (set difference n l.difference) (i + of_first l.which) (j + of_second l.which) (n + 1)
         next-kept =
             let l = next-goes.line in
@@ -100,7 +100,7 @@ module _ (a ah b bh khz₀ which₀ : List ℕ) (difference₀ : List ℤ) (ra :
                   ∙ sofar-more khz_in (trace_lines a ah b bh) n khz₀ l _ w (omega arith) next-at
                   ∙ ap (λ (m : ℕ). sofar khz_in (trace_lines a ah b bh) m khz₀) (sym (add-one n));
               which-is =
-                  ap (λ (cells : List ℕ). set cells n l.which) k.which-is
+                  ap (λ (cells : List ℕ). set cells n (which_number l.which)) k.which-is
                   ∙ sofar-more which_in (trace_lines a ah b bh) n which₀ l _ w (omega arith) next-at
                   ∙ ap (λ (m : ℕ). sofar which_in (trace_lines a ah b bh) m which₀) (sym (add-one n));
               difference-is =
@@ -111,12 +111,12 @@ module _ (a ah b bh khz₀ which₀ : List ℕ) (difference₀ : List ℤ) (ra :
 
         -- one more line, whose fields are stored
         pub more : (l : Line) → l ≡ line_at (trace_lines (drop i a) (drop i ah) (drop j b) (drop j bh)) 0
-            → Kept a ah b bh khz₀ which₀ difference₀ (set khz n l.khz) (set which n l.which)
+            → Kept a ah b bh khz₀ which₀ difference₀ (set khz n l.khz) (set which n (which_number l.which))
             (set difference n l.difference) (i + of_first l.which) (j + of_second l.which) (n + 1)
         more l e =
             subst
             (λ (m : Line).
-            Kept a ah b bh khz₀ which₀ difference₀ (set khz n m.khz) (set which n m.which) (set difference n m.difference)
+            Kept a ah b bh khz₀ which₀ difference₀ (set khz n m.khz) (set which n (which_number m.which)) (set difference n m.difference)
             (i + of_first m.which) (j + of_second m.which) (n + 1))
             (sym (e ∙ ap (λ (ls : List Line). line_at ls 0) next-goes.is)) next-kept
 

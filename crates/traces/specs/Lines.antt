@@ -1,11 +1,9 @@
 -- What a comparison of two traces answers and leaves.
-use Rattle.std.specs.Prelude.{ℕ, ◌+◌, Bool, true, false, ◌&&◌, List, ◌++◌, map, leb, ℤ, length, drop}
+use Rattle.std.specs.Prelude.{ℕ, ◌+◌, Bool, true, false, ◌&&◌, List, ◌++◌, map, leb, ℤ, Result, Ok, Err, length, drop}
 use Rattle.refusal.specs.declared.Refusal.{Refusal}
-use Rattle.refusal.specs.Number.{number_of}
 use Rattle.trace_lines.specs.Trace.{fit}
-use Rattle.trace_lines.specs.Lines.{trace_lines}
+use Rattle.trace_lines.specs.Lines.{which_number, trace_lines}
 use Rattle.trace_lines.specs.declared.Line.{Line}
-use Rattle.traces.specs.declared.Comparison.{Comparison}
 
 -- both are traces, and each of the three lists lent has a cell for every row of both, even where fewer lines come of them
 abbrev pub ready : List ℕ → List ℕ → List ℕ → List ℕ → List ℕ → List ℕ → List ℤ → Bool
@@ -19,7 +17,7 @@ column f ls cells = map f ls ++ drop (length ls) cells
 
 -- the answer, and the three lists lent
 pub record Compared : Type 0 where
-  pub answer : Comparison
+  pub answer : Result ℕ Refusal
   pub khz : List ℕ
   pub which : List ℕ
   pub difference : List ℤ
@@ -27,23 +25,19 @@ pub record Compared : Type 0 where
 abbrev pub compared_by : Bool → List Line → List ℕ → List ℕ → List ℤ → Compared
 compared_by true ls khz which difference =
     record {
-      answer = Comparison.Lines (length ls);
+      answer = Ok (length ls);
       khz = column (λ (l : Line). l.khz) ls khz;
-      which = column (λ (l : Line). l.which) ls which;
+      which = column (λ (l : Line). which_number l.which) ls which;
       difference = column (λ (l : Line). l.difference) ls difference;
     }
 compared_by false ls khz which difference =
-    record { answer = Comparison.Refused Refusal.Traces; khz = khz; which = which; difference = difference }
+    record { answer = Err Refusal.Traces; khz = khz; which = which; difference = difference }
 
 unfoldable pub compared_of : List ℕ → List ℕ → List ℕ → List ℕ → List ℕ → List ℕ → List ℤ → Compared
 compared_of a ah b bh khz which difference =
     compared_by (ready a ah b bh khz which difference) (trace_lines a ah b bh) khz which difference
 
--- the paper's number, and the count of lines, for every case of the answer
-abbrev pub comparison_number : Comparison → ℕ
-comparison_number (Comparison.Lines n) = 0
-comparison_number (Comparison.Refused r) = number_of r
-
-abbrev pub count_in : Comparison → ℕ
-count_in (Comparison.Lines n) = n
-count_in (Comparison.Refused r) = 0
+-- the count of lines, for every case of the answer
+abbrev pub count_in : Result ℕ Refusal → ℕ
+count_in (Ok n) = n
+count_in (Err r) = 0

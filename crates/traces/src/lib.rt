@@ -3,64 +3,23 @@
 
 ghost use Rattle.std.specs.Prelude.{◌≡◌, ◌+◌, ◌≤◌, length};
 ghost use Rattle.trace_lines.specs.Trace.{rises as rises_of, fit as fit_of, Rows};
-ghost use Rattle.trace_lines.specs.Lines.{trace_lines};
-ghost use Rattle.traces.specs.Lines.{column, ready as ready_of, compared_of, comparison_number, count_in};
+ghost use Rattle.trace_lines.specs.Lines.{which_number, trace_lines};
+ghost use Rattle.traces.specs.Lines.{column, ready as ready_of, compared_of};
 
 use refusal::Refusal;
-
-#[derive(Clone, Copy)]
-pub enum Comparison {
-    // how many
-    Lines(usize),
-    Refused(Refusal),
-}
-
-// 0 for lines, else the refusal's number.
-pub fn number(c: Comparison) -> u32
-    ensures { result ≡ comparison_number c }
-{
-    match c {
-        Comparison::Lines(_) => 0,
-        Comparison::Refused(r) => refusal::number(r),
-    }
-}
-
-// How many lines; 0 where it is refused.
-pub fn count(c: Comparison) -> usize
-    ensures { result ≡ count_in c }
-{
-    match c {
-        Comparison::Lines(n) => n,
-        Comparison::Refused(_) => 0,
-    }
-}
 
 // Whether each number is below the next.
 pub fn rises(khz: &[u32]) -> bool
     ensures { result ≡ rises_of khz.now }
 {
-    let mut i = 0;
-    while i + 1 < khz.len() {
-        if khz[i] < khz[i + 1] {
-            i += 1;
-        } else {
-            return false;
-        }
-    }
-    true
+    khz.is_sorted_by(|below, next| *below < *next)
 }
 
 // Whether the two lists are a trace.
 fn fit(khz: &[u32], height: &[u32]) -> bool
     ensures { result ≡ fit_of khz.now height.now }
 {
-    if khz.len() != height.len() {
-        return false;
-    }
-    if khz.len() > 512 {
-        return false;
-    }
-    rises(khz)
+    khz.len() == height.len() && khz.len() <= 512 && rises(khz)
 }
 
 fn lines(
@@ -75,21 +34,20 @@ fn lines(
     requires { Rows a.now ah.now × Rows b.now bh.now × (length a.now ≤ 512) × (length b.now ≤ 512) × (length a.now + length b.now ≤ length khz.old) × (length a.now + length b.now ≤ length which.old) × (length a.now + length b.now ≤ length difference.old) }
     ensures value { result ≡ length (trace_lines a.now ah.now b.now bh.now) }
     ensures khz_after { khz.new ≡ column (λ l. l.khz) (trace_lines a.now ah.now b.now bh.now) khz.old }
-    ensures which_after { which.new ≡ column (λ l. l.which) (trace_lines a.now ah.now b.now bh.now) which.old }
+    ensures which_after { which.new ≡ column (λ l. which_number l.which) (trace_lines a.now ah.now b.now bh.now) which.old }
     ensures difference_after { difference.new ≡ column (λ l. l.difference) (trace_lines a.now ah.now b.now bh.now) difference.old }
 {
+    // Stays: a merge steps along two traces by turns, so there is no one iterator to follow.
     let mut i: usize = 0;
     let mut j: usize = 0;
     let mut n: usize = 0;
     while i + j < a.len() + b.len() {
         let l = trace_lines::next(a, ah, b, bh, i, j);
-        let w = l.which;
-        let d = l.difference;
         khz[n] = l.khz;
-        which[n] = w;
-        difference[n] = d;
-        i += trace_lines::of_first(w);
-        j += trace_lines::of_second(w);
+        which[n] = u32::from(l.which);
+        difference[n] = l.difference;
+        i += l.which.of_first();
+        j += l.which.of_second();
         n += 1;
     }
     n
@@ -107,23 +65,15 @@ fn ready(
 ) -> bool
     ensures { result ≡ ready_of a.now ah.now b.now bh.now khz.now which.now difference.now }
 {
-    if !fit(a, ah) {
-        return false;
-    }
-    if !fit(b, bh) {
+    if !fit(a, ah) || !fit(b, bh) {
         return false;
     }
     let rows = a.len() + b.len();
-    if khz.len() < rows {
-        return false;
-    }
-    if which.len() < rows {
-        return false;
-    }
-    rows <= difference.len()
+    rows <= khz.len() && rows <= which.len() && rows <= difference.len()
 }
 
-// The lines of two traces, a and b their kHz, ah and bh their heights in tenths of a kilometre, into three lists that are lent.
+// The lines of two traces, a and b their kHz, ah and bh their heights in tenths of a kilometre, into three lists that are lent; how many.
+// Stays: the three lists are what callers in C lend.
 // Cells past the last line, and all cells at a refusal, stay.
 pub fn compare(
     a: &[u32],
@@ -133,15 +83,14 @@ pub fn compare(
     khz: &mut [u32],
     which: &mut [u32],
     difference: &mut [i64],
-) -> Comparison
+) -> Result<usize, Refusal>
     ensures value { result ≡ (compared_of a.now ah.now b.now bh.now khz.old which.old difference.old).answer }
     ensures khz_after { khz.new ≡ (compared_of a.now ah.now b.now bh.now khz.old which.old difference.old).khz }
     ensures which_after { which.new ≡ (compared_of a.now ah.now b.now bh.now khz.old which.old difference.old).which }
     ensures difference_after { difference.new ≡ (compared_of a.now ah.now b.now bh.now khz.old which.old difference.old).difference }
 {
     if !ready(a, ah, b, bh, khz, which, difference) {
-        return Comparison::Refused(Refusal::Traces);
+        return Err(Refusal::Traces);
     }
-    let n = lines(a, ah, b, bh, khz, which, difference);
-    Comparison::Lines(n)
+    Ok(lines(a, ah, b, bh, khz, which, difference))
 }

@@ -7,7 +7,7 @@ ghost use Rattle.std.specs.Prelude.{◌<◌, ◌≤◌};
 pub const ROOM: usize = 8320;
 
 // Records of 64 bytes, or of 128.
-#[derive(Clone, Copy)]
+#[derive(Clone, Copy, Debug, PartialEq, Eq)]
 pub enum Form {
     Old,
     New,
@@ -19,14 +19,13 @@ pub struct File {
     pub bytes: [u8; ROOM],
 }
 
-// Where record n starts.
-fn start(form: Form, n: usize) -> usize
-    requires { n < 65 }
-    ensures { result ≤ 8192 }
+// How many bytes a record has.
+fn size(form: Form) -> usize
+    ensures { result ≤ 128 }
 {
     match form {
-        Form::Old => 64 * n,
-        Form::New => 128 * n,
+        Form::Old => 64,
+        Form::New => 128,
     }
 }
 
@@ -38,11 +37,18 @@ fn first_kind(form: Form) -> u8 {
     }
 }
 
+// The first n records.
+pub fn first(f: &File, n: usize) -> &[u8]
+    requires { n ≤ 65 }
+{
+    &f.bytes[..size(f.form) * n]
+}
+
 // Record n has this kind and next index.
 pub fn record(mut f: File, n: usize, kind: u8, next: u8) -> File
     requires { n < 65 }
 {
-    let at = start(f.form, n);
+    let at = size(f.form) * n;
     f.bytes[at] = kind;
     f.bytes[at + 2] = next;
     f
@@ -51,7 +57,7 @@ pub fn record(mut f: File, n: usize, kind: u8, next: u8) -> File
 // Record 0 and one point, the chain 0, 1.
 pub fn smallest(form: Form) -> File {
     let blank = File {
-        form: form,
+        form,
         bytes: [0; ROOM],
     };
     let mut f = record(blank, 0, first_kind(form), 1);
@@ -63,14 +69,11 @@ pub fn smallest(form: Form) -> File {
 fn signed(mut f: File, n: usize) -> File
     requires { n < 65 }
 {
-    match f.form {
-        Form::Old => f,
-        Form::New => {
-            let at = start(f.form, n);
-            f.bytes[at + 51] = 128;
-            f
-        }
+    if f.form == Form::New {
+        let at = size(f.form) * n;
+        f.bytes[at + 51] = 128;
     }
+    f
 }
 
 // n records of kind 3 after those two, in order.
@@ -78,10 +81,69 @@ pub fn with_deciles(form: Form, n: usize) -> File
     requires { n ≤ 60 }
 {
     let mut f = record(smallest(form), 1, 2, 2);
-    let mut k = 2;
-    while k < n + 2 {
+    for k in 2..n + 2 {
         f = record(f, k, 3, ((k + 1) % 256) as u8);
-        k += 1;
     }
     record(signed(f, n + 1), n + 1, 3, 0)
+}
+
+// The smallest file with another byte of record 0.
+fn with_byte(form: Form, at: usize, byte: u8) -> File
+    requires { at < 64 }
+{
+    let mut f = smallest(form);
+    f.bytes[at] = byte;
+    f
+}
+
+// Bytes of record 0 that are turned away in either form, each file handed over after its name.
+pub fn first_bytes<P: Fn(&[u8], &[u8])>(form: Form, print: P)
+    requires { P.IsAlwaysCallable print }
+{
+    print(b"km 0\n", first(&with_byte(form, 4, 0), 2));
+    print(b"km 6\n", first(&with_byte(form, 4, 6), 2));
+    print(b"shape 2\n", first(&with_byte(form, 5, 2), 2));
+    print(b"byte 7\n", first(&with_byte(form, 7, 1), 2));
+    print(b"byte 63\n", first(&with_byte(form, 63, 1), 2));
+}
+
+// Steps that lead astray.
+pub fn steps<P: Fn(&[u8], &[u8])>(form: Form, print: P)
+    requires { P.IsAlwaysCallable print }
+{
+    let past = record(smallest(form), 0, first_kind(form), 2);
+    print(b"past the last record\n", first(&past, 2));
+    let itself = record(smallest(form), 1, 2, 1);
+    print(b"a step to itself\n", first(&itself, 2));
+    let mut cycle = record(record(smallest(form), 1, 2, 2), 2, 2, 1);
+    cycle.bytes[4] = 2;
+    print(b"a cycle\n", first(&cycle, 3));
+    print(b"next 257\n", first(&with_byte(form, 3, 1), 2));
+}
+
+// Chains that end too early or too late, or come to another kind of record.
+pub fn points<P: Fn(&[u8], &[u8])>(form: Form, print: P)
+    requires { P.IsAlwaysCallable print }
+{
+    let ended = record(smallest(form), 0, first_kind(form), 0);
+    print(b"record 0 ends\n", first(&ended, 2));
+    let kind = record(smallest(form), 1, 3, 0);
+    print(b"no point\n", first(&kind, 2));
+    print(b"a point too few\n", first(&with_byte(form, 4, 2), 2));
+    let many = record(record(smallest(form), 1, 2, 2), 2, 2, 0);
+    print(b"a point too many\n", first(&many, 3));
+}
+
+// A chain that steps back to a record that it has not met.
+pub fn permuted<P: Fn(&[u8], &[u8])>(form: Form, print: P)
+    requires { P.IsAlwaysCallable print }
+{
+    let mut f = record(
+        record(record(smallest(form), 0, first_kind(form), 2), 2, 2, 1),
+        1,
+        2,
+        0,
+    );
+    f.bytes[4] = 2;
+    print(b"a permuted chain\n", first(&f, 3));
 }

@@ -8,8 +8,8 @@ ghost use Rattle.std.specs.Prelude.{◌<◌, ◌≤◌};
 use layer_mufs::PathNumbers;
 use layers::{IonoState, LayerMuf, LayerParams};
 use reflectrix::Ionogram;
+use refusal::Refusal;
 use slot_sheet::SlotSheet;
-use wave_answers::Answer;
 
 fn say(what: &[u8], n: u64) {
     io::write_all(1, what);
@@ -24,9 +24,8 @@ fn say_bits(what: &[u8], x: f32) {
 }
 
 // 0, or the number of the refusal.
-fn refused(x: SlotSheet) -> u64 {
-    let outcome = x.outcome;
-    refusal::outcome_number(outcome) as u64
+fn say_refused<T>(what: &[u8], answer: &Result<T, Refusal>) {
+    say(what, u64::from(refusal::answer_number(answer)));
 }
 
 // E 2.75, F1 5.25 and F2 12.25 MHz.
@@ -40,41 +39,32 @@ fn points() -> [LayerParams; 5] {
 }
 
 // One such point, as `ionset` leaves it.
-fn slots() -> IonoState {
-    let made = slots::from_layers(points(), 1);
-    let set = slots::ionset(made.state);
-    set.state
+fn slots() -> Result<IonoState, Refusal> {
+    slots::ionset(slots::from_layers(points(), 1)?)
 }
 
 fn no_layers() -> [LayerMuf; 4] {
-    let line = e_lines::zero_line();
-    [line, line, line, line]
+    [e_lines::zero_line(); 4]
 }
 
-fn sheet_of(s: IonoState, nang: usize, cells: &mut [i32]) -> SlotSheet {
-    let lines = no_layers();
-    slot_sheet::slot_sheet(s, 0, nang, lines, cells)
+fn sheet_of(s: IonoState, nang: usize, cells: &mut [i32]) -> Result<SlotSheet, Refusal> {
+    slot_sheet::slot_sheet(s, 0, nang, no_layers(), cells)
 }
 
 // A sheet of so many angles into the first n cells.
-fn room(what: &[u8], nang: usize, n: usize)
+fn room(what: &[u8], s: IonoState, nang: usize, n: usize)
     requires { n ≤ 1230 }
 {
     let mut cells = [0i32; 1230];
-    let x = sheet_of(slots(), nang, &mut cells[..n]);
-    say(what, refused(x));
+    say_refused(what, &sheet_of(s, nang, &mut cells[..n]));
 }
 
 // Thirty cells an angle: 40 angles take 1,200.
-fn rooms() {
-    room(b"40 angles, 1200 cells: ", 40, 1200);
-    room(b"40 angles, 1199 cells: ", 40, 1199);
-    room(b"41 angles, 1230 cells: ", 41, 1230);
-    room(b"no angle, no cell: ", 0, 0);
-}
-
-fn number_of(a: Answer) -> u64 {
-    wave_answers::answer_number(a) as u64
+fn rooms(s: IonoState) {
+    room(b"40 angles, 1200 cells: ", s, 40, 1200);
+    room(b"40 angles, 1199 cells: ", s, 40, 1199);
+    room(b"41 angles, 1230 cells: ", s, 41, 1230);
+    room(b"no angle, no cell: ", s, 0, 0);
 }
 
 // 4 itself answers, the next f32 is refused; a NaN is no refusal.
@@ -82,150 +72,93 @@ fn angles() {
     let four = scalar::number(0x4080_0000);
     let next = scalar::number(0x4080_0001);
     let nan = scalar::number(0x7fc0_0000);
-    say(b"sin 4: ", number_of(wave_answers::sin_or_refuse(four)));
-    say(
-        b"sin above 4: ",
-        number_of(wave_answers::sin_or_refuse(next)),
-    );
-    say(b"sin -4: ", number_of(wave_answers::sin_or_refuse(-four)));
-    say(
-        b"sin below -4: ",
-        number_of(wave_answers::sin_or_refuse(-next)),
-    );
-    say(b"sin NaN: ", number_of(wave_answers::sin_or_refuse(nan)));
-    say(b"cos 4: ", number_of(wave_answers::cos_or_refuse(four)));
-    say(
-        b"cos above 4: ",
-        number_of(wave_answers::cos_or_refuse(next)),
-    );
+    say_refused(b"sin 4: ", &wave_answers::sin_or_refuse(four));
+    say_refused(b"sin above 4: ", &wave_answers::sin_or_refuse(next));
+    say_refused(b"sin -4: ", &wave_answers::sin_or_refuse(-four));
+    say_refused(b"sin below -4: ", &wave_answers::sin_or_refuse(-next));
+    say_refused(b"sin NaN: ", &wave_answers::sin_or_refuse(nan));
+    say_refused(b"cos 4: ", &wave_answers::cos_or_refuse(four));
+    say_refused(b"cos above 4: ", &wave_answers::cos_or_refuse(next));
     say_bits(
         b"sine of 4: ",
-        wave_answers::answer_value(wave_answers::sin_or_refuse(four)),
+        wave_answers::sin_or_refuse(four).unwrap_or(0.0),
     );
     say_bits(
         b"beside its refusal: ",
-        wave_answers::answer_value(wave_answers::sin_or_refuse(next)),
+        wave_answers::sin_or_refuse(next).unwrap_or(0.0),
     );
 }
 
 // A layer at 300 km reaches 1,500 km in one hop; no number of hops at the ground does.
 fn hop_counts() {
     let one = hops::hop_count(1500.0, 3.0, 300.0);
-    say(b"hops at 300 km: ", hops::hops_number(one) as u64);
-    say_bits(b"their count: ", hops::hops_value(one));
-    let ground = hops::hop_count(1500.0, 0.0, 0.0);
-    say(b"hops at the ground: ", hops::hops_number(ground) as u64);
+    say_refused(b"hops at 300 km: ", &one);
+    say_bits(b"their count: ", one.unwrap_or(0.0));
+    say_refused(b"hops at the ground: ", &hops::hop_count(1500.0, 0.0, 0.0));
 }
 
 fn same(a: f32, b: f32) -> bool {
     scalar::bits(a) == scalar::bits(b)
 }
 
-// 1 where the densities differ at i.
-fn density_differs(a: [f32; 50], b: [f32; 50], i: usize) -> u64
-    requires { i < 50 }
-    ensures { result ≤ 1 }
-{
-    if same(a[i], b[i]) {
-        return 0;
-    }
-    1
+fn differing_densities(a: &[f32; 50], b: &[f32; 50]) -> usize {
+    a.iter().zip(b.iter()).filter(|x| !same(*x.0, *x.1)).count()
 }
 
-fn differing_densities(a: [f32; 50], b: [f32; 50]) -> u64 {
-    let mut n = 0u64;
-    let mut i = 0usize;
-    while i < 50 {
-        n += density_differs(a, b, i);
-        i += 1;
-    }
-    n
-}
-
-// 1 where any of the five numbers of row i differ.
-fn row_differs(a: Ionogram, b: Ionogram, i: usize) -> u64
+fn same_row(a: &Ionogram, b: &Ionogram, i: usize) -> bool
     requires { i < 30 }
-    ensures { result ≤ 1 }
 {
-    if !same(a.fvert[i], b.fvert[i]) {
-        return 1;
-    }
-    if !same(a.hprim[i], b.hprim[i]) {
-        return 1;
-    }
-    if !same(a.htrue[i], b.htrue[i]) {
-        return 1;
-    }
-    if !same(a.afac[i], b.afac[i]) {
-        return 1;
-    }
-    if a.segment[i] != b.segment[i] {
-        return 1;
-    }
-    0
+    same(a.fvert[i], b.fvert[i])
+        && same(a.hprim[i], b.hprim[i])
+        && same(a.htrue[i], b.htrue[i])
+        && same(a.afac[i], b.afac[i])
+        && a.segment[i] == b.segment[i]
 }
 
-fn differing_rows(a: Ionogram, b: Ionogram) -> u64 {
-    let mut n = 0u64;
-    let mut i = 0usize;
-    while i < 30 {
-        n += row_differs(a, b, i);
-        i += 1;
-    }
-    n
+fn differing_rows(a: &Ionogram, b: &Ionogram) -> usize {
+    (0..30).filter(|i| !same_row(a, b, *i)).count()
 }
 
 // Preparing a slot twice is not preparing it once: why a sheet starts from the slots as `ionset` left them.
-fn prepared_twice() {
-    let s = slots();
+fn prepared_twice(s: IonoState) -> Result<(), Refusal> {
     let once = profile::lecden_slot(s, 0);
     let twice = profile::lecden_slot(once, 0);
     say(
         b"densities changed: ",
-        differing_densities(once.fnsq, twice.fnsq),
+        differing_densities(&once.fnsq, &twice.fnsq) as u64,
     );
     say_bits(b"fsecv once: ", once.fsecv[0]);
     say_bits(b"fsecv twice: ", twice.fsecv[0]);
     let mut cells = [0i32; 30];
-    let fresh = sheet_of(s, 1, &mut cells);
-    let again = sheet_of(once, 1, &mut cells);
-    say(b"rows changed: ", differing_rows(fresh.ion, again.ion));
+    let fresh = sheet_of(s, 1, &mut cells)?;
+    let again = sheet_of(once, 1, &mut cells)?;
+    say(
+        b"rows changed: ",
+        differing_rows(&fresh.ion, &again.ion) as u64,
+    );
+    Ok(())
 }
 
 // One to five points.
 fn counts() {
-    let made = slots::from_layers(points(), 0);
-    let none = made.outcome;
-    say(b"no point: ", refusal::outcome_number(none) as u64);
-    let made = slots::from_layers(points(), 6);
-    let many = made.outcome;
-    say(b"six points: ", refusal::outcome_number(many) as u64);
-    let set = slots::ionset(layers::zero_state());
-    let unset = set.outcome;
-    say(
-        b"slots of no point: ",
-        refusal::outcome_number(unset) as u64,
-    );
+    say_refused(b"no point: ", &slots::from_layers(points(), 0));
+    say_refused(b"six points: ", &slots::from_layers(points(), 6));
+    say_refused(b"slots of no point: ", &slots::ionset(layers::zero_state()));
 }
 
 // Slots are 0, 1 and 2; the slot number is looked at before the angles.
-fn slot_numbers() {
-    let s = slots();
-    let prepared = profile::lecden(s, 3);
-    let outcome = prepared.outcome;
-    say(
-        b"lecden of slot 3: ",
-        refusal::outcome_number(outcome) as u64,
-    );
+fn slot_numbers(s: IonoState) {
+    say_refused(b"lecden of slot 3: ", &profile::lecden(s, 3));
     let mut cells = [0i32; 30];
-    let lines = no_layers();
-    let x = slot_sheet::slot_sheet(s, 3, 41, lines, &mut cells);
-    say(b"sheet of slot 3, 41 angles: ", refused(x));
+    say_refused(
+        b"sheet of slot 3, 41 angles: ",
+        &slot_sheet::slot_sheet(s, 3, 41, no_layers(), &mut cells),
+    );
 }
 
 // The MUF of the point's hour, 1,500 km, with so many deciles, all zero, so long a path in radians
 // and so many clocks.
-fn muf_of(what: &[u8], deciles: usize, gcd: f32, clocks: usize)
+fn muf_of(what: &[u8], s: IonoState, deciles: usize, gcd: f32, clocks: usize)
     requires { (deciles ≤ 577) × (clocks ≤ 1) }
 {
     let path = PathNumbers {
@@ -238,33 +171,34 @@ fn muf_of(what: &[u8], deciles: usize, gcd: f32, clocks: usize)
     let f2d = [0.0; 577];
     let clat = [0.5];
     let clck = [12.0];
-    let m = muf::curmuf(
-        slots(),
-        &mut es,
-        &f2d[..deciles],
-        &clat,
-        &clck[..clocks],
-        path,
+    say_refused(
+        what,
+        &muf::curmuf(s, &mut es, &f2d[..deciles], &clat, &clck[..clocks], path),
     );
-    let outcome = m.outcome;
-    say(what, refusal::outcome_number(outcome) as u64);
 }
 
 // The domain comes before the lists.
-fn mufs() {
-    muf_of(b"576 deciles, a clock: ", 576, 0.235, 1);
-    muf_of(b"575 deciles: ", 575, 0.235, 1);
-    muf_of(b"577 deciles: ", 577, 0.235, 1);
-    muf_of(b"no clock: ", 576, 0.235, 0);
-    muf_of(b"575 deciles, gcd 6.4: ", 575, 6.4, 1);
+fn mufs(s: IonoState) {
+    muf_of(b"576 deciles, a clock: ", s, 576, 0.235, 1);
+    muf_of(b"575 deciles: ", s, 575, 0.235, 1);
+    muf_of(b"577 deciles: ", s, 577, 0.235, 1);
+    muf_of(b"no clock: ", s, 576, 0.235, 0);
+    muf_of(b"575 deciles, gcd 6.4: ", s, 575, 6.4, 1);
+}
+
+fn trials() -> Result<(), Refusal> {
+    let s = slots()?;
+    rooms(s);
+    counts();
+    slot_numbers(s);
+    mufs(s);
+    angles();
+    hop_counts();
+    prepared_twice(s)
 }
 
 fn main() {
-    rooms();
-    counts();
-    slot_numbers();
-    mufs();
-    angles();
-    hop_counts();
-    prepared_twice();
+    if let Err(r) = trials() {
+        say(b"refused: ", u64::from(u32::from(r)));
+    }
 }

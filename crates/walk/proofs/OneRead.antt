@@ -17,8 +17,7 @@ use Rattle.order.proofs.Chains.{lt→le, le-lt, lt-le, lt_not_le, not-le-lt}
 use borrow.Author.Tests.{ltb-false}
 use Rattle.readings.specs.Scan.{segment_number, interpolated, segment_of, or_on, scan_from, reading_by, reading_of}
 use Rattle.readings.specs.Cursor.{count_of, stopped_by, stopped_at, read_on_by, read_on_of}
-use Rattle.readings.specs.declared.Hit.{Hit}
-use Rattle.readings.specs.declared.Hit.TheVariants.{At, Miss}
+use Rattle.std.specs.Prelude.{Option, Some, None}
 use Rattle.readings.specs.declared.Reading.{Reading}
 use Rattle.readings.specs.declared.Reading.TheVariants.{Floor, Top}
 use Rattle.readings.specs.declared.Read.{Read}
@@ -52,14 +51,14 @@ lt-not-same (fin s m e) y h = tt
 
 -- ---- one segment of a rising profile
 -- what is left of the tests there: x0 - z <= 0, z - x1 < 0
-rising : Bool → Bool → Float → Hit
-rising upto below y = cond upto (cond below (At y) Miss) (At y)
+rising : Bool → Bool → Float → Option Float
+rising upto below y = cond upto (cond below (Some y) None) (Some y)
 
 rises-so : (x0 x1 y0 y1 z : Float) → T (fits binary32 x0) → T (fits binary32 x1) → T (lt x0 x1) → segment_of x0 x1 y0 y1 z ≡ rising (le (x0 -f z) f0) (lt (z -f x1) f0) (interpolated x0 x1 y0 y1 z)
 unfolding segment_of rising
 rises-so x0 x1 y0 y1 z p q h = rw (less x0 x1 p q ∙ is_true (lt x0 x1) h)
 
-missed : (x0 x1 y0 y1 z : Float) → T (fits binary32 x0) → T (fits binary32 x1) → T (fits binary32 z) → T (lt x0 x1) → T (le x1 z) → segment_of x0 x1 y0 y1 z ≡ Miss
+missed : (x0 x1 y0 y1 z : Float) → T (fits binary32 x0) → T (fits binary32 x1) → T (fits binary32 z) → T (lt x0 x1) → T (le x1 z) → segment_of x0 x1 y0 y1 z ≡ None
 unfolding rising
 missed x0 x1 y0 y1 z p q r h k =
     let l = lt-le binary32 x0 x1 z p q r h k in
@@ -68,11 +67,11 @@ missed x0 x1 y0 y1 z p q r h k =
     ∙ ap (λ (b : Bool). rising b (lt (z -f x1) f0) y) (upto x0 z p r ∙ is_true (le x0 z && not (same_inf x0 z)) (and_i (le x0 z) (not (same_inf x0 z)) (lt→le binary32 x0 z p r l) (lt-not-same x0 z l)))
     ∙ ap (λ (b : Bool). rising true b y) (less z x1 r q ∙ is_false (lt z x1) (not_T (lt z x1) (λ (t : T (lt z x1)). lt_not_le binary32 z x1 r q t k)))
 
-held : (x0 x1 y0 y1 z : Float) → T (fits binary32 x0) → T (fits binary32 x1) → T (fits binary32 z) → T (lt x0 x1) → T (not (le x1 z)) → segment_of x0 x1 y0 y1 z ≡ At (interpolated x0 x1 y0 y1 z)
+held : (x0 x1 y0 y1 z : Float) → T (fits binary32 x0) → T (fits binary32 x1) → T (fits binary32 z) → T (lt x0 x1) → T (not (le x1 z)) → segment_of x0 x1 y0 y1 z ≡ Some (interpolated x0 x1 y0 y1 z)
 unfolding rising
 held x0 x1 y0 y1 z p q r h k = rises-so x0 x1 y0 y1 z p q h ∙ go (le (x0 -f z) f0) (λ t. and_l (le x0 z) (not (same_inf x0 z)) (subst (λ (b : Bool). T b) (upto x0 z p r) t))
   where
-    go : (b : Bool) → (T b → T (le x0 z)) → rising b (lt (z -f x1) f0) (interpolated x0 x1 y0 y1 z) ≡ At (interpolated x0 x1 y0 y1 z)
+    go : (b : Bool) → (T b → T (le x0 z)) → rising b (lt (z -f x1) f0) (interpolated x0 x1 y0 y1 z) ≡ Some (interpolated x0 x1 y0 y1 z)
     go false f = refl
     go true f = ap (λ (b : Bool). rising true b (interpolated x0 x1 y0 y1 z)) (less z x1 r q ∙ is_true (lt z x1) (not-le-lt binary32 x1 z q r (lt-real x0 x1 h).1 (le-real x0 z (f tt)).1 k))
 
@@ -93,14 +92,14 @@ scan-reads htr fnsq z c H F r s (suc n) i e h = elim (eq-or-lt_of_le h) [ inl x 
 
     here : i ≡ c → or_on (segment_of (at htr i) (at htr (i + 1)) (at fnsq i) (at fnsq (i + 1)) z) i (scan_from htr fnsq z n (i + 1)) ≡ stopped_at htr fnsq z c
     here x =
-        ap (λ (o : Hit). or_on o i (scan_from htr fnsq z n (i + 1)))
+        ap (λ (o : Option Float). or_on o i (scan_from htr fnsq z n (i + 1)))
         (held (at htr i) (at htr (i + 1)) (at fnsq i) (at fnsq (i + 1)) z (H i) (H (i + 1)) F (r i inside) (subst (λ (k : ℕ). T (not (le (at htr (k + 1)) z))) (sym x) (s.stop (le_trans (le_of_eq (ap suc (sym x))) inside))))
         ∙ ap (λ (b : Bool). stopped_by b htr fnsq z i) (sym (is_true (ltb i 49) (lt→ltb i 49 inside)))
         ∙ ap (stopped_at htr fnsq z) x
 
     on : i < c → scan_from htr fnsq z n (i + 1) ≡ stopped_at htr fnsq z c → or_on (segment_of (at htr i) (at htr (i + 1)) (at fnsq i) (at fnsq (i + 1)) z) i (scan_from htr fnsq z n (i + 1)) ≡ stopped_at htr fnsq z c
     on l more =
-        ap (λ (o : Hit). or_on o i (scan_from htr fnsq z n (i + 1)))
+        ap (λ (o : Option Float). or_on o i (scan_from htr fnsq z n (i + 1)))
         (missed (at htr i) (at htr (i + 1)) (at fnsq i) (at fnsq (i + 1)) z (H i) (H (i + 1)) F (r i inside) (s.past i zero-le l))
         ∙ more
 

@@ -2,57 +2,32 @@
 #![tactic(auto)]
 
 ghost use Rattle.std.specs.Prelude.{◌≡◌};
-ghost use Rattle.wave_answers.specs.Answers.{sin_answer, cos_answer, answer_number, answer_value};
+ghost use Rattle.scalar.specs.F32.{◌<f◌, ◌>f◌, negf};
+ghost use Rattle.scalar.specs.Literals.{f4};
+ghost use Rattle.wave_answers.specs.Answers.{unless_outside, sin_answer, cos_answer};
 
 use refusal::Refusal;
 
-// sine and cosine answer from -4 to 4, and at NaN
-#[derive(Drop)]
-pub enum Answer {
-    Value(f32),
-    Refused(Refusal),
+// The value of an angle from -4 to 4, or of a NaN.
+fn unless_outside(x: f32, value: f32) -> Result<f32, Refusal>
+    ensures { result ≡ unless_outside (x <f negf f4) (x >f f4) value }
+{
+    if x < -4.0 || x > 4.0 {
+        return Err(Refusal::Angle);
+    }
+    Ok(value)
 }
 
-pub fn sin_or_refuse(x: f32) -> Answer
+#[tactic(auto, unfolding(crate::specs::Answers::sin_answer))]
+pub fn sin_or_refuse(x: f32) -> Result<f32, Refusal>
     ensures { result ≡ sin_answer x }
 {
-    if x < -4.0 {
-        return Answer::Refused(Refusal::Angle);
-    }
-    if x > 4.0 {
-        return Answer::Refused(Refusal::Angle);
-    }
-    Answer::Value(waves::sin(x))
+    unless_outside(x, waves::sin(x))
 }
 
-pub fn cos_or_refuse(x: f32) -> Answer
+#[tactic(auto, unfolding(crate::specs::Answers::cos_answer))]
+pub fn cos_or_refuse(x: f32) -> Result<f32, Refusal>
     ensures { result ≡ cos_answer x }
 {
-    if x < -4.0 {
-        return Answer::Refused(Refusal::Angle);
-    }
-    if x > 4.0 {
-        return Answer::Refused(Refusal::Angle);
-    }
-    Answer::Value(waves::cos(x))
-}
-
-// 0 for a value, else the refusal's number
-pub fn answer_number(a: Answer) -> u32
-    ensures { result ≡ answer_number a }
-{
-    match a {
-        Answer::Value(r) => 0,
-        Answer::Refused(r) => refusal::number(r),
-    }
-}
-
-// +0 beside a refusal
-pub fn answer_value(a: Answer) -> f32
-    ensures { result ≡ answer_value a }
-{
-    match a {
-        Answer::Value(v) => v,
-        Answer::Refused(_) => 0.0,
-    }
+    unless_outside(x, waves::cos(x))
 }

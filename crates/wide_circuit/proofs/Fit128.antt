@@ -1,38 +1,47 @@
 -- The form that carries F2M3 is one of those that reader and writer take, and what stands beside a circuit there, by the
--- chain's outcome.
+-- chain's answer.
 use mathlib.Core.Path.{◌≡◌, refl}
 use mathlib.Core.List.{List}
 use Prim.Native.Nat.{ℕ}
 use native.Mathlib.Omega.{arith}
 use lib.ListN.{replicate}
+use Rattle.std.specs.Prelude.{Result, Ok, Err}
 use Rattle.refusal.specs.declared.Refusal.{Refusal}
-use Rattle.refusal.specs.declared.Outcome.{Outcome}
 use Rattle.record_chain.specs.declared.Chain.{Chain}
 use Rattle.records.specs.Record.{Fit, record_at}
 use Rattle.record_chain.specs.Chain.{km_of, padded, chain_of}
-use Rattle.circuit.specs.Read.{numbers_of, circuit_of, no_circuit, beside_of}
+use Rattle.circuit.specs.Read.{numbers_of, circuit_of, circuit_in, read_of, beside_of}
 use Rattle.circuit.proofs.Answers.{read-answered, read-refused}
-use Rattle.wide_circuit.specs.Wide.{form128, wide_of}
+use Rattle.wide_circuit.specs.declared.WideCircuit.{WideCircuit}
+use Rattle.wide_circuit.specs.Wide.{form128, wide_of, wide_in}
 
 pub fit128 : Fit form128
 fit128 = (omega arith, omega arith, omega arith)
 
-module _ (f : List ℕ) (k : Chain) (e : k ≡ chain_of form128 f) where
-  pub beside-answered : k.outcome ≡ Outcome.Answered
+module _ (f : List ℕ) where
+  pub beside-answered : (k : Chain) → chain_of form128 f ≡ Ok k
       → beside_of form128 f ≡ padded 5 (numbers_of form128 f k.order 1 15 1 (km_of (record_at form128 f 0)))
   unfolding beside_of
-  beside-answered a = rw (← e, a) refl
+  beside-answered k e = rw e refl
 
-  beside-refused : (r : Refusal) → k.outcome ≡ Outcome.Refused r → beside_of form128 f ≡ replicate 5 0
+  beside-refused : (r : Refusal) → chain_of form128 f ≡ Err r → beside_of form128 f ≡ replicate 5 0
   unfolding beside_of
-  beside-refused r a = rw (← e, a) refl
+  beside-refused r e = rw e refl
 
-  pub wide-answered : k.outcome ≡ Outcome.Answered
-      → wide_of f ≡ record { outcome = Outcome.Answered; circuit = circuit_of form128 f k; f2m3 = beside_of form128 f }
+  pub wide-answered : (k : Chain) → chain_of form128 f ≡ Ok k
+      → wide_of f ≡ Ok (record { circuit = circuit_of form128 f k; f2m3 = beside_of form128 f })
   unfolding wide_of
-  wide-answered a = rw (read-answered form128 f k e a) refl
+  wide-answered k e = rw (read-answered form128 f k e) refl
 
-  pub wide-refused : (r : Refusal) → k.outcome ≡ Outcome.Refused r
-      → wide_of f ≡ record { outcome = Outcome.Refused r; circuit = no_circuit; f2m3 = replicate 5 0 }
+  pub wide-refused : (r : Refusal) → chain_of form128 f ≡ Err r → wide_of f ≡ Err r
   unfolding wide_of
-  wide-refused r a = rw (read-refused form128 f k e r a, beside-refused r a) refl
+  wide-refused r e = rw (read-refused form128 f r e) refl
+
+  in-by : (a : Result Chain Refusal) → chain_of form128 f ≡ a
+      → ◌≡◌ {A = WideCircuit} (wide_in (wide_of f)) (record { circuit = circuit_in (read_of form128 f); f2m3 = beside_of form128 f })
+  in-by (Ok k) e = rw (wide-answered k e, read-answered form128 f k e) refl
+  in-by (Err r) e = rw (wide-refused r e, read-refused form128 f r e, beside-refused r e) refl
+
+  -- circuit and F2M3 are what is read, and what stands beside it
+  pub wide-in : ◌≡◌ {A = WideCircuit} (wide_in (wide_of f)) (record { circuit = circuit_in (read_of form128 f); f2m3 = beside_of form128 f })
+  wide-in = in-by (chain_of form128 f) refl

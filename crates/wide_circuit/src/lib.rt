@@ -11,55 +11,36 @@ ghost use Rattle.wide_form.specs.Form128.{form128};
 ghost use Rattle.wide_circuit.specs.Wide.{wide_of};
 
 use circuit::Circuit;
-use circuit_write::WriteAnswer;
 use record_chain::Chain;
-use refusal::Outcome;
+use refusal::Refusal;
 
-// Beside a refusal every number is zero. F2M3 past the km points is zero too.
+// F2M3 that is read is zero past the km points.
 #[derive(Clone, Copy)]
-pub struct WideAnswer {
-    pub outcome: Outcome,
+pub struct WideCircuit {
     pub circuit: Circuit,
     pub f2m3: [u32; 5],
 }
 
 // The chain of a file, or where it is turned away.
-fn follow(file: &[u8]) -> Chain
+fn follow(file: &[u8]) -> Result<Chain, Refusal>
     ensures { result ≡ chain_of form128 file.now }
 {
     record_chain::follow_form(wide_form::form128(), file)
 }
 
 // The circuit of a file and its F2M3, or where it is turned away. Records off the chain are not looked at.
-pub fn read(file: &[u8]) -> WideAnswer
+pub fn read(file: &[u8]) -> Result<WideCircuit, Refusal>
     ensures { result ≡ wide_of file.now }
 {
-    let c = follow(file);
-    let outcome = c.outcome;
-    match outcome {
-        Outcome::Answered => {
-            let circuit = numbers::circuit(file, c);
-            let f2m3 = numbers::f2m3(file, c);
-            WideAnswer {
-                outcome: Outcome::Answered,
-                circuit,
-                f2m3,
-            }
-        }
-        Outcome::Refused(r) => {
-            let circuit = circuit::nothing();
-            WideAnswer {
-                outcome: Outcome::Refused(r),
-                circuit,
-                f2m3: [0; 5],
-            }
-        }
-    }
+    let c = follow(file)?;
+    let circuit = numbers::circuit(file, c);
+    let f2m3 = numbers::f2m3(file, c);
+    Ok(WideCircuit { circuit, f2m3 })
 }
 
-// Writes the file of a circuit and the F2M3 of its points into the cells lent. Cells past its end, and all cells at a refusal,
-// stay.
-pub fn write(c: Circuit, f2m3: [u32; 5], out: &mut [u8]) -> WriteAnswer
+// Writes the file of a circuit and the F2M3 of its points into the cells lent, and answers its length in bytes. Cells past its
+// end, and all cells at a refusal, stay.
+pub fn write(c: Circuit, f2m3: [u32; 5], out: &mut [u8]) -> Result<usize, Refusal>
     ensures value { result ≡ write_answer_of form128 c out.old }
     ensures out_after { out.new ≡ left_of form128 c f2m3 out.old }
 {

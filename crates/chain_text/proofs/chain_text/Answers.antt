@@ -1,4 +1,5 @@
--- The chain's outcome decides, and the text fits.
+-- The chain's answer decides, and the text fits.
+use mathlib.Core.Path.{sym, ◌∙◌}
 use native.Mathlib.Omega.{arith}
 use Rattle.lines.proofs.Placing.{fits}
 use Rattle.lines.proofs.Sizes.{refused}
@@ -6,16 +7,18 @@ use Rattle.chain_text.specs.ChainText.{followed_text, chain_text}
 use Rattle.chain_text.proofs.Within.{followed-most}
 use Rattle.chain_text.proofs.chain_text.Goals as goal
 
-pub returns-in-Answered : goal.returns-in-Answered
-unfolding chain_text followed_text
-returns-in-Answered c =
-    let k = c.follow-c.ensures in
-    let a = c.in-Answered.is in
-    let p = fits c.put_chain.ensures (omega (arith, (followed-most _ _ k a).most)) in
-    record { put = rw (← k, a) p.0; room = p.1 }
+pub put_chain-requires : goal.put_chain-requires
+put_chain-requires c = sym c.follow.ensures ∙ c.in-Ok.is
 
-pub returns-in-Refused : goal.returns-in-Refused
+pub returns-in-Ok : goal.returns-in-Ok
+unfolding chain_text followed_text
+returns-in-Ok c =
+    let e = sym c.follow.ensures ∙ c.in-Ok.is in
+    let p = fits c.put_chain.ensures (omega (arith, (followed-most _ _ e).most)) in
+    record { put = rw e p.0; room = p.1 }
+
+pub returns-in-Err : goal.returns-in-Err
 unfolding chain_text
-returns-in-Refused c =
-    let p = fits c.put_refused.ensures (omega (arith, (refused c.in-Refused.r).most)) in
-    record { put = rw (← c.follow-c.ensures, c.in-Refused.is) p.0; room = p.1 }
+returns-in-Err c =
+    let p = fits c.put_refused.ensures (omega (arith, (refused c.in-Err.r).most)) in
+    record { put = rw (← c.follow.ensures, c.in-Err.is) p.0; room = p.1 }

@@ -7,7 +7,7 @@ use Rattle.chain_text.proofs.put_chain.Goals as goal
 pub put_steps-at-requires : goal.put_steps-at-requires
 put_steps-at-requires c =
     let a = c in
-    within a.args.file.now a.args.c a.requires.0 a.requires.1
+    within a.args.file.now a.args.c a.requires
 
 pub returns : goal.returns
 unfolding followed_text

@@ -1,5 +1,5 @@
 -- After n turns the first n numbers stand at the front.
-use Prim.Native.Nat.{◌≤◌, ◌-◌}
+use Prim.Native.Nat.{◌≤◌}
 use mathlib.Core.Path.{◌≡◌}
 use lib.ListN.{length, take}
 use Rattle.circuit_numbers.specs.Numbers.{es_up_to}
@@ -7,6 +7,3 @@ use Rattle.circuit_numbers.proofs.es_rows.Given as goal
 
 abbrev pub invariant-loop-n : goal.invariant-loop-n
 invariant-loop-n l = (l.n ≤ 20) × (length l.es ≡ 20) × (take l.n l.es ≡ es_up_to l.words l.n)
-
-abbrev pub decreases-loop-n : goal.decreases-loop-n
-decreases-loop-n l = 20 - l.n

@@ -4,4 +4,4 @@ use Rattle.circuit_sheet.proofs.slots.Goals as goal
 
 pub returns : goal.returns
 unfolding slots_of
-returns c = rw (c.ionset-set.ensures, c.shaped-s.ensures, c.from_layers-made.ensures, c.params-points.ensures)
+returns c = rw (c.unwrap_or.ensures, c.ionset.ensures, c.shaped-s.ensures, c.unwrap_or-made.ensures, c.from_layers.ensures, c.zero_state.ensures, c.params-points.ensures)

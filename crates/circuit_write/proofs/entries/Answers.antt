@@ -15,16 +15,16 @@ unfolding entries_of
 loop-i-init c = (omega arith, refl, rw mul-zero)
 
 pub overflow_mul-size : goal.overflow_mul-size
-overflow_mul-size c = omega (arith, part-within c.args.o.size c.args.n c.loop-i.i c.loop-i-test.true)
+overflow_mul-size c = omega (arith, part-within c.args.o.size c.args.n c.loop-i.i (omega arith))
 
 pub overflow_mul-size-in-loop-i : goal.overflow_mul-size-in-loop-i
-overflow_mul-size-in-loop-i c = omega (arith, part-within c.args.o.size c.args.n c.loop-i.i c.loop-i-test.true)
+overflow_mul-size-in-loop-i c = omega (arith, part-within c.args.o.size c.args.n c.loop-i.i (omega arith))
 
 pub overflow_add-size : goal.overflow_add-size
-overflow_add-size c = omega (arith, part-within c.args.o.size c.args.n c.loop-i.i c.loop-i-test.true)
+overflow_add-size c = omega (arith, part-within c.args.o.size c.args.n c.loop-i.i (omega arith))
 
 pub slice_bounds-entry-end : goal.slice_bounds-entry-end
-slice_bounds-entry-end c = omega (arith, part-within c.args.o.size c.args.n c.loop-i.i c.loop-i-test.true)
+slice_bounds-entry-end c = omega (arith, part-within c.args.o.size c.args.n c.loop-i.i (omega arith))
 
 pub entry-requires : goal.entry-requires
 entry-requires c =
@@ -34,9 +34,9 @@ entry-requires c =
       a.requires.1,
       a.requires.2,
       a.requires.3,
-      c.loop-i-test.true,
+      (omega arith),
       omega (arith, records-most a.args.c),
-      length_part (a.args.o.size * l.i) a.args.o.size l.out (omega (arith, part-within c.args.o.size c.args.n c.loop-i.i c.loop-i-test.true)),
+      length_part (a.args.o.size * l.i) a.args.o.size l.out (omega (arith, part-within c.args.o.size c.args.n c.loop-i.i (omega arith))),
     )
 
 pub loop-i-preserved : goal.loop-i-preserved
@@ -49,7 +49,7 @@ loop-i-preserved c =
       omega arith,
       ap length e
           ∙ length-filled (entries_of a.o a.c b a.n (l.i + 1)) a.out.now (a.o.size * (l.i + 1))
-          (length-entries a.o s.requires.0 a.c b a.n (l.i + 1)) (omega (arith, part-within c.args.o.size c.args.n c.loop-i.i c.loop-i-test.true)),
+          (length-entries a.o s.requires.0 a.c b a.n (l.i + 1)) (omega (arith, part-within c.args.o.size c.args.n c.loop-i.i (omega arith))),
       e,
     )
 

@@ -6,7 +6,7 @@ use mathlib.Core.Bool.{false}
 use native.Mathlib.Omega.{arith}
 use borrow.Author.Tests.{le-leb, lt-leb}
 use lib.ListN.{drop}
-use Rattle.circuit_write.specs.declared.WriteAnswer.{WriteAnswer}
+use Rattle.std.specs.Prelude.{Ok}
 use Rattle.circuit_write.specs.Written.{good_of, file_of}
 use Rattle.circuit_write.proofs.Cells.{size-most, write-bad, write-small, write-good, good-is}
 use Rattle.circuit_write.proofs.write_form.Goals as goal
@@ -65,6 +65,6 @@ returns c =
     (good-is a.c c.if-c-lt1.false c.if-c-gt5.false c.if-c-gt1.false)
     (rw n at c.if-out-length.false)
     in record {
-      value = ap WriteAnswer.Written (ap (λ (k : ℕ). a.o.size * k) n) ∙ g.0;
+      value = ap Ok (ap (λ (k : ℕ). a.o.size * k) n) ∙ g.0;
       out_after = c.entries.ensures ∙ ap (λ (k : ℕ). file_of a.o a.c b ++ drop (a.o.size * k) a.out.now) n ∙ g.1;
     }

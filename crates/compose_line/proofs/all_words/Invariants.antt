@@ -1,4 +1,4 @@
--- The words from `at` on, added to r, are the words of the line added to a blank row.
+-- The words from `at` on, added to `row`, are the words of the line added to a blank row.
 use mathlib.Core.Path.{◌≡◌}
 use mathlib.Core.Bool.{false}
 use Prim.Native.Nat.{◌-◌, ◌≤◌, ◌<◌}
@@ -9,9 +9,11 @@ use Rattle.compose_line.proofs.all_words.Given as goal
 
 abbrev pub invariant-loop-at : goal.invariant-loop-at
 invariant-loop-at l =
-    (l.at ≤ length l.line)
-    × (l.at < length l.line → blank (get_or l.line l.at 0) ≡ false)
-    × (with_words l.r (words_of (drop l.at l.line)) ≡ with_words blank_row (words_of l.line))
+    record {
+      in_line : l.at ≤ length l.line;
+      word : l.at < length l.line → blank (get_or l.line l.at 0) ≡ false;
+      row : with_words l.row (words_of (drop l.at l.line)) ≡ with_words blank_row (words_of l.line);
+    }
 
 abbrev pub decreases-loop-at : goal.decreases-loop-at
 decreases-loop-at l = length l.line - l.at

@@ -1,4 +1,4 @@
--- The lines from `at` on, added to d, are the lines of the text added to none.
+-- The lines from `at` on, added to the draft, are the lines of the text added to no draft.
 use mathlib.Core.Path.{◌≡◌}
 use Prim.Native.Nat.{◌+◌, ◌-◌, ◌≤◌}
 use lib.ListN.{length, drop}
@@ -8,7 +8,11 @@ use Rattle.compose_text.proofs.compose.Given as goal
 
 abbrev pub invariant-loop-at : goal.invariant-loop-at
 invariant-loop-at l =
-    (l.at ≤ length l.text) × (l.n ≤ l.at + 1) × (with_lines l.d l.n (lines_of (drop l.at l.text)) ≡ composed_of l.text)
+    record {
+      in_text : l.at ≤ length l.text;
+      counted : l.line ≤ l.at + 1;
+      circuit : with_lines l.draft l.line (lines_of (drop l.at l.text)) ≡ composed_of l.text;
+    }
 
 abbrev pub decreases-loop-at : goal.decreases-loop-at
 decreases-loop-at l = length l.text - l.at

@@ -1,13 +1,13 @@
--- Something is wrong, or the file is written.
-use Rattle.composing.proofs.Answered.{wrong-said, file-said}
+-- The file has room, or it is not written.
+use mathlib.Core.Path.{◌≡◌}
+use native.Mathlib.Omega.{arith}
+use Rattle.std.proofs.Common.{rules}
+use Rattle.records.specs.Record.{form64}
+use Rattle.circuit_write.specs.Written.{write_answer_of, length_in}
+use Rattle.composing.proofs.Answered.{length-fits}
 use Rattle.composing.proofs.said.Goals as goal
 
-pub returns-then-d-ne0 : goal.returns-then-d-ne0
-returns-then-d-ne0 c =
-    let s = wrong-said c.args.d c.args.out.now c.put_wrong.new.out c.put_wrong.result c.if-d-ne0.true c.put_wrong.ensures in
-    record { value = s.0; out_after = s.1.0; upper_bound = s.1.1 }
-
-pub returns : goal.returns
-returns c =
-    let s = file-said c.args.d c.args.out.now c.write-a.new.out c.length_in.result c.write-a.result c.if-d-ne0.false c.write-a.ensures.value c.write-a.ensures.out_after c.length_in.ensures in
-    record { value = s.0; out_after = s.1.0; upper_bound = s.1.1 }
+pub returns-in-Ok-clause-upper_bound : goal.returns-in-Ok-clause-upper_bound
+returns-in-Ok-clause-upper_bound c =
+    let k : c.unwrap_or.result ≡ length_in (write_answer_of form64 c.in-Ok.c c.args.out.now) = search rules in
+    omega (arith, k, length-fits form64 c.in-Ok.c c.args.out.now)

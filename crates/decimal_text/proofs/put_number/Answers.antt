@@ -25,11 +25,11 @@ returns-in-Plus c =
     let a = c.args in
     let t = c.times-n in
     let units = t.ensures ∙ ap (λ (k : ℕ). times_of k a.v) c.ten_power.ensures in
-    rw (← plus-text a.width a.places t.result a.v c.requires.0 c.requires.1 units (sym c.kind_of.ensures ∙ c.in-Plus.is)) c.put_plus_units.ensures
+    rw (← plus-text a.width a.places t.result a.v c.requires.0 c.requires.1 units (sym c.kind_of.ensures ∙ c.in-Plus.is)) c.put_units.ensures
 
 pub returns-in-Minus : goal.returns-in-Minus
 returns-in-Minus c =
     let a = c.args in
     let t = c.times-n in
     let units = t.ensures ∙ ap (λ (k : ℕ). times_of k a.v) c.ten_power.ensures in
-    rw (← minus-text a.width a.places t.result a.v c.requires.0 c.requires.1 units (sym c.kind_of.ensures ∙ c.in-Minus.is)) c.put_minus_units.ensures
+    rw (← minus-text a.width a.places t.result a.v c.requires.0 c.requires.1 units (sym c.kind_of.ensures ∙ c.in-Minus.is)) c.put_units-in-Minus.ensures

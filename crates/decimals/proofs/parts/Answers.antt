@@ -1,32 +1,33 @@
 -- Where the digits are fine, their number is below 10 ^ 9, and it is rounded.
+use Rattle.std.specs.Prelude.{Some}
 use mathlib.Core.Path.{sym, ap, ◌∙◌}
 use native.Mathlib.Omega.{arith}
 use Rattle.decimals.specs.Decimal.{parts_of}
 use Rattle.decimals.proofs.DigitLists.{Fine, fine-says, first-room, second-room}
-use Rattle.decimals.proofs.parts.Goals.{Else-not-f}
+use Rattle.decimals.proofs.parts.Goals.{Else-not-fine}
 use Rattle.decimals.proofs.parts.Goals as goal
 
-fine-there : (c : Else-not-f) → Fine c.args.whole.now c.args.rest.now
-fine-there c = fine-says _ _ (sym c.fine-f.ensures ∙ c.if-not-f.false)
+fine-there : (c : Else-not-fine) → Fine c.args.whole.now c.args.rest.now
+fine-there c = fine-says _ _ (sym c.fine.ensures ∙ c.if-not-fine.false)
 
-pub returns-then-not-f : goal.returns-then-not-f
+pub returns-then-not-fine : goal.returns-then-not-fine
 unfolding parts_of
-returns-then-not-f c = rw (sym c.fine-f.ensures ∙ c.if-not-f.true)
+returns-then-not-fine c = rw (sym c.fine.ensures ∙ c.if-not-fine.true)
 
 pub value-requires : goal.value-requires
-value-requires c = let f = fine-there (goal.at.value-requires c).Else-not-f in (f.whole-digits, first-room _ _ f.most)
+value-requires c = let f = fine-there (goal.at.value-requires c).Else-not-fine in (f.whole-digits, first-room _ _ f.most)
 
 pub value-v-requires : goal.value-v-requires
-value-v-requires c = let f = fine-there (goal.at.value-v-requires c).Else-not-f in (f.rest-digits, second-room _ _ _ f.most c.value.ensures.1)
+value-v-requires c = let f = fine-there (goal.at.value-v-requires c).Else-not-fine in (f.rest-digits, second-room _ _ _ f.most c.value.ensures.1)
 
 pub overflow_cast-rest : goal.overflow_cast-rest
-overflow_cast-rest c = let f = (fine-there (goal.at.overflow_cast-rest c).Else-not-f).most in omega arith
+overflow_cast-rest c = let f = (fine-there (goal.at.overflow_cast-rest c).Else-not-fine).most in omega arith
 
 pub nearest-requires : goal.nearest-requires
-nearest-requires c = let f = (fine-there (goal.at.nearest-requires c).Else-not-f).most in omega arith
+nearest-requires c = let f = (fine-there (goal.at.nearest-requires c).Else-not-fine).most in omega arith
 
 pub returns : goal.returns
 unfolding parts_of
 returns c =
-    rw (sym c.fine-f.ensures ∙ c.if-not-f.false, ← c.value.ensures.0, ← c.value-v.ensures.0)
-    (ap Rattle.decimals.specs.declared.Decimal.Decimal.Bits c.nearest.ensures)
+    rw (sym c.fine.ensures ∙ c.if-not-fine.false, ← c.value.ensures.0, ← c.value-v.ensures.0)
+    (ap Some c.nearest.ensures)

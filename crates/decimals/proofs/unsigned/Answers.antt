@@ -9,4 +9,4 @@ slice_bounds-parts-end c = sym (length-take-le _ _ c.until-p.ensures.0)
 
 pub returns : goal.returns
 returns c =
-    c.parts.ensures ∙ point-parts _ _ _ _ c.until-p.ensures.1 c.past-e.ensures
+    c.parts.ensures ∙ point-parts _ _ _ _ c.until-p.ensures.1 c.min-e.ensures

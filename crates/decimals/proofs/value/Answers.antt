@@ -1,3 +1,4 @@
+use Rattle.std.proofs.Common.{rules}
 use mathlib.Core.Path.{◌≡◌, refl, sym, ap, ◌∙◌}
 use mathlib.Core.Bool.{true}
 use Prim.Native.Nat.{ℕ, ◌+◌, ◌-◌, ◌*◌, ◌^◌, ◌≤◌, ◌<◌}
@@ -24,35 +25,37 @@ step t from v i h a r p =
 none_passed : (v n : ℕ) → (v + 1) * 10 ^ (n - 0) ≤ (v + 1) * 10 ^ n
 none_passed v n = let e : n - 0 ≡ n = omega arith in le_of_eq (ap (λ (x : ℕ). (v + 1) * 10 ^ x) e)
 
-pub loop-i-init : goal.loop-i-init
-loop-i-init c = (omega arith, c.requires.0, refl, none_passed _ _)
+pub loop-b-init : goal.loop-b-init
+loop-b-init c = record { digits = c.requires.0; number = refl; room = none_passed _ _ }
 
 pub overflow_mul-v : goal.overflow_mul-v
 overflow_mul-v c =
-    let a = c in
-    let l = c.loop-i in
-    let s = step a.args.t.now a.args.from l.v l.i c.loop-i-test.true l.invariant.1 l.invariant.3 a.requires.1 in
+    let l = c.loop-b in
+    let s = step c.args.t.now c.args.from l.v l.b-index c.loop-b-test.true l.invariant.digits l.invariant.room c.requires.1 in
     omega (arith, s.most)
 
 pub overflow_add-v : goal.overflow_add-v
 overflow_add-v c =
-    let a = c in
-    let l = c.loop-i in
-    let s = step a.args.t.now a.args.from l.v l.i c.loop-i-test.true l.invariant.1 l.invariant.3 a.requires.1 in
-    omega (arith, s.most, c.digit.ensures)
+    let l = c.loop-b in
+    let s = step c.args.t.now c.args.from l.v l.b-index c.loop-b-test.true l.invariant.digits l.invariant.room c.requires.1 in
+    let e : c.from.result ≡ get_or c.args.t.now l.b-index 0 - 48 = search rules in
+    omega (arith, s.most, e)
 
-pub loop-i-preserved : goal.loop-i-preserved
-loop-i-preserved c =
-    let a = c in
-    let l = c.loop-i in
-    let t = a.args.t.now in
-    let h = c.loop-i-test.true in
-    let s = step t a.args.from l.v l.i h l.invariant.1 l.invariant.3 a.requires.1 in
-    (omega arith, s.digit.rest, rw c.digit.ensures (sym (value_on t l.v l.i h) ∙ l.invariant.2), rw c.digit.ensures s.room)
+pub loop-b-preserved : goal.loop-b-preserved
+loop-b-preserved c =
+    let l = c.loop-b in
+    let t = c.args.t.now in
+    let h = c.loop-b-test.true in
+    let s = step t c.args.from l.v l.b-index h l.invariant.digits l.invariant.room c.requires.1 in
+    let e : c.from.result ≡ get_or t l.b-index 0 - 48 = search rules in
+    record {
+      digits = s.digit.rest;
+      number = rw e (sym (value_on t l.v l.b-index h) ∙ l.invariant.number);
+      room = rw e s.room;
+    }
 
 pub returns : goal.returns
 returns c =
-    let a = c in
-    let l = c.loop-i in
-    let t = a.args.t.now in
-    (sym (value-end t l.v l.i c.loop-i-test.false) ∙ l.invariant.2, le_trans (le_of_eq (none_left l.v (length t) l.i c.loop-i-test.false)) l.invariant.3)
+    let l = c.loop-b in
+    let t = c.args.t.now in
+    (sym (value-end t l.v l.b-index c.loop-b-test.false) ∙ l.invariant.number, le_trans (le_of_eq (none_left l.v (length t) l.b-index c.loop-b-test.false)) l.invariant.room)

@@ -3,8 +3,8 @@ use mathlib.Core.Path.{refl}
 use Rattle.refusal.proofs.Numbers.{no_answer}
 use Rattle.deviation_words.proofs.deviation_into.Goals as goal
 
-pub returns-in-Value : goal.returns-in-Value
-returns-in-Value c = rw c.in-Value.is (refl, c.floats_into.ensures)
+pub returns-in-Ok : goal.returns-in-Ok
+returns-in-Ok c = rw c.in-Ok.is (refl, c.floats_into.ensures)
 
-pub returns-in-Refused : goal.returns-in-Refused
-returns-in-Refused c = rw (c.in-Refused.is, no_answer _) (c.number.ensures, refl)
+pub returns-in-Err : goal.returns-in-Err
+returns-in-Err c = rw (c.in-Err.is, no_answer _) (c.from.ensures, refl)

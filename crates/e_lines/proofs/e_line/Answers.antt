@@ -1,12 +1,19 @@
 -- Each path is its clause of the definition; each call is what its contract says.
+use Rattle.std.proofs.lemmas.Result.{err_from_is_err_and}
 use Rattle.e_lines.specs.Lines.{e_line_with}
 use Rattle.e_lines.proofs.Says.{e-says}
 use Rattle.e_lines.proofs.e_line.Goals as goal
 
-pub returns-in-Refused : goal.returns-in-Refused
+pub returns-in_err-g-clause-value : goal.returns-in_err-g-clause-value
 unfolding e_line_with
-returns-in-Refused c = record { value = (rw (← c.e_heights-h.ensures, ← c.hop_geometry-found.ensures.value, c.in-Refused.is)); e_says = e-says _ _ _ _ _ (rw (← c.e_heights-h.ensures, ← c.hop_geometry-found.ensures.value, c.in-Refused.is)) }
+returns-in_err-g-clause-value c = let p = err_from_is_err_and c.from_residual.result c.from_residual.ensures.1 in rw (p.1, p.2, ← c.e_heights-h.ensures, ← c.in_err-g.ensures.value)
 
-pub returns-in-Found : goal.returns-in-Found
+pub returns-in_err-g-clause-e_says : goal.returns-in_err-g-clause-e_says
+returns-in_err-g-clause-e_says c = e-says _ _ _ _ _ (returns-in_err-g-clause-value c)
+
+pub returns-clause-value : goal.returns-clause-value
 unfolding e_line_with
-returns-in-Found c = record { value = (rw (← c.e_heights-h.ensures, ← c.hop_geometry-found.ensures.value, c.in-Found.is, ← c.e_found-m.ensures)); e_says = e-says _ _ _ _ _ (rw (← c.e_heights-h.ensures, ← c.hop_geometry-found.ensures.value, c.in-Found.is, ← c.e_found-m.ensures)) }
+returns-clause-value c = rw (← c.e_heights-h.ensures, ← c.in_ok-g.ensures.value, ← c.e_found.ensures)
+
+pub returns-clause-e_says : goal.returns-clause-e_says
+returns-clause-e_says c = e-says _ _ _ _ _ (returns-clause-value c)

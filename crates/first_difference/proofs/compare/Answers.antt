@@ -1,46 +1,33 @@
-use mathlib.Core.Path.{refl, sym, ◌∙◌}
-use native.Mathlib.Omega.{arith}
-use lib.ListN.{get_or}
-use Rattle.first_difference.proofs.Bytes.{compared-bytes, feed-most, on, off, short, long, both}
+use Rattle.std.proofs.Common.{sym, ap, length, ◌∙◌, arith, inl, inr}
+use Rattle.first_difference.proofs.Bytes.{compared-bytes, feed-most, on, off, even, uneven}
 use Rattle.first_difference.proofs.compare.Goals as goal
 
-pub loop-i-init : goal.loop-i-init
-loop-i-init c = (omega arith, omega arith, omega arith, refl)
-
-pub returns-then-i-theirs : goal.returns-then-i-theirs
-returns-then-i-theirs c =
-    let l = c.loop-i in
-    let a = c.args in
-    sym (short a.ours.now a.theirs.now l.i l.line (omega arith) c.if-i-theirs.true) ∙ l.invariant.3 ∙ sym (compared-bytes _ _)
-
-pub returns-then-b-theirs : goal.returns-then-b-theirs
-returns-then-b-theirs c =
-    let l = c.loop-i in
-    let a = c.args in
-    sym (off a.ours.now a.theirs.now l.i l.line (omega arith) (omega arith) c.if-b-theirs.true) ∙ l.invariant.3 ∙ sym (compared-bytes _ _)
+pub returns-then-a-b : goal.returns-then-a-b
+returns-then-a-b c =
+    let s = c.in-Some.ensures.steps in
+    sym (off _ _ _ _ _ _ c.loop-a.line s.0 s.1 c.if-a-b.true) ∙ c.loop-a.invariant.2 ∙ sym (compared-bytes _ _)
 
 pub overflow_add-line : goal.overflow_add-line
-overflow_add-line c = omega (arith, c.feed-line.ensures, feed-most (get_or c.args.ours.now c.loop-i.i 0))
+overflow_add-line c = omega (arith, c.feed-line.ensures, feed-most c.in-Some.a.now)
 
-pub loop-i-preserved : goal.loop-i-preserved
-loop-i-preserved c =
-    let l = c.loop-i in
-    let a = c.args in
-    let b = get_or a.ours.now l.i 0 in (
+pub loop-a-preserved : goal.loop-a-preserved
+loop-a-preserved c =
+    let s = c.in-Some.ensures.steps in
+    let ours = ap length s.0 in
+    let theirs = ap length s.1 in (
+      omega (arith, c.feed-line.ensures, feed-most c.in-Some.a.now),
       omega arith,
-      omega arith,
-      omega (arith, c.feed-line.ensures, feed-most b),
-      rw c.feed-line.ensures (sym (on a.ours.now a.theirs.now l.i l.line (omega arith) (omega arith) c.if-b-theirs.false) ∙ l.invariant.3),
+      rw c.feed-line.ensures (sym (on _ _ _ _ _ _ c.loop-a.line s.0 s.1 c.if-a-b.false) ∙ c.loop-a.invariant.2),
     )
 
-pub returns-then-i-theirs-2 : goal.returns-then-i-theirs-2
-returns-then-i-theirs-2 c =
-    let l = c.loop-i in
-    let a = c.args in
-    sym (long a.ours.now a.theirs.now l.i l.line (omega arith) c.if-i-theirs-2.true) ∙ l.invariant.3 ∙ sym (compared-bytes _ _)
+pub returns-then-ours-theirs : goal.returns-then-ours-theirs
+returns-then-ours-theirs c =
+    sym (even _ _ c.loop-a.line (elim c.in-None.ensures.steps [ inl w ↦ inl w.1.0 | inr w ↦ inr w.1.0 ]) (omega arith))
+    ∙ c.loop-a.invariant.2
+    ∙ sym (compared-bytes _ _)
 
 pub returns : goal.returns
 returns c =
-    let l = c.loop-i in
-    let a = c.args in
-    sym (both a.ours.now a.theirs.now l.i l.line (omega arith) (omega arith)) ∙ l.invariant.3 ∙ sym (compared-bytes _ _)
+    sym (uneven _ _ c.loop-a.line (elim c.in-None.ensures.steps [ inl w ↦ inl w.1.0 | inr w ↦ inr w.1.0 ]) (λ e. c.if-ours-theirs.false (omega arith)))
+    ∙ c.loop-a.invariant.2
+    ∙ sym (compared-bytes _ _)

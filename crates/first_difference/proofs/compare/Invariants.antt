@@ -1,16 +1,12 @@
--- What is left from byte i on, line and all, has the verdict of the whole.
-use Prim.Native.Nat.{◌+◌, ◌-◌, ◌≤◌}
-use mathlib.Core.Path.{◌≡◌}
-use lib.ListN.{length, drop}
+-- What is left of both, line and all, has the verdict of the whole; each byte past gave one line at most.
+use Rattle.std.proofs.Common.{◌≡◌, ◌+◌, ◌≤◌, length}
 use Rattle.first_difference.proofs.Bytes.{by_bytes}
 use Rattle.first_difference.proofs.compare.Given as goal
 
-abbrev pub invariant-loop-i : goal.invariant-loop-i
-invariant-loop-i l =
-    (l.i ≤ length l.ours)
-    × (l.i ≤ length l.theirs)
-    × (l.line ≤ l.i + 1)
-    × (by_bytes l.line (drop l.i l.ours) (drop l.i l.theirs) ≡ by_bytes 1 l.ours l.theirs)
-
-abbrev pub decreases-loop-i : goal.decreases-loop-i
-decreases-loop-i l = length l.ours - l.i
+abbrev pub invariant-loop-a : goal.invariant-loop-a
+invariant-loop-a l =
+    let ours = l.a-iterator.a.rest.now in
+    let theirs = l.a-iterator.b.rest.now in
+    (l.line + length ours ≤ 1 + length l.ours)
+    × (length ours + length l.theirs ≡ length theirs + length l.ours)
+    × (by_bytes l.line ours theirs ≡ by_bytes 1 l.ours l.theirs)

@@ -1,34 +1,57 @@
-use mathlib.Core.Path.{◌≡◌, refl}
-use mathlib.Core.Bool.{cond}
-use mathlib.Core.List.{List}
-use Prim.Native.Nat.{◌<◌, ◌+◌, ◌-◌, ℕ, suc}
-use native.Mathlib.Nat.{le_antisymm}
+-- The search goes through the heights from the lowest, as the definition does.
+use mathlib.Core.Bool.{Bool, true, false, cond}
+use mathlib.Core.List.{List, []}
+use mathlib.Core.Path.{◌≡◌, refl, sym, ap, ◌∙◌}
+use Prim.Native.Nat.{ℕ, zero, suc, ◌+◌, ◌≤◌, ◌<◌}
+use native.Mathlib.Nat.{le_refl}
 use native.Mathlib.Omega.{arith}
-use lib.Ieee.{Float}
+use lib.Ieee.{Float, nan}
+use lib.ListN.{length, drop}
+use Rattle.std.proofs.Common.{Option, Some}
+use Rattle.std.proofs.lemmas.List.{drop_more}
+use Rattle.std.proofs.Math.Seq.{drop-length}
+use Rattle.std.proofs.lemmas.Iterator.Adapters.{position_from-zero}
+use Rattle.std.specs.List.{position, position_from}
+use Rattle.std.specs.Option.{unwrap_or}
 use Rattle.scalar.specs.F32.{◌≥f◌, at}
-use Rattle.height_integral.specs.Exact.{first_from}
+use Rattle.height_integral.specs.Exact.{first_from, last_of}
 use Rattle.height_integral.proofs.last.Goals as goal
 
-one_more : (htr : List Float) (top : Float) (ih : ℕ) → ih < 50 → first_from htr top (50 - ih) ih ≡ cond (at htr ih ≥f top) ih (first_from htr top (50 - (ih + 1)) (ih + 1))
-unfolding first_from
-one_more htr top ih h = let e : 50 - ih ≡ suc (50 - (ih + 1)) = omega arith in rw e
+abbrev reaches : Float → Float → Bool
+reaches top h = h ≥f top
 
-at-end : (htr : List Float) (top : Float) (ih : ℕ) → first_from htr top 0 ih ≡ 49
-unfolding first_from
-at-end htr top ih = refl
+module _ (htr : List Float) (top : Float) (long : length htr ≡ 50) where
+  one_height : (b : Bool) (i n : ℕ) (o : Option ℕ) → unwrap_or o 49 ≡ n → unwrap_or (cond b (Some i) o) 49 ≡ cond b i n
+  one_height true i n o e = refl
+  one_height false i n o e = e
 
-pub loop-ih-init : goal.loop-ih-init
-loop-ih-init c = (omega arith, refl)
+  none-left : drop 50 htr ≡ []
+  none-left = ap (λ (n : ℕ). drop n htr) (sym long) ∙ drop-length htr
 
-pub returns-then-htr-ih : goal.returns-then-htr-ih
-returns-then-htr-ih c =
-    let h : c.loop-ih.ih < 50 = omega arith in
-    (rw (one_more _ _ _ h, c.if-htr-ih.true) at c.loop-ih.invariant.1, omega arith)
+  searched : (n i : ℕ) → i + n ≡ 50 → unwrap_or (position_from (reaches top) i (drop i htr)) 49 ≡ first_from htr top n i
+  unfolding first_from
+  searched zero i e =
+      let k : i ≡ 50 = omega arith in
+      rw (k, none-left) refl
+  searched (suc n) i e =
+      let h : i < length htr = omega (arith, long) in
+      let l = drop_more htr i nan h in
+      rw l (one_height (reaches top (at htr i)) i _ _ (searched n (i + 1) (omega arith)))
 
-pub loop-ih-preserved : goal.loop-ih-preserved
-loop-ih-preserved c =
-    let h : c.loop-ih.ih < 50 = omega arith in
-    (omega arith, rw (one_more _ _ _ h, c.if-htr-ih.false) at c.loop-ih.invariant.1)
+  first-within : (n i : ℕ) → i + n ≡ 50 → first_from htr top n i ≤ 49
+  unfolding first_from
+  first-within zero i e = le_refl 49
+  first-within (suc n) i e = chosen (at htr i ≥f top) (omega arith) (first-within n (i + 1) (omega arith))
+    where
+      chosen : (b : Bool) → i ≤ 49 → first_from htr top n (i + 1) ≤ 49 → cond b i (first_from htr top n (i + 1)) ≤ 49
+      chosen true h k = h
+      chosen false h k = k
+
+  found : (o : Option ℕ) (r : ℕ) → o ≡ position (reaches top) htr → r ≡ unwrap_or o 49 → (r ≡ last_of htr top) × (r ≤ 49)
+  found o r e k = (is, rw is (first-within 50 0 refl))
+    where
+      is : r ≡ last_of htr top
+      is = k ∙ ap (λ (p : Option ℕ). unwrap_or p 49) (e ∙ position_from-zero (reaches top) htr) ∙ searched 50 0 refl
 
 pub returns : goal.returns
-returns c = (rw (le_antisymm c.loop-ih.invariant.0 c.loop-ih-test.false, at-end) at c.loop-ih.invariant.1, omega arith)
+returns c = found _ _ c.told-htr _ _ c.reaching.ensures c.unwrap_or.ensures

@@ -1,13 +1,13 @@
 -- Each path is its clause of the definition; each call is what its contract says.
 use mathlib.Core.Path.{refl}
 use Rattle.port_state.specs.Words.{floats_into}
-use Rattle.parabolas.specs.Bendy.{layer_number_of, layer_values_of}
+use Rattle.parabolas.specs.Bendy.{layer_values_of}
 use Rattle.height_words.proofs.layer_into.Goals as goal
 
-pub returns-in-Value : goal.returns-in-Value
-unfolding layer_number_of layer_values_of
-returns-in-Value c = rw c.in-Value.is (refl, c.floats_into.ensures)
+pub returns-in-Ok : goal.returns-in-Ok
+unfolding layer_values_of
+returns-in-Ok c = rw c.in-Ok.is (refl, c.floats_into.ensures)
 
-pub returns-in-Refused : goal.returns-in-Refused
-unfolding layer_number_of layer_values_of floats_into
-returns-in-Refused c = rw c.in-Refused.is (c.number.ensures, refl)
+pub returns-in-Err : goal.returns-in-Err
+unfolding layer_values_of floats_into
+returns-in-Err c = rw c.in-Err.is (c.from.ensures, refl)

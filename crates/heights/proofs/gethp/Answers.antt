@@ -9,4 +9,4 @@ pub returns : goal.returns
 returns c =
     let g = c.well_formed.0.1.1.1.1.1.1.1.0 in
     let held : EachF32 c.args.s.htr = each-held c.args.s.htr g.0 g.1.1 in
-    c.gethp_rising.ensures ∙ gethp-read-so _ _ _ held c.rises_throughout-rises.ensures
+    c.gethp_rising.ensures ∙ gethp-read-so _ _ _ held c.rises_throughout.ensures

@@ -1,10 +1,17 @@
--- By the number: the count written, or nothing.
+-- The count written, or nothing: no refusal has the number of an answer.
 use mathlib.Core.Path.{refl}
-use borrow.Author.Tests.{eq-eqb, ne_eqb}
+use Prim.Native.Nat.{◌≤◌}
+use borrow.Author.Rules.{rules}
+use Rattle.refusal.proofs.Numbers.{no_answer}
 use Rattle.ionogram_words.proofs.scan_into.Goals as goal
 
-pub returns-then-number-eq0 : goal.returns-then-number-eq0
-returns-then-number-eq0 c = rw (← c.scan_number-number.ensures, eq-eqb _ _ c.if-number-eq0.true, ← c.scan_value-n.ensures) (refl, refl)
+pub overflow_cast-out : goal.overflow_cast-out
+overflow_cast-out c =
+    let h : c.in-Ok.n ≤ 40 = rw c.in-Ok.is at c.requires.1 in
+    search (rules, h)
 
-pub returns : goal.returns
-returns c = rw (← c.scan_number-number.ensures, ne_eqb _ _ c.if-number-eq0.false) (refl, refl)
+pub returns-in-Ok : goal.returns-in-Ok
+returns-in-Ok c = rw c.in-Ok.is (refl, refl)
+
+pub returns-in-Err : goal.returns-in-Err
+returns-in-Err c = rw (c.in-Err.is, no_answer c.in-Err.r) (c.from.ensures, refl)

@@ -1,11 +1,12 @@
 -- Each path is its clause of the definition; each call is what its contract says.
+use Rattle.std.proofs.lemmas.Result.{err_from_is_err_and}
 use Rattle.layer_mufs.specs.Lines.{f1_own_with}
 use Rattle.layer_mufs.proofs.f1_own.Goals as goal
 
-pub returns-in-Refused : goal.returns-in-Refused
+pub returns-in_err-g : goal.returns-in_err-g
 unfolding f1_own_with
-returns-in-Refused c = rw (← c.gethp-at.ensures, ← c.hop_geometry-found.ensures.value, c.in-Refused.is)
+returns-in_err-g c = let p = err_from_is_err_and c.from_residual.result c.from_residual.ensures.1 in rw (p.1, p.2, ← c.gethp-at.ensures, ← c.in_err-g.ensures.value)
 
-pub returns-in-Found : goal.returns-in-Found
+pub returns : goal.returns
 unfolding f1_own_with
-returns-in-Found c = rw (← c.gethp-at.ensures, ← c.hop_geometry-found.ensures.value, c.in-Found.is, ← c.f1_found-m.ensures)
+returns c = rw (← c.gethp-at.ensures, ← c.in_ok-g.ensures.value, ← c.f1_found.ensures)

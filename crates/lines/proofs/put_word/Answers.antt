@@ -3,16 +3,16 @@ use lib.Seq.{take_all}
 use Rattle.lines.proofs.Placing.{clip-none, clip-byte, clip-length}
 use Rattle.lines.proofs.put_word.Goals as goal
 
-pub loop-i-init : goal.loop-i-init
-loop-i-init c = (omega arith, clip-none)
+pub loop-b-init : goal.loop-b-init
+loop-b-init c = clip-none
 
-pub loop-i-preserved : goal.loop-i-preserved
-loop-i-preserved c =
-    let l = c.loop-i in
-    (omega arith, clip-byte c.args.word.now l.i (omega arith) l.invariant.1 c.put_byte-e.ensures)
+pub loop-b-preserved : goal.loop-b-preserved
+loop-b-preserved c =
+    let l = c.loop-b in
+    clip-byte c.args.word.now l.b-index (omega arith) l.invariant c.put_byte-e.ensures
 
 pub shape_of-out : goal.shape_of-out
-shape_of-out c = clip-length c.loop-i.invariant.1
+shape_of-out c = clip-length c.loop-b.invariant
 
 pub returns : goal.returns
-returns c = rw (take_all _ _ c.loop-i-test.false) at c.loop-i.invariant.1
+returns c = rw (take_all _ _ c.loop-b-test.false) at c.loop-b.invariant

@@ -1,18 +1,18 @@
-use native.Mathlib.Nat.{le_antisymm}
+use mathlib.Core.Path.{◌≡◌}
 use native.Mathlib.Omega.{arith}
 use Rattle.lines.proofs.Placing.{clip-start, clip-next, clip-length}
 use Rattle.mark_text.specs.MarkText.{marks_text}
 use Rattle.mark_text.proofs.put_marks.Goals as goal
 
 pub loop-i-init : goal.loop-i-init
-loop-i-init c = (omega arith, clip-start _)
+loop-i-init c = clip-start _
 
 pub loop-i-preserved : goal.loop-i-preserved
-loop-i-preserved c = (omega arith, clip-next _ _ c.loop-i.invariant.1 c.put_mark-e.ensures)
+loop-i-preserved c = clip-next _ _ c.loop-i.invariant c.put_mark-e.ensures
 
 pub shape_of-out : goal.shape_of-out
-shape_of-out c = clip-length c.loop-i.invariant.1
+shape_of-out c = clip-length c.loop-i.invariant
 
 pub returns : goal.returns
 unfolding marks_text
-returns c = rw (← le_antisymm c.loop-i.invariant.0 c.loop-i-test.false) c.loop-i.invariant.1
+returns c = let e : c.loop-i.i ≡ 50 = omega arith in rw e at c.loop-i.invariant

@@ -1,13 +1,12 @@
--- The outcome and the size decide; then the verdict on the two texts.
-use Rattle.marking_answer.specs.Answer.{text_marked}
+-- The size decides; then the verdict on the two texts.
+use borrow.Author.Tests.{lt-ltb, le-ltb}
+use Rattle.marking_answer.specs.Answer.{sized_of, text_marked}
 use Rattle.marking_answer.proofs.marked.Goals as goal
 
-pub returns-in-Answered : goal.returns-in-Answered
-unfolding text_marked
-returns-in-Answered c =
-    rw (← c.sized-sized.ensures, c.in-Answered.is, ← c.compare-v.ensures)
-    c.marking_of.ensures
+pub returns-then-theirs-gt-SHEET : goal.returns-then-theirs-gt-SHEET
+unfolding text_marked sized_of
+returns-then-theirs-gt-SHEET c = rw (lt-ltb _ _ c.if-theirs-gt-SHEET.true)
 
-pub returns-in-Refused : goal.returns-in-Refused
-unfolding text_marked
-returns-in-Refused c = rw (← c.sized-sized.ensures, c.in-Refused.is)
+pub returns : goal.returns
+unfolding text_marked sized_of
+returns c = rw (le-ltb _ _ c.if-theirs-gt-SHEET.false, c.compare.ensures)

@@ -1,41 +1,28 @@
--- The answer is the call's; the row that it names is rewritten where it says so, and is there by `flat-below`.
-use mathlib.Core.Path.{◌≡◌, ap}
-use mathlib.Core.Bool.{true, false}
-use mathlib.Core.List.{List}
-use Prim.Native.Nat.{◌*◌, ◌<◌}
+-- The row that the call names is there, by `flat-below`.
+use Rattle.std.specs.Prelude.{Result, Ok, Some}
+use Rattle.std.proofs.Common.{◌≡◌, ◌*◌, ◌<◌, ℕ, length}
 use native.Mathlib.Omega.{arith}
-use lib.ListN.{length, set}
-use lib.Ieee.{Float}
-use Rattle.muf.specs.Curmuf.{rewritten_by}
+use Rattle.refusal.specs.declared.Refusal.{Refusal}
+use Rattle.sporadic.specs.declared.Rewrite.{Rewrite}
+use Rattle.muf.specs.Curmuf.{RowBelow, rewrite_by}
 use Rattle.muf.specs.declared.AnswerAndRow.{AnswerAndRow}
-use Rattle.muf.proofs.Rows.{flat-below}
+use Rattle.muf.proofs.Rows.{flat-below, rows-there}
+use Rattle.muf.proofs.curmuf.Goals.{In-Some}
 use Rattle.muf.proofs.curmuf.Goals as goal
 
--- of any call F and what the code has of it
-written : (d F : AnswerAndRow) (es : List Float) → d ≡ F → d.rewrites ≡ true → set es (4 * d.ksx) d.lower ≡ rewritten_by F.rewrites es F.ksx F.lower
-written d F es e h = rw (← e, h)
+below : (d : AnswerAndRow) (F : Result AnswerAndRow Refusal) (w : Rewrite) (m : ℕ) → Ok d ≡ F → d.rewrite ≡ Some w → RowBelow m (rewrite_by F) → w.ksx < m
+below d F w m e h f = rw (← e, h) at f
 
-left : (d F : AnswerAndRow) (es : List Float) → d ≡ F → d.rewrites ≡ false → es ≡ rewritten_by F.rewrites es F.ksx F.lower
-left d F es e h = rw (← e, h)
+there : (c : In-Some) → 4 * c.in-Some.w.ksx < length c.args.es.now
+there c =
+    let h = below c.in_ok-d.d _ c.in-Some.w _ c.in_ok-d.ensures c.in-Some.is (flat-below c.args.s c.args.es.now c.args.f2d.now c.args.clat.now c.args.clck.now c.args.c) in
+    omega (arith, rows-there (length c.args.es.now) c.args.s.km)
 
-there : (d F : AnswerAndRow) (es : List Float) → d ≡ F → d.rewrites ≡ true → (F.rewrites ≡ true → 4 * F.ksx < length es) → 4 * d.ksx < length es
-there d F es e h f = rw e (f (rw (← e) h))
+pub overflow_mul-es : goal.overflow_mul-es
+overflow_mul-es c = let h = there (goal.at.overflow_mul-es c).In-Some in omega arith
 
-pub overflow_mul-at : goal.overflow_mul-at
-overflow_mul-at c = let h : 4 * c.flat-d.result.ksx < length c.args.es.now = there c.flat-d.result _ c.args.es.now c.flat-d.ensures c.if-d.true (flat-below _ _ _ _ _ _) in omega arith
+pub offset_bounds-es-w : goal.offset_bounds-es-w
+offset_bounds-es-w c = let h = there (goal.at.offset_bounds-es-w c).In-Some in omega arith
 
-pub offset_bounds-es-at : goal.offset_bounds-es-at
-offset_bounds-es-at c = let h : 4 * c.flat-d.result.ksx < length c.args.es.now = there c.flat-d.result _ c.args.es.now c.flat-d.ensures c.if-d.true (flat-below _ _ _ _ _ _) in omega arith
-
-pub bounds-es-at : goal.bounds-es-at
-bounds-es-at c = there c.flat-d.result _ c.args.es.now c.flat-d.ensures c.if-d.true (flat-below _ _ _ _ _ _)
-
-pub returns-then-d : goal.returns-then-d
-returns-then-d c =
-    let d = c.flat-d in
-    record { value = ap (λ (x : AnswerAndRow). x.answer) d.ensures; es_after = written d.result _ _ d.ensures c.if-d.true }
-
-pub returns : goal.returns
-returns c =
-    let d = c.flat-d in
-    record { value = ap (λ (x : AnswerAndRow). x.answer) d.ensures; es_after = left d.result _ _ d.ensures c.if-d.false }
+pub bounds-es-w : goal.bounds-es-w
+bounds-es-w c = there (goal.at.bounds-es-w c).In-Some

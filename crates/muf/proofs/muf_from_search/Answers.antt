@@ -14,7 +14,7 @@ offset_bounds-clat-ks c =
     Fits-le {n = 12} (omega arith) (Fits-lit tt)
 
 pub bounds-clat-ks : goal.bounds-clat-ks
-bounds-clat-ks c = (lists-reach _ _ _ _ (sym c.lists_reach.ensures ∙ c.if-lists_reach.true)).0
+bounds-clat-ks c = (lists-reach _ _ _ _ (sym c.lists_reach.ensures ∙ c.if-not-lists_reach.false)).0
 
 pub offset_bounds-clck-ks : goal.offset_bounds-clck-ks
 offset_bounds-clck-ks c =
@@ -23,19 +23,19 @@ offset_bounds-clck-ks c =
     Fits-le {n = 12} (omega arith) (Fits-lit tt)
 
 pub bounds-clck-ks : goal.bounds-clck-ks
-bounds-clck-ks c = (lists-reach _ _ _ _ (sym c.lists_reach.ensures ∙ c.if-lists_reach.true)).1
+bounds-clck-ks c = (lists-reach _ _ _ _ (sym c.lists_reach.ensures ∙ c.if-not-lists_reach.false)).1
 
 pub muf_at_slot-requires : goal.muf_at_slot-requires
 muf_at_slot-requires c = let b = c.controlling-ks in rw b.ensures (controlling-small _)
 
-pub returns-then-lists_reach : goal.returns-then-lists_reach
+pub returns-then-not-in_domain : goal.returns-then-not-in_domain
 unfolding muf_from_search_with
-returns-then-lists_reach c = rw (← c.in_domain.ensures, c.if-in_domain.true, ← c.controlling-ks.ensures, ← c.lists_reach.ensures, c.if-lists_reach.true, ← c.controlling-ks.ensures, ← c.muf_at_slot.ensures.value)
+returns-then-not-in_domain c = rw (← c.in_domain.ensures, c.if-not-in_domain.true)
 
-pub returns-then-in_domain : goal.returns-then-in_domain
+pub returns-then-not-lists_reach : goal.returns-then-not-lists_reach
 unfolding muf_from_search_with
-returns-then-in_domain c = rw (← c.in_domain.ensures, c.if-in_domain.true, ← c.controlling-ks.ensures, ← c.lists_reach.ensures, c.if-lists_reach.false, ← c.refused_rows_kept.ensures)
+returns-then-not-lists_reach c = rw (← c.in_domain.ensures, c.if-not-in_domain.false, ← c.controlling-ks.ensures, ← c.lists_reach.ensures, c.if-not-lists_reach.true)
 
 pub returns : goal.returns
 unfolding muf_from_search_with
-returns c = rw (← c.in_domain.ensures, c.if-in_domain.false, ← c.refused_rows_kept-2.ensures)
+returns c = rw (← c.in_domain.ensures, c.if-not-in_domain.false, ← c.controlling-ks.ensures, ← c.lists_reach.ensures, c.if-not-lists_reach.false, ← c.controlling-ks.ensures, ← c.muf_at_slot.ensures.value)

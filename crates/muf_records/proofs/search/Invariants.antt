@@ -1,15 +1,13 @@
 -- What is left of the rows does to the search so far what all rows do to its start.
-use Rattle.std.proofs.Common.{◌≡◌, ◌-◌, ◌≤◌, length}
-use Rattle.sporadic.specs.Sporadic.{next_by, es_from, start_of}
-use Rattle.muf_domain.specs.Domain.{taken_rows}
+use Rattle.std.proofs.Common.{◌≡◌, ◌-◌, ◌≤◌}
+use Rattle.sporadic.specs.Sporadic.{es_from, start_of}
 use Rattle.muf_records.specs.Records.{es_row_at}
 use Rattle.muf_records.proofs.search.Given as goal
 
 abbrev pub invariant-loop-k : goal.invariant-loop-k
 invariant-loop-k l = record {
-  counted : l.n ≡ taken_rows (length l.es) l.km;
   in_rows : l.k ≤ l.n;
-  same : next_by l.step (λ a. es_from (es_row_at l.es) l.c (l.n - l.k) l.k a) ≡ es_from (es_row_at l.es) l.c l.n 0 start_of;
+  same : es_from (es_row_at l.es) l.c (l.n - l.k) l.k l.a ≡ es_from (es_row_at l.es) l.c l.n 0 start_of;
 }
 
 abbrev pub decreases-loop-k : goal.decreases-loop-k

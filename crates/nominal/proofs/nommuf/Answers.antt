@@ -4,17 +4,17 @@ use mathlib.Core.Path.{sym, ◌∙◌}
 use Rattle.nominal.proofs.Counts.{agreed}
 use Rattle.nominal.proofs.nommuf.Goals as goal
 
-pub nominal-hour-requires : goal.nominal-hour-requires
-nominal-hour-requires c = agreed _ _ (sym c.counts_agree.ensures ∙ c.if-counts_agree.true)
+pub nominal-requires : goal.nominal-requires
+nominal-requires c = agreed _ _ (sym c.counts_agree.ensures ∙ c.if-not-counts_agree.false)
 
-pub returns-then-path_taken : goal.returns-then-path_taken
+pub returns-then-not-counts_agree : goal.returns-then-not-counts_agree
 unfolding nommuf_of
-returns-then-path_taken c = rw (← c.counts_agree.ensures, c.if-counts_agree.true, ← c.path_taken.ensures, c.if-path_taken.true, ← c.nominal-hour.ensures)
+returns-then-not-counts_agree c = rw (← c.counts_agree.ensures, c.if-not-counts_agree.true)
 
-pub returns-then-counts_agree : goal.returns-then-counts_agree
+pub returns-then-not-path_taken : goal.returns-then-not-path_taken
 unfolding nommuf_of
-returns-then-counts_agree c = rw (← c.counts_agree.ensures, c.if-counts_agree.true, ← c.path_taken.ensures, c.if-path_taken.false, ← c.refused.ensures)
+returns-then-not-path_taken c = rw (← c.counts_agree.ensures, c.if-not-counts_agree.false, ← c.path_taken.ensures, c.if-not-path_taken.true)
 
 pub returns : goal.returns
 unfolding nommuf_of
-returns c = rw (← c.counts_agree.ensures, c.if-counts_agree.false, ← c.refused-2.ensures)
+returns c = rw (← c.counts_agree.ensures, c.if-not-counts_agree.false, ← c.path_taken.ensures, c.if-not-path_taken.false, ← c.nominal.ensures)

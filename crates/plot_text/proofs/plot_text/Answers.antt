@@ -1,33 +1,48 @@
--- The sheet's outcome decides, and the text fits.
+-- The plot or its refusal decides, and the text fits.
 use mathlib.Core.List.{List}
+use mathlib.Core.Path.{◌≡◌, sym, ◌∙◌}
 use Prim.Native.Nat.{ℕ, ◌≤◌}
 use native.Mathlib.Omega.{arith}
+use Rattle.std.specs.Prelude.{Result, Ok, Err}
+use Rattle.refusal.specs.declared.Refusal.{Refusal}
 use Rattle.lines.proofs.Placing.{fits}
 use Rattle.lines.proofs.Sizes.{refused}
+use Rattle.records.specs.Record.{form64}
+use Rattle.circuit.specs.Read.{circuit_in, read_of}
+use Rattle.circuit.specs.declared.Circuit.{Circuit}
+use Rattle.circuit_sheet.specs.declared.Sheet.{Sheet}
+use Rattle.circuit_sheet.specs.CircuitSheet.{sheet_of}
+use Rattle.sheet_text.specs.SheetText.{SlotsFew}
 use Rattle.sheet_text.proofs.SlotCount.{three-slots}
-use Rattle.circuit_plot.specs.CircuitPlot.{plot_of}
+use Rattle.circuit_plot.specs.declared.Plot.{Plot}
+use Rattle.circuit_plot.specs.CircuitPlot.{plot_by, plot_of}
 use Rattle.plot_panels.specs.Panels.{picture_text}
 use Rattle.plot_text.specs.PlotText.{plot_text}
 use Rattle.plot_panels.proofs.Lengths.{answered-most}
 use Rattle.plot_text.proofs.plot_text.Goals as goal
 
-few : (f : List ℕ) → (plot_of f).sheet.slots ≤ 3
+few-by : (a : Result Sheet Refusal) (c : Circuit) (p : Plot) → SlotsFew a → plot_by a c ≡ Ok p → p.sheet.slots ≤ 3
+few-by (Ok s) c p h e = let z : s ≡ p.sheet = cc in rw (← z) h
+few-by (Err r) c p h e = let z : ◌≡◌ {A = ℕ} 0 1 = cc in absurd (omega arith)
+
+few : (f : List ℕ) (p : Plot) → plot_of f ≡ Ok p → p.sheet.slots ≤ 3
 unfolding plot_of
-few f = three-slots f
+few f p e = few-by (sheet_of f) (circuit_in (read_of form64 f)) p (three-slots f) e
 
 pub put_plot-requires : goal.put_plot-requires
-put_plot-requires c = rw c.of_file-p.ensures (few _)
+put_plot-requires c = few _ c.in-Ok.p (sym c.of_file.ensures ∙ c.in-Ok.is)
 
-pub returns-in-Answered : goal.returns-in-Answered
+pub returns-in-Ok : goal.returns-in-Ok
 unfolding plot_text picture_text
-returns-in-Answered c =
-    let p = c.of_file-p in
-    let three : p.result.sheet.slots ≤ 3 = rw p.ensures (few _) in
-    let t = fits c.put_plot.ensures (omega (arith, (answered-most p.result three).most)) in
-    record { put = rw (← p.ensures, c.in-Answered.is) t.0; room = t.1 }
+returns-in-Ok c =
+    let p = c.in-Ok.p in
+    let e : plot_of c.args.file.now ≡ Ok p = sym c.of_file.ensures ∙ c.in-Ok.is in
+    let t = fits c.put_plot.ensures (omega (arith, (answered-most p (few _ p e)).most)) in
+    record { put = rw e t.0; room = t.1 }
 
-pub returns-in-Refused : goal.returns-in-Refused
+pub returns-in-Err : goal.returns-in-Err
 unfolding plot_text
-returns-in-Refused c =
-    let t = fits c.put_refused.ensures (omega (arith, (refused c.in-Refused.r).most)) in
-    record { put = rw (← c.of_file-p.ensures, c.in-Refused.is) t.0; room = t.1 }
+returns-in-Err c =
+    let e : plot_of c.args.file.now ≡ Err c.in-Err.r = sym c.of_file.ensures ∙ c.in-Err.is in
+    let t = fits c.put_refused.ensures (omega (arith, (refused c.in-Err.r).most)) in
+    record { put = rw e t.0; room = t.1 }

@@ -13,5 +13,5 @@ returns c =
     rw (
       ← laid s.args.c s.args.w.now points deciles,
       ← c.numbers_into.ensures,
-      ← c.words_75_into.ensures,
-    ) c.words_576_into.ensures
+      ← c.words_into.ensures,
+    ) c.words_into-2.ensures

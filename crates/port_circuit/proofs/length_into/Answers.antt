@@ -4,10 +4,10 @@ use native.Mathlib.Omega.{arith}
 use Rattle.port_circuit.proofs.length_into.Goals as goal
 
 pub overflow_cast-out : goal.overflow_cast-out
-overflow_cast-out c = omega (arith, rw c.in-Written.is at c.requires.1)
+overflow_cast-out c = omega (arith, rw c.in-Ok.is at c.requires.1)
 
-pub returns-in-Written : goal.returns-in-Written
-returns-in-Written c = rw c.in-Written.is (refl, refl)
+pub returns-in-Ok : goal.returns-in-Ok
+returns-in-Ok c = rw c.in-Ok.is (refl, refl)
 
-pub returns-in-Refused : goal.returns-in-Refused
-returns-in-Refused c = rw c.in-Refused.is (c.number.ensures, refl)
+pub returns-in-Err : goal.returns-in-Err
+returns-in-Err c = rw c.in-Err.is (c.from.ensures, refl)

@@ -8,7 +8,7 @@ use Rattle.port_figures.proofs.port_figure.Goals as goal
 
 pub returns-then-out-lt5 : goal.returns-then-out-lt5
 unfolding figure_answer figure_left
-returns-then-out-lt5 c = rw (lt-ltb (length c.args.out.now) 5 (omega arith)) (refl, refl)
+returns-then-out-lt5 c = rw (lt-ltb (length c.args.out.now) 5 (omega arith)) (c.from.ensures, refl)
 
 pub returns : goal.returns
 unfolding figure_answer figure_left

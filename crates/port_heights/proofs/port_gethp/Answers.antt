@@ -1,23 +1,22 @@
--- The two lengths are tested first; past them the cursor is at most 49, so that it fits its word.
-use Rattle.port_heights.specs.Exports.{gethp_left}
-use mathlib.Core.Path.{refl, ap}
+-- Past the lengths the cursor is at most 49, so that it fits its word.
+use mathlib.Core.Path.{refl, sym, ap, ◌∙◌}
 use native.Mathlib.Nat.{le_trans, le_of_eq}
-use borrow.Author.Tests.{lt-ltb, le-ltb}
-use Rattle.heights.specs.declared.Heights.{Heights}
 use Rattle.heights.proofs.Whole.{cursor-bound}
+use Rattle.heights.specs.declared.Heights.{Heights}
+use Rattle.port_heights.specs.Exports.{gethp_left}
+use Rattle.port_heights.proofs.Room.{open-to, is-read, room, closed}
 use Rattle.port_heights.proofs.port_gethp.Goals as goal
 
-pub returns-then-state-lt-STATE_WORDS : goal.returns-then-state-lt-STATE_WORDS
-unfolding gethp_left
-returns-then-state-lt-STATE_WORDS c = rw (lt-ltb _ _ c.if-state-lt-STATE_WORDS.true) (refl, refl)
-
-pub returns-then-out-lt4 : goal.returns-then-out-lt4
-unfolding gethp_left
-returns-then-out-lt4 c = rw (le-ltb _ _ c.if-state-lt-STATE_WORDS.false, lt-ltb _ _ c.if-out-lt4.true) (refl, refl)
-
 pub heights_into-requires : goal.heights_into-requires
-heights_into-requires c = (c.if-out-lt4.false, le_trans (le_of_eq (ap (λ (h : Heights). h.cursor) c.gethp-h.ensures)) (cursor-bound _ _))
+heights_into-requires c =
+    (room _ _ _ _ (sym c.state_with_room.ensures ∙ c.in-Ok.is), le_trans (le_of_eq (ap (λ (h : Heights). h.cursor) c.gethp-h.ensures)) (cursor-bound _ _))
 
-pub returns : goal.returns
+pub returns-in-Ok : goal.returns-in-Ok
 unfolding gethp_left
-returns c = rw (le-ltb _ _ c.if-state-lt-STATE_WORDS.false, le-ltb _ _ c.if-out-lt4.false, ← c.state_of-s.ensures, ← c.number-f.ensures, ← c.gethp-h.ensures) (refl, c.heights_into.ensures)
+returns-in-Ok c =
+    let e = sym c.state_with_room.ensures ∙ c.in-Ok.is in
+    rw (open-to _ _ _ _ e _, ← is-read _ _ _ _ e, ← c.number.ensures, ← c.gethp-h.ensures) (refl, c.heights_into.ensures)
+
+pub returns-in-Err : goal.returns-in-Err
+unfolding gethp_left
+returns-in-Err c = rw (closed _ _ _ _ _ (sym c.state_with_room.ensures ∙ c.in-Err.is)) (c.from.ensures, refl)

@@ -1,17 +1,18 @@
--- Each path is the clause that its tests choose; each call is what its contract says.
+-- Past the lengths each call is what its contract says.
+use mathlib.Core.Path.{refl, sym, ◌∙◌}
 use Rattle.port_heights.specs.Exports.{reading_left}
-use mathlib.Core.Path.{refl}
-use borrow.Author.Tests.{lt-ltb, le-ltb}
+use Rattle.port_heights.proofs.Room.{open-to, is-read, room, closed}
 use Rattle.port_heights.proofs.port_reading.Goals as goal
 
-pub returns-then-state-lt-STATE_WORDS : goal.returns-then-state-lt-STATE_WORDS
-unfolding reading_left
-returns-then-state-lt-STATE_WORDS c = rw (lt-ltb _ _ c.if-state-lt-STATE_WORDS.true) (refl, refl)
+pub reading_into-requires : goal.reading_into-requires
+reading_into-requires c = room _ _ _ _ (sym c.state_with_room.ensures ∙ c.in-Ok.is)
 
-pub returns-then-out-lt3 : goal.returns-then-out-lt3
+pub returns-in-Ok : goal.returns-in-Ok
 unfolding reading_left
-returns-then-out-lt3 c = rw (le-ltb _ _ c.if-state-lt-STATE_WORDS.false, lt-ltb _ _ c.if-out-lt3.true) (refl, refl)
+returns-in-Ok c =
+    let e = sym c.state_with_room.ensures ∙ c.in-Ok.is in
+    rw (open-to _ _ _ _ e _, ← is-read _ _ _ _ e, ← c.number.ensures, ← c.read_by_scan-r.ensures) (refl, c.reading_into.ensures)
 
-pub returns : goal.returns
+pub returns-in-Err : goal.returns-in-Err
 unfolding reading_left
-returns c = rw (le-ltb _ _ c.if-state-lt-STATE_WORDS.false, le-ltb _ _ c.if-out-lt3.false, ← c.state_of-s.ensures, ← c.number-z.ensures, ← c.read_by_scan-r.ensures) (refl, c.reading_into.ensures)
+returns-in-Err c = rw (closed _ _ _ _ _ (sym c.state_with_room.ensures ∙ c.in-Err.is)) (c.from.ensures, refl)

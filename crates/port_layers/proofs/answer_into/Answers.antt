@@ -1,14 +1,14 @@
--- By the outcome: the state written, or nothing.
+-- The state written, or nothing.
 use Rattle.port_layers.specs.Exports.{ported_state_of}
 use mathlib.Core.Path.{refl}
 use Rattle.port_layers.proofs.answer_into.Goals as goal
 
-pub returns-in-Answered : goal.returns-in-Answered
+pub returns-in-Ok : goal.returns-in-Ok
 unfolding ported_state_of
-returns-in-Answered c =
-    rw c.in-Answered.is (record { number = refl; words = c.state_into.ensures })
+returns-in-Ok c =
+    rw c.in-Ok.is (record { number = refl; words = c.state_into.ensures })
 
-pub returns-in-Refused : goal.returns-in-Refused
+pub returns-in-Err : goal.returns-in-Err
 unfolding ported_state_of
-returns-in-Refused c =
-    rw c.in-Refused.is (record { number = c.number.ensures; words = refl })
+returns-in-Err c =
+    rw c.in-Err.is (record { number = c.from.ensures; words = refl })

@@ -5,7 +5,7 @@ use native.Mathlib.Omega.{arith}
 use borrow.Author.Rules.{rules}
 use lib.ListN.{length, replicate}
 use Rattle.cases.proofs.Tabulate.{mapped, mapped-more, mapped-all}
-use Rattle.port_layouts.specs.Layouts.{mark_number}
+use Rattle.shapes.specs.Mark.{mark_number_of}
 use Rattle.port_layouts.proofs.mark_numbers.Invariants.{past}
 use Rattle.port_layouts.proofs.mark_numbers.Goals as goal
 
@@ -18,7 +18,7 @@ loop-i-preserved c =
     let i = c.loop-i.i in
     let h : i < length a.marks = search rules in (
       omega arith,
-      rw (c.number-v.ensures, c.loop-i.invariant.1, add-one i) (mapped-more mark_number past a.marks (replicate 50 0) i h),
+      rw (c.from-v.ensures, c.loop-i.invariant.1, add-one i) (mapped-more mark_number_of past a.marks (replicate 50 0) i h),
     )
 
 pub returns : goal.returns
@@ -26,4 +26,4 @@ returns c =
     let a = c.args in
     let n : length a.marks ≡ 50 = search rules in
     let e : c.loop-i.i ≡ length a.marks = omega arith in
-    c.loop-i.invariant.1 ∙ ap (mapped mark_number past a.marks (replicate 50 0)) e ∙ mapped-all mark_number past a.marks (replicate 50 0) (sym n)
+    c.loop-i.invariant.1 ∙ ap (mapped mark_number_of past a.marks (replicate 50 0)) e ∙ mapped-all mark_number_of past a.marks (replicate 50 0) (sym n)

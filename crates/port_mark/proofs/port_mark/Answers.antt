@@ -8,7 +8,7 @@ use Rattle.port_mark.proofs.port_mark.Goals as goal
 
 pub returns-then-out-lt1 : goal.returns-then-out-lt1
 unfolding mark_left
-returns-then-out-lt1 c = rw (lt-ltb _ _ c.if-out-lt1.true) (refl, refl)
+returns-then-out-lt1 c = rw (lt-ltb _ _ c.if-out-lt1.true) (c.from.ensures, refl)
 
 pub marking_into-requires : goal.marking_into-requires
 marking_into-requires c = (omega arith, rw c.mark-m.ensures (small _))

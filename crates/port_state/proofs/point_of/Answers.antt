@@ -4,4 +4,4 @@ use Rattle.port_state.proofs.point_of.Goals as goal
 
 pub returns : goal.returns
 unfolding point_of
-returns c = rw (← c.floats_3-fi.ensures, ← c.floats_3-yi.ensures, ← c.floats_3-hi.ensures)
+returns c = rw (← c.floats.ensures, ← c.floats-2.ensures, ← c.floats-3.ensures)

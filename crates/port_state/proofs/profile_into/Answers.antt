@@ -4,4 +4,4 @@ use Rattle.port_state.proofs.profile_into.Goals as goal
 
 pub returns : goal.returns
 unfolding profile_into
-returns c = rw (← c.floats_50_into.ensures, ← c.floats_50_into-2.ensures, ← c.floats_3_into.ensures)
+returns c = rw (← c.floats_into.ensures, ← c.floats_into-2.ensures, ← c.floats_into-3.ensures)

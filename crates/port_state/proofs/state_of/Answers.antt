@@ -6,4 +6,4 @@ use Rattle.port_state.proofs.state_of.Goals as goal
 
 pub returns : goal.returns
 unfolding state_of
-returns c = rw (← c.floats_15-fi.ensures, ← c.floats_15-yi.ensures, ← c.floats_15-hi.ensures, ← c.floats_50-htr.ensures, ← c.floats_50-fnsq.ensures, ← c.floats_3-fsecv.ensures, ← c.wide.ensures, ← c.wide-2.ensures, ← c.yes.ensures, ← c.signed.ensures, ← c.yes-2.ensures, ← c.yes-3.ensures, ← c.owner_of_word.ensures) (rw (to_z-of_z (sfits_of c.signed.type_inv)) at c.with_owner.ensures)
+returns c = rw (← c.floats-s.ensures, ← c.floats-s-2.ensures, ← c.floats-s-3.ensures, ← c.floats-s-4.ensures, ← c.floats-s-5.ensures, ← c.floats-s-6.ensures, ← c.wide.ensures, ← c.wide-2.ensures, ← c.yes.ensures, ← c.signed.ensures, ← c.yes-2.ensures, ← c.yes-3.ensures, ← c.owner_of_word.ensures) (rw (to_z-of_z (sfits_of c.signed.type_inv)) at c.with_owner.ensures)

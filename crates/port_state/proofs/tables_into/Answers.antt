@@ -4,4 +4,4 @@ use Rattle.port_state.proofs.tables_into.Goals as goal
 
 pub returns : goal.returns
 unfolding tables_into
-returns c = rw (← c.floats_15_into.ensures, ← c.floats_15_into-2.ensures, ← c.floats_15_into-3.ensures)
+returns c = rw (← c.floats_into.ensures, ← c.floats_into-2.ensures, ← c.floats_into-3.ensures)

@@ -2,8 +2,8 @@
 use mathlib.Core.Path.{refl}
 use Rattle.port_tariff.proofs.charge_into.Goals as goal
 
-pub returns-in-Cents : goal.returns-in-Cents
-returns-in-Cents c = rw c.in-Cents.is (refl, refl)
+pub returns-in-Ok : goal.returns-in-Ok
+returns-in-Ok c = rw c.in-Ok.is (refl, refl)
 
-pub returns-in-Refused : goal.returns-in-Refused
-returns-in-Refused c = rw c.in-Refused.is (c.number.ensures, refl)
+pub returns-in-Err : goal.returns-in-Err
+returns-in-Err c = rw c.in-Err.is (c.from.ensures, refl)

@@ -5,8 +5,8 @@ use Rattle.port_tariff.proofs.port_price.Goals as goal
 
 pub returns-then-out-lt1 : goal.returns-then-out-lt1
 unfolding price_left
-returns-then-out-lt1 c = rw (lt-ltb _ _ c.if-out-lt1.true) (refl, refl)
+returns-then-out-lt1 c = rw (lt-ltb _ _ c.if-out-lt1.true) (c.from.ensures, refl)
 
 pub returns : goal.returns
 unfolding price_left
-returns c = rw (le-ltb _ _ c.if-out-lt1.false, ← c.number-v.ensures, ← c.price-a.ensures) c.charge_into.ensures
+returns c = rw (le-ltb _ _ c.if-out-lt1.false, ← c.number.ensures, ← c.price.ensures) c.charge_into.ensures

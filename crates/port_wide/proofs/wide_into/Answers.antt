@@ -5,4 +5,4 @@ use Rattle.port_wide.proofs.wide_into.Goals as goal
 pub returns : goal.returns
 unfolding wide_into
 returns c =
-    rw (← c.circuit_into.ensures) c.words_5_into.ensures
+    rw (← c.circuit_into.ensures) c.words_into.ensures

@@ -5,7 +5,7 @@ use Rattle.profile.proofs.lecden.Goals as goal
 
 pub returns-then-k-lt3 : goal.returns-then-k-lt3
 unfolding lecden_answer
-returns-then-k-lt3 c = rw (lt-ltb _ _ c.if-k-lt3.true, c.lecden_slot-state.ensures)
+returns-then-k-lt3 c = rw (lt-ltb _ _ c.if-k-lt3.true, c.lecden_slot.ensures)
 
 pub returns : goal.returns
 unfolding lecden_answer

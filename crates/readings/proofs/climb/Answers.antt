@@ -1,4 +1,4 @@
-use mathlib.Core.Path.{◌≡◌, refl}
+use mathlib.Core.Path.{◌≡◌, refl, ◌∙◌}
 use mathlib.Core.List.{List}
 use Prim.Native.Nat.{◌≤◌, ◌<◌, ◌+◌, ◌-◌, ℕ, suc}
 use native.Mathlib.Omega.{arith}
@@ -19,19 +19,22 @@ at-end : (htr : List Float) (zi : Float) (ih r : ℕ) → 49 ≤ ih → climb_fr
 at-end htr zi ih r h e = let k : 49 - ih ≡ 0 = omega arith in rw (k, stays) at e
 
 pub loop-on-init : goal.loop-on-init
-loop-on-init c = refl
+loop-on-init c = (omega arith, refl)
 
 pub loop-on-preserved : goal.loop-on-preserved
 loop-on-preserved c =
     let p = c in
     let h : p.loop-on.on < 49 = omega arith in
-    rw (one_more _ _ _ h, c.if-zi-htr.true) at p.loop-on.invariant
+    (omega arith, rw (one_more _ _ _ h, c.if-not-zi-htr.false) at p.loop-on.invariant.1)
 
-pub returns-else-zi-htr : goal.returns-else-zi-htr
-returns-else-zi-htr c =
+pub returns-then-not-zi-htr : goal.returns-then-not-zi-htr
+returns-then-not-zi-htr c =
     let p = c in
     let h : p.loop-on.on < 49 = omega arith in
-    rw (one_more _ _ _ h, c.if-zi-htr.false) at p.loop-on.invariant
+    rw (one_more _ _ _ h, c.if-not-zi-htr.true) at p.loop-on.invariant.1
 
 pub returns : goal.returns
-returns c = at-end _ _ _ _ c.loop-on-test.false c.loop-on.invariant
+returns c =
+    let end = c.loop-on-test.false in
+    let last : c.max.result ≡ c.loop-on.on = omega arith in
+    last ∙ at-end _ _ _ _ end c.loop-on.invariant.1

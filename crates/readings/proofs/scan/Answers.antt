@@ -20,17 +20,17 @@ at-end from to probe ih = refl
 pub loop-ih-init : goal.loop-ih-init
 loop-ih-init c = (omega arith, refl)
 
-pub returns-in-At : goal.returns-in-At
-returns-in-At c =
+pub returns-in-Some : goal.returns-in-Some
+returns-in-Some c =
     let p = c in
     let h : p.loop-ih.ih < 49 = omega arith in
-    rw (one_more _ _ _ _ h, ← c.segment.ensures, c.in-At.is) at p.loop-ih.invariant.1
+    rw (one_more _ _ _ _ h, ← c.segment.ensures, c.in-Some.is) at p.loop-ih.invariant.1
 
 pub loop-ih-preserved : goal.loop-ih-preserved
 loop-ih-preserved c =
     let p = c in
     let h : p.loop-ih.ih < 49 = omega arith in
-    (omega arith, rw (one_more _ _ _ _ h, ← c.segment.ensures, c.in-Miss.is) at p.loop-ih.invariant.1)
+    (omega arith, rw (one_more _ _ _ _ h, ← c.segment.ensures, c.in_default.is) at p.loop-ih.invariant.1)
 
 pub returns : goal.returns
 returns c =

@@ -5,23 +5,22 @@ use Rattle.records.proofs.Lists.{head-part}
 use Rattle.record_chain.proofs.Steps.{head-facts}
 use borrow.Author.Tests.{eq-eqb, le-leb, lt-leb, ne_eqb}
 use Rattle.record_chain.specs.Chain.{chain_of}
+use Rattle.record_chain.proofs.follow_form.Goals.{then-n-size-ne0-via-then-n-size-ne0, then-n-size-ne0-via-else-n-size-ne0+then-n-size, then-n-size-ne0-via-else-n-size-ne0+else-n-size+then-n-size-2}
 use Rattle.record_chain.proofs.follow_form.Goals as goal
 
 pub returns-then-n-size-ne0 : goal.returns-then-n-size-ne0
 unfolding chain_of
-returns-then-n-size-ne0 c = rw (ne_eqb _ _ c.if-n-size-ne0.true, ← c.refused.ensures)
-
-pub returns-then-n-size : goal.returns-then-n-size
-unfolding chain_of
-returns-then-n-size c = rw (eq-eqb _ _ c.if-n-size-ne0.false, lt-leb _ _ c.if-n-size.true, ← c.refused-then-n-size.ensures)
-
-pub returns-then-n-size-2 : goal.returns-then-n-size-2
-unfolding chain_of
-returns-then-n-size-2 c = rw (eq-eqb _ _ c.if-n-size-ne0.false, le-leb _ _ c.if-n-size.false, lt-leb _ _ c.if-n-size-2.true, ← c.refused-then-n-size-2.ensures)
+returns-then-n-size-ne0 c =
+    elim c.then-n-size-ne0.branch [
+      | then-n-size-ne0-via-then-n-size-ne0 w ↦ rw (ne_eqb _ _ w.if-n-size-ne0.true)
+      | then-n-size-ne0-via-else-n-size-ne0+then-n-size w ↦ rw (eq-eqb _ _ w.if-n-size-ne0.false, lt-leb _ _ w.if-n-size.true)
+      | then-n-size-ne0-via-else-n-size-ne0+else-n-size+then-n-size-2 w ↦
+          rw (eq-eqb _ _ w.if-n-size-ne0.false, le-leb _ _ w.if-n-size.false, lt-leb _ _ w.if-n-size-2.true)
+    ]
 
 pub returns-then-not-head_good : goal.returns-then-not-head_good
 unfolding chain_of
-returns-then-not-head_good c = rw (eq-eqb _ _ c.if-n-size-ne0.false, le-leb _ _ c.if-n-size.false, le-leb _ _ c.if-n-size-2.false, ← head-part _ _, ← c.head_good.ensures, c.if-not-head_good.true, ← c.refused-then-not-head_good.ensures)
+returns-then-not-head_good c = rw (eq-eqb _ _ c.if-n-size-ne0.false, le-leb _ _ c.if-n-size.false, le-leb _ _ c.if-n-size-2.false, ← head-part _ _, ← c.head_good.ensures, c.if-not-head_good.true)
 
 pub walk-requires : goal.walk-requires
 walk-requires c = (

@@ -1,86 +1,101 @@
 use Prim.Native.Nat.{ℕ, ◌-◌}
 use mathlib.Core.Path.{refl, sym, ap, ◌∙◌}
 use mathlib.Core.List.{List}
+use mathlib.Core.Logic.{inl, inr}
 use native.Mathlib.Omega.{arith}
 use lib.ListN.{length-set}
 use lib.Seq.{length-take-le}
 use lib.Dec.{leb}
+use Rattle.std.proofs.lemmas.Result.{err_from_is_err_and}
+use Rattle.std.specs.Prelude.{Ok, Err}
 use Rattle.record_chain.specs.Chain as chain
-use Rattle.record_chain.proofs.Steps.{in-file, step-to, walk_end, walk-astray, walk-long, walk-bad, walk-on, as-answered, one_more, stored}
+use Rattle.record_chain.proofs.Steps.{in-file, step-to, walk-whole, walk-cut, walk-astray, walk-long, walk-bad, walk-on, as-answered, one_more, stored}
 use Rattle.records.proofs.Lists.{part}
+use Rattle.record_chain.proofs.walk.Goals.{else-left-ne48-via-then-left-ne48+else-left-ne0, else-left-ne48-via-else-left-ne48}
 use Rattle.record_chain.proofs.walk.Goals as goal
 
-pub loop-order-init : goal.loop-order-init
-loop-order-init c = (omega arith, omega arith, omega arith, refl, refl, refl)
+pub loop-next-init : goal.loop-next-init
+loop-next-init c = (omega arith, omega arith, omega arith, refl, refl, refl)
 
 pub slice_bounds-step_out-end : goal.slice_bounds-step_out-end
-slice_bounds-step_out-end c = sym (length-take-le c.loop-order.count c.loop-order.order (omega arith))
+slice_bounds-step_out-end c = sym (length-take-le c.loop-next.count c.loop-next.order (omega arith))
 
-pub returns-in-End : goal.returns-in-End
-returns-in-End c =
-    let l = c.loop-order in
-    let t = length-take-le l.count l.order (omega arith) in
-    c.ended.ensures
-    ∙ ap (chain.ended l.left) (as-answered l.order l.count l.invariant.4 t)
-    ∙ sym (walk_end _ _ _ _ l.left (sym c.step_out-s.ensures.value ∙ c.in-End.is))
-    ∙ l.invariant.5
-
-pub returns-in-Astray : goal.returns-in-Astray
-returns-in-Astray c =
-    let l = c.loop-order in
-    c.refused.ensures
-    ∙ sym (walk-astray _ _ _ _ l.left (sym c.step_out-s.ensures.value ∙ c.in-Astray.is))
+pub returns-in_err-next : goal.returns-in_err-next
+returns-in_err-next c =
+    let l = c.loop-next in
+    let t = err_from_is_err_and c.from_residual.result c.from_residual.ensures.1 in
+    t.1
+    ∙ ap Err t.2
+    ∙ sym (walk-astray _ _ _ _ l.left _ (sym c.step_out.ensures.value ∙ c.in_err-next.was))
     ∙ l.invariant.5
 
 pub returns-then-left-eq0 : goal.returns-then-left-eq0
 returns-then-left-eq0 c =
-    let l = c.loop-order in
-    c.refused-then-left-eq0.ensures
-    ∙ sym (walk-long _ _ _ _ _ l.left (sym c.step_out-s.ensures.value ∙ c.in-To.is) c.if-left-eq0.true)
+    let l = c.loop-next in
+    sym (walk-long _ _ _ _ _ l.left (sym c.step_out.ensures.value ∙ c.in_ok-next.was ∙ ap Ok c.in-Some.is) c.if-left-eq0.true)
     ∙ l.invariant.5
 
 pub overflow_mul-size : goal.overflow_mul-size
-overflow_mul-size c = omega (arith, in-file c.args.o c.args.file.now c.in-To.next (step-to c.args.o c.args.file.now _ _ c.in-To.next (sym c.step_out-s.ensures.value ∙ c.in-To.is)))
+overflow_mul-size c = omega (arith, in-file c.args.o c.args.file.now c.in-Some.next (step-to c.args.o c.args.file.now _ _ c.in-Some.next (sym c.step_out.ensures.value ∙ c.in_ok-next.was ∙ ap Ok c.in-Some.is)))
 
-pub overflow_mul-size-in-To : goal.overflow_mul-size-in-To
-overflow_mul-size-in-To c = omega (arith, in-file c.args.o c.args.file.now c.in-To.next (step-to c.args.o c.args.file.now _ _ c.in-To.next (sym c.step_out-s.ensures.value ∙ c.in-To.is)))
+pub overflow_mul-size-in-Some : goal.overflow_mul-size-in-Some
+overflow_mul-size-in-Some c = omega (arith, in-file c.args.o c.args.file.now c.in-Some.next (step-to c.args.o c.args.file.now _ _ c.in-Some.next (sym c.step_out.ensures.value ∙ c.in_ok-next.was ∙ ap Ok c.in-Some.is)))
 
 pub overflow_add-size : goal.overflow_add-size
-overflow_add-size c = omega (arith, in-file c.args.o c.args.file.now c.in-To.next (step-to c.args.o c.args.file.now _ _ c.in-To.next (sym c.step_out-s.ensures.value ∙ c.in-To.is)))
+overflow_add-size c = omega (arith, in-file c.args.o c.args.file.now c.in-Some.next (step-to c.args.o c.args.file.now _ _ c.in-Some.next (sym c.step_out.ensures.value ∙ c.in_ok-next.was ∙ ap Ok c.in-Some.is)))
 
 pub slice_bounds-may_stand-count : goal.slice_bounds-may_stand-count
-slice_bounds-may_stand-count c = omega (arith, in-file c.args.o c.args.file.now c.in-To.next (step-to c.args.o c.args.file.now _ _ c.in-To.next (sym c.step_out-s.ensures.value ∙ c.in-To.is)))
+slice_bounds-may_stand-count c = omega (arith, in-file c.args.o c.args.file.now c.in-Some.next (step-to c.args.o c.args.file.now _ _ c.in-Some.next (sym c.step_out.ensures.value ∙ c.in_ok-next.was ∙ ap Ok c.in-Some.is)))
 
 pub slice_bounds-may_stand-start : goal.slice_bounds-may_stand-start
-slice_bounds-may_stand-start c = omega (arith, in-file c.args.o c.args.file.now c.in-To.next (step-to c.args.o c.args.file.now _ _ c.in-To.next (sym c.step_out-s.ensures.value ∙ c.in-To.is)))
+slice_bounds-may_stand-start c = omega (arith, in-file c.args.o c.args.file.now c.in-Some.next (step-to c.args.o c.args.file.now _ _ c.in-Some.next (sym c.step_out.ensures.value ∙ c.in_ok-next.was ∙ ap Ok c.in-Some.is)))
 
 pub slice_bounds-may_stand-end : goal.slice_bounds-may_stand-end
-slice_bounds-may_stand-end c = omega (arith, in-file c.args.o c.args.file.now c.in-To.next (step-to c.args.o c.args.file.now _ _ c.in-To.next (sym c.step_out-s.ensures.value ∙ c.in-To.is)))
+slice_bounds-may_stand-end c = omega (arith, in-file c.args.o c.args.file.now c.in-Some.next (step-to c.args.o c.args.file.now _ _ c.in-Some.next (sym c.step_out.ensures.value ∙ c.in_ok-next.was ∙ ap Ok c.in-Some.is)))
 
 pub returns-then-not-may_stand : goal.returns-then-not-may_stand
 returns-then-not-may_stand c =
-    let l = c.loop-order in
-    c.refused-then-not-may_stand.ensures
-    ∙ sym
-    (walk-bad _ _ _ _ _ l.left (sym c.step_out-s.ensures.value ∙ c.in-To.is)
+    let l = c.loop-next in
+    sym
+    (walk-bad _ _ _ _ _ l.left (sym c.step_out.ensures.value ∙ c.in_ok-next.was ∙ ap Ok c.in-Some.is)
     c.if-left-eq0.false
-    (sym (c.may_stand.ensures ∙ ap (chain.sound_by c.args.o (leb 48 (l.left - 1))) (part c.args.o c.args.file.now c.in-To.next)) ∙ c.if-not-may_stand.true))
+    (sym (c.may_stand.ensures ∙ ap (chain.sound_by c.args.o (leb 48 (l.left - 1))) (part c.args.o c.args.file.now c.in-Some.next)) ∙ c.if-not-may_stand.true))
     ∙ l.invariant.5
 
-pub loop-order-preserved : goal.loop-order-preserved
-loop-order-preserved c =
-    let l = c.loop-order in
-    let n = c.in-To.next in
+pub loop-next-preserved : goal.loop-next-preserved
+loop-next-preserved c =
+    let l = c.loop-next in
+    let n = c.in-Some.next in
     let a = c.args in (
       omega arith,
       omega arith,
-      in-file c.args.o c.args.file.now c.in-To.next (step-to c.args.o c.args.file.now _ _ c.in-To.next (sym c.step_out-s.ensures.value ∙ c.in-To.is)),
+      in-file c.args.o c.args.file.now c.in-Some.next (step-to c.args.o c.args.file.now _ _ c.in-Some.next (sym c.step_out.ensures.value ∙ c.in_ok-next.was ∙ ap Ok c.in-Some.is)),
       simp length-set l.invariant.3,
       stored l.order l.count n (omega arith) l.invariant.3 l.invariant.4,
       ap (λ (order : List ℕ). chain.walk a.o a.file.now (l.left - 1) order n) (one_more l.order l.count n (omega arith))
           ∙ sym
-          (walk-on _ _ _ _ _ l.left (sym c.step_out-s.ensures.value ∙ c.in-To.is)
+          (walk-on _ _ _ _ _ l.left (sym c.step_out.ensures.value ∙ c.in_ok-next.was ∙ ap Ok c.in-Some.is)
           c.if-left-eq0.false
-          (sym (c.may_stand.ensures ∙ ap (chain.sound_by c.args.o (leb 48 (l.left - 1))) (part c.args.o c.args.file.now c.in-To.next)) ∙ c.if-not-may_stand.false))
+          (sym (c.may_stand.ensures ∙ ap (chain.sound_by c.args.o (leb 48 (l.left - 1))) (part c.args.o c.args.file.now c.in-Some.next)) ∙ c.if-not-may_stand.false))
           ∙ l.invariant.5,
     )
+
+pub returns-then-left-ne0 : goal.returns-then-left-ne0
+returns-then-left-ne0 c =
+    let l = c.loop-next in
+    sym (walk-cut _ _ _ _ l.left (sym c.step_out.ensures.value ∙ c.in_ok-next.was ∙ ap Ok c.in_default.is) c.if-left-ne48.true c.if-left-ne0.true)
+    ∙ l.invariant.5
+
+pub returns : goal.returns
+returns c =
+    let l = c.loop-next in
+    let t = length-take-le l.count l.order (omega arith) in
+    let e = sym c.step_out.ensures.value ∙ c.in_ok-next.was ∙ ap Ok c.in_default.is in
+    as-answered l.order l.count l.invariant.4 t
+    ∙ sym
+    (walk-whole _ _ _ _ l.left e
+    (elim c.else-left-ne48.branch [
+      | else-left-ne48-via-then-left-ne48+else-left-ne0 w ↦ inr w.if-left-ne0.false
+      | else-left-ne48-via-else-left-ne48 w ↦ inl w.if-left-ne48.false
+    ]))
+    ∙ l.invariant.5

@@ -1,5 +1,5 @@
 -- After i turns the bytes of i words stand at the front.
-use Prim.Native.Nat.{◌≤◌, ◌*◌, ◌-◌}
+use Prim.Native.Nat.{◌≤◌, ◌*◌}
 use mathlib.Core.Path.{◌≡◌}
 use mathlib.Core.List.{◌++◌}
 use lib.ListN.{length, take, drop}
@@ -9,6 +9,3 @@ use Rattle.record_put.proofs.words.Given as goal
 abbrev pub invariant-loop-i : goal.invariant-loop-i
 invariant-loop-i l =
     (l.i ≤ length l.ws) × (length l.out ≡ length l.initial.out) × (l.out ≡ bytes_of (take l.i l.ws) ++ drop (4 * l.i) l.initial.out)
-
-abbrev pub decreases-loop-i : goal.decreases-loop-i
-decreases-loop-i l = length l.ws - l.i

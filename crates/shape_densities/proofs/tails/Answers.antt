@@ -1,31 +1,36 @@
 use mathlib.Core.Path.{◌≡◌, refl, ap, ◌∙◌}
-use Prim.Native.Nat.{◌<◌}
+use mathlib.Core.List.{List, [], ◌∷◌}
+use Prim.Native.Nat.{ℕ, zero, suc, ◌<◌}
 use native.Mathlib.Numerals.{add-one}
 use native.Mathlib.Omega.{arith}
 use borrow.Author.Rules.{rules}
-use lib.Ieee.{nan}
-use lib.ListN.{length}
+use lib.Ieee.{Float, nan}
+use lib.ListN.{length, get_or}
 use Rattle.shape_densities.specs.Density.{fnd_of}
 use Rattle.cases.proofs.Tabulate.{mapped, mapped-more, mapped-all}
 use Rattle.shape_densities.proofs.tails.Goals as goal
 
-pub loop-ih-init : goal.loop-ih-init
-loop-ih-init c = (omega arith, refl)
+-- the place of the turn is as it was
+untouched : (f : Float → Float) (l : List Float) (i : ℕ) → get_or (mapped f nan l l i) i nan ≡ get_or l i nan
+untouched f l zero = refl
+untouched f [] (suc i) = refl
+untouched f (x ∷ l) (suc i) = untouched f l i
 
-pub loop-ih-preserved : goal.loop-ih-preserved
-loop-ih-preserved c =
+pub loop-h-init : goal.loop-h-init
+loop-h-init c = refl
+
+pub loop-h-preserved : goal.loop-h-preserved
+loop-h-preserved c =
     let a = c.args in
-    let i = c.loop-ih.ih in
-    let h : i < length a.htr = search rules in (
-      omega arith,
-      rw (c.tail_density-d.ensures, c.loop-ih.invariant.1, add-one i)
-          (mapped-more (fnd_of a.c) nan a.htr a.htr i h),
-    )
+    let i = c.loop-h.h-index in
+    let h : i < length a.htr = search rules in
+    rw (c.tail_density.ensures, c.loop-h.invariant, untouched (fnd_of a.c) a.htr i, add-one i)
+    (mapped-more (fnd_of a.c) nan a.htr a.htr i h)
 
 pub returns : goal.returns
 returns c =
     let a = c.args in
     let f = fnd_of a.c in
     let n : length a.htr ≡ 50 = search rules in
-    let e : c.loop-ih.ih ≡ length a.htr = omega arith in
-    c.loop-ih.invariant.1 ∙ ap (mapped f nan a.htr a.htr) e ∙ mapped-all f nan a.htr a.htr refl
+    let e : c.loop-h.h-index ≡ length a.htr = omega arith in
+    c.loop-h.invariant ∙ ap (mapped f nan a.htr a.htr) e ∙ mapped-all f nan a.htr a.htr refl

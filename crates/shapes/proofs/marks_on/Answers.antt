@@ -8,14 +8,14 @@ use lib.ListN.{length}
 use Rattle.shape_densities.specs.Density.{fnd_of}
 use Rattle.shape_densities.proofs.MapAt.{map_at}
 use Rattle.cases.proofs.Tabulate.{mapped, mapped-more, mapped-all}
-use Rattle.shapes.specs.Marks.{height_mark}
+use Rattle.shapes.specs.Marks.{mark_of}
 use Rattle.shapes.proofs.marks_on.Goals as goal
 
 pub loop-ih-init : goal.loop-ih-init
 loop-ih-init c = (omega arith, refl)
 
-pub mark_at-mark-requires : goal.mark_at-mark-requires
-mark_at-mark-requires c =
+pub mark_at-requires : goal.mark_at-requires
+mark_at-requires c =
     let a = c.args in
     let i = c.loop-ih.ih in
     let h : i < length a.htr = search rules in
@@ -27,14 +27,14 @@ loop-ih-preserved c =
     let i = c.loop-ih.ih in
     let h : i < length a.htr = search rules in (
       omega arith,
-      rw (c.mark_at-mark.ensures, c.loop-ih.invariant.1, add-one i)
-          (mapped-more (height_mark a.c) nan a.htr c.no_marks-marks.result i h),
+      rw (c.mark_at.ensures, c.loop-ih.invariant.1, add-one i)
+          (mapped-more (mark_of a.c) nan a.htr c.no_marks-marks.result i h),
     )
 
 pub returns : goal.returns
 returns c =
     let a = c.args in
-    let f = height_mark a.c in
+    let f = mark_of a.c in
     let m = c.no_marks-marks in
     let n : length a.htr ≡ 50 = search rules in
     let k : length m.result ≡ 50 = rw m.ensures in

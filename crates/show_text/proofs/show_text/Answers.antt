@@ -1,26 +1,36 @@
--- The sheet's outcome decides, and the text fits.
-use Prim.Native.Nat.{◌≤◌}
+-- The sheet or its refusal decides, and the text fits.
+use mathlib.Core.List.{List}
+use mathlib.Core.Path.{◌≡◌, sym, subst, ◌∙◌}
+use Prim.Native.Nat.{ℕ, ◌≤◌}
 use native.Mathlib.Omega.{arith}
+use Rattle.std.specs.Prelude.{Ok, Err}
 use Rattle.lines.proofs.Placing.{fits}
+use Rattle.circuit_sheet.specs.declared.Sheet.{Sheet}
+use Rattle.circuit_sheet.specs.CircuitSheet.{sheet_of}
+use Rattle.sheet_text.specs.SheetText.{SlotsFew}
 use Rattle.sheet_text.proofs.SlotCount.{three-slots}
 use Rattle.show_page.specs.Page.{page_text}
 use Rattle.show_text.specs.ShowText.{show_text}
 use Rattle.show_page.proofs.Lengths.{page-most, refusal-most}
 use Rattle.show_text.proofs.show_text.Goals as goal
 
+few : (f : List ℕ) (s : Sheet) → sheet_of f ≡ Ok s → s.slots ≤ 3
+few f s e = subst SlotsFew e (three-slots f)
+
 pub put_page-requires : goal.put_page-requires
-put_page-requires c = rw c.of_file-s.ensures (three-slots _)
+put_page-requires c = few _ c.in-Ok.s (sym c.of_file.ensures ∙ c.in-Ok.is)
 
-pub returns-in-Answered : goal.returns-in-Answered
+pub returns-in-Ok : goal.returns-in-Ok
 unfolding show_text page_text
-returns-in-Answered c =
-    let s = c.of_file-s in
-    let few : s.result.slots ≤ 3 = rw s.ensures (three-slots _) in
-    let p = fits c.put_page.ensures (omega (arith, (page-most s.result few).most)) in
-    record { put = rw (← s.ensures, c.in-Answered.is) p.0; room = p.1 }
+returns-in-Ok c =
+    let s = c.in-Ok.s in
+    let e : sheet_of c.args.file.now ≡ Ok s = sym c.of_file.ensures ∙ c.in-Ok.is in
+    let p = fits c.put_page.ensures (omega (arith, (page-most s (few _ s e)).most)) in
+    record { put = rw e p.0; room = p.1 }
 
-pub returns-in-Refused : goal.returns-in-Refused
+pub returns-in-Err : goal.returns-in-Err
 unfolding show_text
-returns-in-Refused c =
-    let p = fits c.put_refusal.ensures (omega (arith, (refusal-most c.in-Refused.r).most)) in
-    record { put = rw (← c.of_file-s.ensures, c.in-Refused.is) p.0; room = p.1 }
+returns-in-Err c =
+    let e : sheet_of c.args.file.now ≡ Err c.in-Err.r = sym c.of_file.ensures ∙ c.in-Err.is in
+    let p = fits c.put_refusal.ensures (omega (arith, (refusal-most c.in-Err.r).most)) in
+    record { put = rw e p.0; room = p.1 }

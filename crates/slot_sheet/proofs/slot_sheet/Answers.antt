@@ -1,64 +1,62 @@
--- Each early return has the refusal of its own test; past them there is room, so that the reflectrix is answered.
-use mathlib.Core.Bool.{true}
+-- The slot is tested here, and the room by the reflectrix, which is refused as the sheet is.
+use mathlib.Core.Bool.{Bool, true, false}
 use mathlib.Core.List.{List}
-use mathlib.Core.Path.{◌≡◌}
-use Prim.Native.Nat.{ℕ, ◌*◌}
-use lib.Dec.{leb}
+use mathlib.Core.Path.{◌≡◌, refl}
+use Prim.Native.Nat.{ℕ}
 use lib.IntN.{ℤ}
-use lib.ListN.{length}
 use borrow.Author.Tests.{le-leb, lt-leb}
-use Rattle.refusal.specs.declared.Outcome.{Outcome}
-use Rattle.layers.specs.declared.IonoState.{IonoState}
-use Rattle.layers.specs.declared.LayerMuf.{LayerMuf}
-use Rattle.profile.specs.Lecden.{lecden_of}
-use Rattle.sounding.specs.Genion.{genion_of}
-use Rattle.losses.specs.Alosfv.{alosfv_of}
-use Rattle.shapes.specs.Marks.{marks_of}
-use Rattle.shapes.specs.declared.HeightMark.{HeightMark}
-use Rattle.reflectrix.specs.declared.Ionogram.{Ionogram}
-use Rattle.slot_sheet.specs.declared.SlotSheet.{SlotSheet}
-use Rattle.reflectrix.specs.Fobby.{room_for, cells_after, fobby_outcome}
-use Rattle.slot_sheet.specs.Sheet.{slot_sheet_with, sheet_cells_with, slot_sheet_of, sheet_cells_of}
+use Rattle.std.proofs.Common.{Ok, Err}
+use Rattle.std.proofs.lemmas.Result.{err_from_is_err_and}
+use Rattle.refusal.specs.declared.Refusal.{Refusal}
+use Rattle.reflectrix.specs.Fobby.{room_for, cells_after, outcome_by, fobby_outcome}
+use Rattle.slot_sheet.specs.Sheet.{slot_sheet_with, sheet_cells_with}
 use Rattle.slot_sheet.proofs.slot_sheet.Goals as goal
 
--- the four in turn, where nothing is refused
-in-turn : (s : IonoState) (k nang : ℕ) (layers : List LayerMuf) (cells : List ℤ) (o : Outcome) (t : IonoState) (ion losses : Ionogram) (marks : List HeightMark) (after : List ℤ)
-    → leb k 2 ≡ true → leb nang 40 ≡ true → leb (30 * nang) (length cells) ≡ true → t ≡ lecden_of s k → ion ≡ genion_of t k → o ≡ fobby_outcome nang cells → after ≡ cells_after ion nang cells → losses ≡ alosfv_of t k ion layers → marks ≡ marks_of s k
-    → (◌≡◌ {A = SlotSheet} (record { outcome = o; state = t; ion = losses; marks = marks }) (slot_sheet_of s k nang layers cells)) × (after ≡ sheet_cells_of s k nang cells)
-unfolding slot_sheet_with sheet_cells_with room_for cells_after fobby_outcome
-in-turn s k nang layers cells o t ion losses marks after slot few room et ei eo ea el em = (rw (eo, el, em, ei, et, slot, few, room), rw (ea, ei, et, slot, few, room))
+refused_by : (b : Bool) (r : Refusal) → Err r ≡ outcome_by b → (b ≡ false) × (r ≡ Refusal.Reflectrix)
+refused_by true r e = (cc, cc)
+refused_by false r e = (refl, cc)
 
-pub returns-then-k-gt2 : goal.returns-then-k-gt2
-unfolding slot_sheet_with sheet_cells_with
-returns-then-k-gt2 c =
-    let high = lt-leb _ _ c.if-k-gt2.true in
-    record { value = rw high c.refused.ensures; cells_after = rw high }
+no-room : (nang : ℕ) (cells : List ℤ) (r : Refusal) → Err r ≡ fobby_outcome nang cells → (room_for nang cells ≡ false) × (r ≡ Refusal.Reflectrix)
+unfolding fobby_outcome
+no-room nang cells r e = refused_by (room_for nang cells) r e
 
-pub returns-then-nang-gt40 : goal.returns-then-nang-gt40
-unfolding slot_sheet_with sheet_cells_with room_for
-returns-then-nang-gt40 c =
-    let slot = le-leb _ _ c.if-k-gt2.false in
-    let many = lt-leb _ _ c.if-nang-gt40.true in
-    record { value = rw (slot, many) c.refused-then-nang-gt40.ensures; cells_after = rw (slot, many) }
+answered_by : (b : Bool) → Ok tt ≡ outcome_by b → b ≡ true
+answered_by true e = refl
+answered_by false e = cc
 
-pub returns-then-cells-nang : goal.returns-then-cells-nang
-unfolding slot_sheet_with sheet_cells_with room_for
-returns-then-cells-nang c =
-    let slot = le-leb _ _ c.if-k-gt2.false in
-    let few = le-leb _ _ c.if-nang-gt40.false in
-    let short = lt-leb _ _ c.if-cells-nang.true in
-    record { value = rw (slot, few, short) c.refused-then-cells-nang.ensures; cells_after = rw (slot, few, short) }
+room : (nang : ℕ) (cells : List ℤ) → Ok tt ≡ fobby_outcome nang cells → room_for nang cells ≡ true
+unfolding fobby_outcome
+room nang cells e = answered_by (room_for nang cells) e
 
-pub returns : goal.returns
-returns c =
-    let done = in-turn _ _ _ _ _ _ _ _ _ _ _
-    (le-leb _ _ c.if-k-gt2.false)
-    (le-leb _ _ c.if-nang-gt40.false)
-    (le-leb _ _ c.if-cells-nang.false)
-    c.lecden_slot-t.ensures
-    c.genion_slot-ion.ensures
-    c.fobby-outcome.ensures.value
-    c.fobby-outcome.ensures.cells_after
-    c.alosfv_slot-ion.ensures
-    c.marks_slot-marks.ensures in
-    record { value = done.0; cells_after = done.1 }
+pub returns-then-k-gt2-clause-value : goal.returns-then-k-gt2-clause-value
+unfolding slot_sheet_with
+returns-then-k-gt2-clause-value c = rw (lt-leb _ _ c.if-k-gt2.true)
+
+pub returns-then-k-gt2-clause-cells_after : goal.returns-then-k-gt2-clause-cells_after
+unfolding sheet_cells_with
+returns-then-k-gt2-clause-cells_after c = rw (lt-leb _ _ c.if-k-gt2.true)
+
+pub returns-in_err-fobby-clause-value : goal.returns-in_err-fobby-clause-value
+unfolding slot_sheet_with
+returns-in_err-fobby-clause-value c =
+    let p = err_from_is_err_and c.from_residual.result c.from_residual.ensures.1 in
+    let n = no-room c.args.nang c.args.cells.now c.in_err-fobby.field-0.0 c.in_err-fobby.ensures.value in
+    rw (p.1, p.2, n.1, le-leb _ _ c.if-k-gt2.false, n.0)
+
+pub returns-in_err-fobby-clause-cells_after : goal.returns-in_err-fobby-clause-cells_after
+unfolding sheet_cells_with cells_after
+returns-in_err-fobby-clause-cells_after c =
+    let n = no-room c.args.nang c.args.cells.now c.in_err-fobby.field-0.0 c.in_err-fobby.ensures.value in
+    rw (le-leb _ _ c.if-k-gt2.false, n.0) (rw n.0 at c.in_err-fobby.ensures.cells_after)
+
+pub returns-clause-value : goal.returns-clause-value
+unfolding slot_sheet_with
+returns-clause-value c =
+    let r = room c.args.nang c.args.cells.now c.in_ok-fobby.ensures.value in
+    rw (le-leb _ _ c.if-k-gt2.false, r, ← c.lecden_slot-t.ensures, ← c.genion_slot-ion.ensures, ← c.alosfv_slot.ensures, ← c.marks_slot-marks.ensures)
+
+pub returns-clause-cells_after : goal.returns-clause-cells_after
+unfolding sheet_cells_with cells_after
+returns-clause-cells_after c =
+    let r = room c.args.nang c.args.cells.now c.in_ok-fobby.ensures.value in
+    rw (le-leb _ _ c.if-k-gt2.false, r, ← c.lecden_slot-t.ensures, ← c.genion_slot-ion.ensures) (rw r at c.in_ok-fobby.ensures.cells_after)

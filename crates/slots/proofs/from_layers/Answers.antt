@@ -4,13 +4,13 @@ use Rattle.layer_rules.proofs.Counts.{taken-five}
 use mathlib.Core.Path.{sym, ◌∙◌}
 use Rattle.slots.proofs.from_layers.Goals as goal
 
-pub set_points-state-requires : goal.set_points-state-requires
-set_points-state-requires c = taken-five _ (sym c.count_taken.ensures ∙ c.if-count_taken.true)
+pub set_points-requires : goal.set_points-requires
+set_points-requires c = taken-five _ (sym c.count_taken.ensures ∙ c.if-count_taken.true)
 
 pub returns-then-count_taken : goal.returns-then-count_taken
 unfolding from_layers_of
-returns-then-count_taken c = rw (← c.count_taken.ensures, c.if-count_taken.true, ← c.empty.ensures, ← c.set_points-state.ensures)
+returns-then-count_taken c = rw (← c.count_taken.ensures, c.if-count_taken.true, ← c.empty.ensures, ← c.set_points.ensures)
 
 pub returns : goal.returns
 unfolding from_layers_of
-returns c = rw (← c.count_taken.ensures, c.if-count_taken.false, ← c.zero_state.ensures)
+returns c = rw (← c.count_taken.ensures, c.if-count_taken.false)

@@ -8,7 +8,7 @@ settle_slots-requires c = rw c.assign-t.ensures (three-at-most _)
 
 pub returns-then-count_taken : goal.returns-then-count_taken
 unfolding ionset_of
-returns-then-count_taken c = rw (← c.count_taken.ensures, c.if-count_taken.true, ← c.assign-t.ensures, ← c.settle_slots.ensures, ← c.disown-state.ensures)
+returns-then-count_taken c = rw (← c.count_taken.ensures, c.if-count_taken.true, ← c.assign-t.ensures, ← c.settle_slots.ensures, ← c.disown.ensures)
 
 pub returns : goal.returns
 unfolding ionset_of

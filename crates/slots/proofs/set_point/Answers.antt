@@ -4,4 +4,4 @@ use Rattle.slots.proofs.set_point.Goals as goal
 
 pub returns : goal.returns
 unfolding point_set
-returns c = rw (← c.set_row-fi.ensures, ← c.set_row-yi.ensures, ← c.set_row-hi.ensures)
+returns c = rw (← c.set_row-s.ensures, ← c.set_row-s-2.ensures, ← c.set_row-s-3.ensures)

@@ -1,16 +1,26 @@
 -- Each path is the clause that its tests choose; each call is what its contract says.
+use Rattle.std.proofs.lemmas.Result.{err_from_is_err_and}
 use Rattle.sporadic.specs.Sporadic.{es_row_of}
 use Rattle.sporadic.proofs.Says.{row-says}
 use Rattle.sporadic.proofs.es_row.Goals as goal
 
-pub returns-then-row : goal.returns-then-row
+pub returns-then-row-clause-value : goal.returns-then-row-clause-value
 unfolding es_row_of
-returns-then-row c = record { value = (rw (c.if-row.true)); row_says = row-says _ _ _ _ _ (rw (c.if-row.true)) }
+returns-then-row-clause-value c = rw c.if-row.true
 
-pub returns-in-Refused : goal.returns-in-Refused
-unfolding es_row_of
-returns-in-Refused c = record { value = (rw (c.if-row.false, ← c.hop_count-count.ensures.value, c.in-Refused.is)); row_says = row-says _ _ _ _ _ (rw (c.if-row.false, ← c.hop_count-count.ensures.value, c.in-Refused.is)) }
+pub returns-then-row-clause-row_says : goal.returns-then-row-clause-row_says
+returns-then-row-clause-row_says c = row-says _ _ _ _ _ (returns-then-row-clause-value c)
 
-pub returns-in-Count : goal.returns-in-Count
+pub returns-in_err-hop-clause-value : goal.returns-in_err-hop-clause-value
 unfolding es_row_of
-returns-in-Count c = record { value = (rw (c.if-row.false, ← c.hop_count-count.ensures.value, c.in-Count.is, ← c.es_ray-ray.ensures, ← c.es_taken-b.ensures)); row_says = row-says _ _ _ _ _ (rw (c.if-row.false, ← c.hop_count-count.ensures.value, c.in-Count.is, ← c.es_ray-ray.ensures, ← c.es_taken-b.ensures)) }
+returns-in_err-hop-clause-value c = let p = err_from_is_err_and c.from_residual.result c.from_residual.ensures.1 in rw (p.1, p.2, c.if-row.false, ← c.in_err-hop.ensures.value)
+
+pub returns-in_err-hop-clause-row_says : goal.returns-in_err-hop-clause-row_says
+returns-in_err-hop-clause-row_says c = row-says _ _ _ _ _ (returns-in_err-hop-clause-value c)
+
+pub returns-clause-value : goal.returns-clause-value
+unfolding es_row_of
+returns-clause-value c = rw (c.if-row.false, ← c.in_ok-hop.ensures.value, ← c.es_ray-ray.ensures, ← c.es_taken.ensures)
+
+pub returns-clause-row_says : goal.returns-clause-row_says
+returns-clause-row_says c = row-says _ _ _ _ _ (returns-clause-value c)

@@ -3,10 +3,10 @@ use Rattle.lines.proofs.Placing.{clip-none}
 use Rattle.svg_text.specs.Pieces.{muf_text}
 use Rattle.svg_text.proofs.put_muf.Goals as goal
 
-pub returns-in-At : goal.returns-in-At
+pub returns-in-Some : goal.returns-in-Some
 unfolding muf_text
-returns-in-At c = rw (← c.point-foot.ensures, c.in-At.is) c.put_line.ensures
+returns-in-Some c = rw (← c.point.ensures, c.in-Some.is) c.put_line.ensures
 
-pub returns-in-Nowhere : goal.returns-in-Nowhere
+pub returns-in-None : goal.returns-in-None
 unfolding muf_text
-returns-in-Nowhere c = rw (← c.point-foot.ensures, c.in-Nowhere.is) clip-none
+returns-in-None c = rw (← c.point.ensures, c.in-None.is) clip-none

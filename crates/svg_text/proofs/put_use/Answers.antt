@@ -5,4 +5,4 @@ use Rattle.svg_text.proofs.put_use.Goals as goal
 
 pub returns : goal.returns
 unfolding use_text
-returns c = clip-then c.put_word-a.ensures (clip-then c.put_id-b.ensures (clip-then c.put_word-c.ensures (clip-then c.put_decimal-d.ensures (clip-then c.put_word-e.ensures (clip-then c.put_decimal-f.ensures c.put_word.ensures)))))
+returns c = clip-then c.put_word-a.ensures (clip-then (rw (← c.id.ensures) c.put_word-b.ensures) (clip-then c.put_word-c.ensures (clip-then c.put_decimal-d.ensures (clip-then c.put_word-e.ensures (clip-then c.put_decimal-f.ensures c.put_word.ensures)))))

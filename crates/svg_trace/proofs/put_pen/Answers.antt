@@ -2,10 +2,10 @@
 use Rattle.svg_trace.specs.Trace.{pen_text}
 use Rattle.svg_trace.proofs.put_pen.Goals as goal
 
-pub returns-in-At : goal.returns-in-At
+pub returns-in-Some : goal.returns-in-Some
 unfolding pen_text
-returns-in-At c = rw c.in-At.is c.put_byte.ensures
+returns-in-Some c = rw c.in-Some.is c.put_byte.ensures
 
-pub returns-in-Nowhere : goal.returns-in-Nowhere
+pub returns-in-None : goal.returns-in-None
 unfolding pen_text
-returns-in-Nowhere c = rw c.in-Nowhere.is c.put_byte-in-Nowhere.ensures
+returns-in-None c = rw c.in-None.is c.put_byte-in-None.ensures

@@ -1,26 +1,29 @@
-use mathlib.Core.Path.{refl}
-use Prim.Native.Nat.{◌-◌}
-use native.Mathlib.Nat.{le_antisymm}
-use native.Mathlib.Numerals.{add-one}
-use native.Mathlib.Omega.{arith}
-use Rattle.lines.proofs.Placing.{clip-start, clip-next, clip-length}
-use Rattle.svg_trace.specs.Trace.{before_of, trace_text}
+use Rattle.std.proofs.Common.{ℕ, Float, ◌≡◌, refl, ◌∙◌, ap, length, length-append, add-one, arith, rules}
+use Rattle.std.proofs.lemmas.Slice.Zip.{zip_turn, zip_end}
+use Rattle.lines.proofs.Placing.{clip-start, clip-next}
+use Rattle.std.specs.Float.{nan}
+use Rattle.scalar.specs.F32.{at}
+use Rattle.svg_points.specs.Points.{point_drawn_of}
+use Rattle.svg_trace.specs.Trace.{row_point, step_at, before_of, trace_text}
 use Rattle.svg_trace.proofs.put_trace.Goals as goal
 
-pub loop-i-init : goal.loop-i-init
+pub loop-f-init : goal.loop-f-init
 unfolding before_of
-loop-i-init c = (omega arith, refl, clip-start _)
+loop-f-init c = (refl, clip-start _)
 
-pub loop-i-preserved : goal.loop-i-preserved
+pub loop-f-preserved : goal.loop-f-preserved
 unfolding before_of
-loop-i-preserved c =
-    let l = c.loop-i in
-    let p = c.point-here.ensures in
-    (omega arith, rw (add-one l.i) p, clip-next _ _ l.invariant.2 (rw (← p, ← l.invariant.1) c.put_step-e.ensures))
-
-pub shape_of-out : goal.shape_of-out
-shape_of-out c = clip-length c.loop-i.invariant.2
+loop-f-preserved c =
+    let l = c.loop-f in
+    let t = zip_turn c.args.f c.args.h l.yielded _ l.f-iterator c.next.new.self c.next.result (search rules) (search rules) l.yielded_by _ c.in-Some.is c.next.ensures.steps in
+    let i : ℕ = length l.yielded in
+    let p : c.point-here.result ≡ row_point c.args.f c.args.h i = c.point-here.ensures ∙ ap (λ (x : Float). point_drawn_of x c.in-Some.h.now) (t.2 nan) ∙ ap (point_drawn_of (at c.args.f i)) (t.3 nan) in
+    (rw (length-append l.yielded _, add-one i) p, rw (length-append l.yielded _) (clip-next (step_at c.args.f c.args.h) i l.invariant.1 (rw (← p, ← l.invariant.0) c.put_step-e.ensures)))
 
 pub returns : goal.returns
 unfolding trace_text
-returns c = rw (← le_antisymm c.loop-i.invariant.0 c.loop-i-test.false) c.loop-i.invariant.2
+returns c =
+    let l = c.loop-f in
+    let e = zip_end c.args.f c.args.h l.yielded _ l.f-iterator c.next.new.self c.next.result (search rules) (search rules) l.yielded_by c.in-None.is c.next.ensures.steps in
+    let n : length l.yielded ≡ 30 = omega (arith, e) in
+    rw (← n) l.invariant.1

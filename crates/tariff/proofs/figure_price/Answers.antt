@@ -1,29 +1,28 @@
 -- The band is one of the tariff's, so its rate is at most 10,000 and the product is a u32.
+use mathlib.Core.Path.{sym, ◌∙◌}
 use native.Mathlib.Omega.{arith}
-use borrow.Author.Tests.{le-leb, lt-leb, lt-ltb, le-ltb}
+use Rattle.std.proofs.lemmas.Bool.Decides.{nat_tests}
 use Rattle.tariff.specs.Price.{figure_price}
-use Rattle.tariff.proofs.Meaning.{rate-at, product-most}
+use Rattle.tariff.proofs.Meaning.{band-in, rate-at, product-most}
 use Rattle.tariff.proofs.figure_price.Goals as goal
 
-pub returns-then-band-tops : goal.returns-then-band-tops
+pub returns-in_default : goal.returns-in_default
 unfolding figure_price
-returns-then-band-tops c = rw (← c.first_band-band.ensures, le-ltb _ _ c.if-band-tops.true)
+returns-in_default c = grind (arith, nat_tests)
 
 pub returns-then-seconds-lt1 : goal.returns-then-seconds-lt1
 unfolding figure_price
-returns-then-seconds-lt1 c = rw (← c.first_band-band.ensures, lt-ltb _ _ c.if-band-tops.false, lt-leb _ _ c.if-seconds-lt1.true)
-
-pub returns-then-seconds-gt86400 : goal.returns-then-seconds-gt86400
-unfolding figure_price
-returns-then-seconds-gt86400 c = rw (← c.first_band-band.ensures, lt-ltb _ _ c.if-band-tops.false, le-leb _ _ c.if-seconds-lt1.false, lt-leb _ _ c.if-seconds-gt86400.true)
+returns-then-seconds-lt1 c = grind (arith, nat_tests)
 
 pub bounds-rates-band : goal.bounds-rates-band
-bounds-rates-band c = rate-at c.args.tops.now _ _ c.requires c.if-band-tops.false
+bounds-rates-band c = let b = band-in _ c.args.tops.now c.in-Some.band (sym c.in-Some.is ∙ c.first_band.ensures) in rate-at c.args.tops.now _ _ c.requires b.0
 
-pub overflow_mul-rate : goal.overflow_mul-rate
-overflow_mul-rate c = let m = product-most c.args.tops.now c.args.rates.now c.first_band-band.result c.args.seconds c.requires c.if-band-tops.false (omega arith) in record { fits = omega arith }
+pub overflow_mul-rates : goal.overflow_mul-rates
+overflow_mul-rates c =
+    let b = band-in _ c.args.tops.now c.in-Some.band (sym c.in-Some.is ∙ c.first_band.ensures) in
+    let m = product-most c.args.tops.now c.args.rates.now c.in-Some.band c.args.seconds c.requires b.0 (omega arith) in
+    record { fits = omega arith }
 
 pub returns : goal.returns
 unfolding figure_price
-returns c =
-    rw (← c.first_band-band.ensures, lt-ltb _ _ c.if-band-tops.false, le-leb _ _ c.if-seconds-lt1.false, le-leb _ _ c.if-seconds-gt86400.false, ← c.rounded_up.ensures)
+returns c = grind (arith, nat_tests)

@@ -1,20 +1,8 @@
-use mathlib.Core.Path.{◌≡◌}
-use native.Mathlib.Omega.{arith}
-use borrow.Author.Count.{below_more}
-use lib.ListN.{length}
-use Rattle.tariff.proofs.Meaning.{first-only, none_first}
+use Rattle.std.proofs.Common.{leb, rules, tests}
+use Rattle.std.proofs.lemmas.Iterator.{YieldsList-from_slice}
+use Rattle.std.proofs.lemmas.Iterator.Search.{position_from_yields_List}
+use Rattle.tariff.proofs.Meaning.{first-position}
 use Rattle.tariff.proofs.first_band.Goals as goal
 
-pub loop-i-init : goal.loop-i-init
-loop-i-init c = (omega arith, λ k h. absurd (omega arith))
-
-pub returns-then-tops-i : goal.returns-then-tops-i
-returns-then-tops-i c = first-only _ _ _ (record { among = omega arith; reaches = omega arith; before = c.loop-i.invariant.1 })
-
-pub loop-i-preserved : goal.loop-i-preserved
-loop-i-preserved c = (omega arith, below_more _ _ c.loop-i.invariant.1 (omega arith))
-
 pub returns : goal.returns
-returns c =
-    let e : c.loop-i.i ≡ length c.args.tops.now = omega arith in
-    rw e (none_first _ _ (λ k h. c.loop-i.invariant.1 k (omega arith)))
+returns c = rw (first-position c.args.tenths c.args.tops.now) (position_from_yields_List (λ top. leb c.args.tenths top) _ _ _ c.position.ensures.ran (YieldsList-from_slice c.args.tops.now cc) (λ x b q k. search (rules, tests)))

@@ -23,10 +23,10 @@ fits h k p q = record { sfits = small h k p q }
 
 pub overflow_sub-result : goal.overflow_sub-result
 overflow_sub-result c =
-    rw (to_z_pos w64 {n = c.args.h} (omega arith), to_z_pos w64 {n = c.args.k} (omega arith))
+    rw (c.from.ensures, c.from-2.ensures, to_z_pos w64 {n = c.args.h} (omega arith), to_z_pos w64 {n = c.args.k} (omega arith))
     (fits c.args.h c.args.k (omega arith) (omega arith))
 
 pub returns : goal.returns
 returns c =
-    rw (to_z_pos w64 {n = c.args.h} (omega arith), to_z_pos w64 {n = c.args.k} (omega arith))
+    rw (c.from.ensures, c.from-2.ensures, to_z_pos w64 {n = c.args.h} (omega arith), to_z_pos w64 {n = c.args.k} (omega arith))
     (to_z-of_z (fits c.args.h c.args.k (omega arith) (omega arith)))

@@ -33,6 +33,6 @@ returns-then-g-f c =
 pub returns : goal.returns
 returns c =
     let g = c.args in
-    rw (to_z-of_z (sfits_of c.less-d.type_inv), c.less-d.ensures)
+    rw (to_z-of_z (sfits_of c.less.type_inv), c.less.ensures)
     (head-both g.a.now g.ah.now g.b.now g.bh.now c.requires.0 c.requires.1 g.i g.j (omega arith) (omega arith)
     (le_antisymm c.if-g-f.false c.if-f-g.false))

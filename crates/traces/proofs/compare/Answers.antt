@@ -25,15 +25,15 @@ returns-then-not-ready c =
     (sym c.ready.ensures ∙ c.if-not-ready.true) in
     record { value = r.0; khz_after = r.1.0; which_after = r.1.1.0; difference_after = r.1.1.1 }
 
-pub lines-n-requires : goal.lines-n-requires
-lines-n-requires c =
-    let f = facts (goal.at.lines-n-requires c).Else-not-ready in
+pub lines-requires : goal.lines-requires
+lines-requires c =
+    let f = facts (goal.at.lines-requires c).Else-not-ready in
     (f.first, f.second, f.first-few, f.second-few, f.khz-room, f.which-room, f.difference-room)
 
 pub returns : goal.returns
 returns c =
     let g = c.args in
-    let e = c.lines-n.ensures in
+    let e = c.lines.ensures in
     let r = answered g.a.now g.ah.now g.b.now g.bh.now g.khz.now g.which.now g.difference.now _ _ _ _ (passed (goal.at.returns c).Else-not-ready)
     e.value e.khz_after e.which_after e.difference_after in
     record { value = r.0; khz_after = r.1.0; which_after = r.1.1.0; difference_after = r.1.1.1 }

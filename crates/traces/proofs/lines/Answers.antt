@@ -5,7 +5,7 @@ use mir.Val.{to_z, of_z}
 use mir.Syntax.{w64}
 use borrow.Author.Rules.{rules}
 use lib.ListN.{length, set}
-use Rattle.trace_lines.specs.Lines.{of_first, of_second}
+use Rattle.trace_lines.specs.Lines.{which_number, of_first, of_second}
 use Rattle.traces.proofs.Merged.{Kept, more, more_rows, ended, lengths, all_left}
 use Rattle.traces.proofs.lines.Goals.{After-next-l, At-loop-i}
 use Rattle.traces.proofs.lines.Goals as goal
@@ -26,7 +26,7 @@ written : (c : After-next-l)
     let l = c.loop-i in
     let r = c.next-l.result in
     Kept c.args.a.now c.args.ah.now c.args.b.now c.args.bh.now c.args.khz.now c.args.which.now
-    c.args.difference.now (set l.khz l.n r.khz) (set l.which l.n r.which)
+    c.args.difference.now (set l.khz l.n r.khz) (set l.which l.n (which_number r.which))
     (set l.difference l.n r.difference) (l.i + of_first r.which) (l.j + of_second r.which) (l.n + 1)
 written c =
     let g = c.args in
@@ -85,7 +85,7 @@ loop-i-smaller c =
 pub loop-i-preserved : goal.loop-i-preserved
 loop-i-preserved c =
     let e : to_z w64 (of_z w64 c.next-l.result.difference) ≡ c.next-l.result.difference = search rules in
-    rw (e, c.of_first-i.ensures, c.of_second-j.ensures) (written (goal.at.loop-i-preserved c).After-next-l)
+    rw (e, c.from.ensures, c.of_first-i.ensures, c.of_second-j.ensures) (written (goal.at.loop-i-preserved c).After-next-l)
 
 pub shape_of-khz : goal.shape_of-khz
 shape_of-khz c = (len (goal.at.shape_of-khz c).At-loop-i).0

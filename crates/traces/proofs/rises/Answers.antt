@@ -1,52 +1,42 @@
-use Prim.Native.Nat.{ℕ, zero, suc, ◌+◌, ◌≤◌, ◌<◌}
-use mathlib.Core.Path.{◌≡◌, refl, ◌∙◌, sym}
-use mathlib.Core.Bool.{true, false, ◌&&◌}
+use Prim.Native.Nat.{ℕ, zero, suc, ◌+◌, ◌<◌}
+use mathlib.Core.Bool.{Bool, true, false, ◌&&◌}
 use mathlib.Core.List.{List, [], ◌∷◌}
-use native.Mathlib.Omega.{arith}
+use mathlib.Core.Path.{◌≡◌, refl, sym}
 use native.Mathlib.Numerals.{add-one}
-use lib.Dec.{ltb}
-use lib.ListN.{length, get_or, drop}
-use borrow.Author.Tests.{lt-ltb, le-ltb}
+use native.Mathlib.Omega.{arith}
+use lib.ListN.{length, get_or}
+use Rattle.std.proofs.Common.{ltb, rules, tests}
+use Rattle.std.proofs.lemmas.List.Sorted.{answers_always}
+use Rattle.std.specs.List.{IsAllAdjacentAnswer}
 use Rattle.trace_lines.specs.Trace.{rises as rises_of}
 use Rattle.traces.proofs.rises.Goals as goal
 
-step : (l : List ℕ) (i : ℕ) → suc i < length l
-    → rises_of (drop i l) ≡ (ltb (get_or l i 0) (get_or l (suc i) 0) && rises_of (drop (suc i) l))
+and-false : (a : Bool) → (a && false) ≡ false
+and-false true = refl
+and-false false = refl
+
+all : (l : List ℕ) → ((i : ℕ) → suc i < length l → ltb (get_or l i 0) (get_or l (suc i) 0) ≡ true) → rises_of l ≡ true
 unfolding rises_of
-step [] i h = absurd (omega arith)
-step (x ∷ []) i h = absurd (omega arith)
-step (x ∷ (y ∷ l)) zero h = refl
-step (x ∷ (y ∷ l)) (suc i) h = step (y ∷ l) i (omega arith)
+all [] f = refl
+all (x ∷ []) f = refl
+all (x ∷ y ∷ l) f = rw (f 0 (omega arith)) (all (y ∷ l) (λ i h. f (suc i) (omega arith)))
 
-end : (l : List ℕ) (i : ℕ) → length l ≤ suc i → rises_of (drop i l) ≡ true
+one-not : (l : List ℕ) (i : ℕ) → suc i < length l → ltb (get_or l i 0) (get_or l (suc i) 0) ≡ false → rises_of l ≡ false
 unfolding rises_of
-end [] zero h = refl
-end [] (suc i) h = refl
-end (x ∷ []) zero h = refl
-end (x ∷ (y ∷ l)) zero h = absurd (omega arith)
-end (x ∷ l) (suc i) h = end l i (omega arith)
+one-not [] i h t = absurd (omega arith)
+one-not (x ∷ []) i h t = absurd (omega arith)
+one-not (x ∷ y ∷ l) zero h t = rw t
+one-not (x ∷ y ∷ l) (suc i) h t = rw (one-not (y ∷ l) i (omega arith) t, and-false)
 
-more : (l : List ℕ) (i : ℕ) → i + 1 < length l → get_or l i 0 < get_or l (i + 1) 0 → rises_of (drop i l) ≡ rises_of (drop (i + 1) l)
-more l i h k =
-    let m : get_or l i 0 < get_or l (suc i) 0 = rw (add-one i) at k in
-    rw (add-one i) (step l i (omega arith) ∙ rw (lt-ltb (get_or l i 0) (get_or l (suc i) 0) m))
-
-less : (l : List ℕ) (i : ℕ) → i + 1 < length l → get_or l (i + 1) 0 ≤ get_or l i 0 → rises_of (drop i l) ≡ false
-less l i h k =
-    let m : get_or l (suc i) 0 ≤ get_or l i 0 = rw (add-one i) at k in
-    step l i (omega arith) ∙ rw (le-ltb (get_or l i 0) (get_or l (suc i) 0) m)
-
-pub loop-i-init : goal.loop-i-init
-loop-i-init c = (omega arith, refl)
-
-pub loop-i-preserved : goal.loop-i-preserved
-loop-i-preserved c =
-    (omega arith, sym (more c.args.khz.now c.loop-i.i c.loop-i-test.true c.if-khz-i.true) ∙ c.loop-i.invariant.1)
-
-pub returns-else-khz-i : goal.returns-else-khz-i
-returns-else-khz-i c =
-    sym (less c.args.khz.now c.loop-i.i c.loop-i-test.true c.if-khz-i.false) ∙ c.loop-i.invariant.1
+by-steps : (l : List ℕ) (r : Bool) → IsAllAdjacentAnswer (λ x y b. b ≡ ltb x y) l r → r ≡ rises_of l
+by-steps l true h =
+    sym
+    (all l (λ i k. let t : ltb (get_or l i 0) (get_or l (i + 1) 0) ≡ true = sym (h i 0 (omega arith)) in rw (add-one i) at t))
+by-steps l false h =
+    let t : ltb (get_or l h.0 0) (get_or l (h.0 + 1) 0) ≡ false = sym (h.2 0) in
+    sym (one-not l h.0 (let k = h.1 in omega arith) (rw (add-one h.0) at t))
 
 pub returns : goal.returns
 returns c =
-    sym (end c.args.khz.now c.loop-i.i (omega arith)) ∙ c.loop-i.invariant.1
+    by-steps c.args.khz.now c.is_sorted_by.result
+    (c.is_sorted_by.ensures.cases ltb (answers_always _ _ _ (λ f a r g k. search (rules, tests))))

@@ -1,8 +1,6 @@
 -- The chain was followed to its end, so every record named is in the file.
 use Prim.Native.Nat.{◌+◌, ◌≤◌}
-use mathlib.Core.Path.{sym, ap, ◌∙◌}
 use native.Mathlib.Omega.{arith}
-use Rattle.record_chain.specs.declared.Chain.{Chain}
 use Rattle.records.specs.Record.{form64, record_at}
 use Rattle.circuit.specs.Read.{circuit_of}
 use Rattle.records.proofs.Lists.{fit64}
@@ -13,11 +11,11 @@ use Rattle.circuit.proofs.numbers.circuit.Goals as goal
 
 -- the chain was followed to its end
 told : (c : Start) → Followed form64 c.args.file.now c.args.c
-told c = rw c.requires.0 (followed form64 fit64 c.args.file.now (ap (λ (k : Chain). k.outcome) (sym c.requires.0) ∙ c.requires.1))
+told c = followed form64 fit64 c.args.file.now c.args.c c.requires
 
 range : (c : Start) → (1 + km_of (record_at form64 c.args.file.now 0) ≤ c.args.c.count)
     × (c.args.c.count ≤ km_of (record_at form64 c.args.file.now 0) + 49)
-range c = count-range form64 c.args.file.now c.args.c (told c) c.requires.1
+range c = count-range form64 c.args.file.now c.args.c (told c)
 
 pub slice_bounds-head-end : goal.slice_bounds-head-end
 slice_bounds-head-end c = omega (arith, (told (goal.at.slice_bounds-head-end c).Start).least)

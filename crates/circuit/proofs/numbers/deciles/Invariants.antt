@@ -1,11 +1,7 @@
 -- `ReadTo` is kept turn by turn: every record that the chain names is in the file, so its words are read into their part of the array.
-use Prim.Native.Nat.{◌-◌}
 use Rattle.records.specs.Record.{form64}
 use Rattle.circuit.proofs.Lists.{ReadTo}
 use Rattle.circuit.proofs.numbers.deciles.Given as goal
 
 abbrev pub invariant-loop-i : goal.invariant-loop-i
 invariant-loop-i l = ReadTo form64 l.file l.order l.from 0 12 576 l.count l.out l.i
-
-abbrev pub decreases-loop-i : goal.decreases-loop-i
-decreases-loop-i l = l.count - l.i

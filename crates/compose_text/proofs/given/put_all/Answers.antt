@@ -3,16 +3,16 @@ use lib.Seq.{take_all}
 use Rattle.lines.proofs.Placing.{clip-none, clip-byte, clip-length}
 use Rattle.compose_text.proofs.given.put_all.Goals as goal
 
-pub loop-i-init : goal.loop-i-init
-loop-i-init c = (omega arith, clip-none)
+pub loop-w-init : goal.loop-w-init
+loop-w-init c = clip-none
 
-pub loop-i-preserved : goal.loop-i-preserved
-loop-i-preserved c =
-    let l = c.loop-i in
-    (omega arith, clip-byte c.args.words.now l.i (omega arith) l.invariant.1 c.put-e.ensures)
+pub loop-w-preserved : goal.loop-w-preserved
+loop-w-preserved c =
+    let l = c.loop-w in
+    clip-byte c.args.words.now l.w-index (omega arith) l.invariant c.put-e.ensures
 
 pub shape_of-out : goal.shape_of-out
-shape_of-out c = clip-length c.loop-i.invariant.1
+shape_of-out c = clip-length c.loop-w.invariant
 
 pub returns : goal.returns
-returns c = rw (take_all _ _ c.loop-i-test.false) at c.loop-i.invariant.1
+returns c = rw (take_all _ _ c.loop-w-test.false) at c.loop-w.invariant

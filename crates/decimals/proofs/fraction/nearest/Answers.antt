@@ -1,5 +1,6 @@
 -- A zero has its sign alone; any other number its magnitude, with the sign added.
-use mathlib.Core.Path.{sym}
+use Rattle.std.proofs.Common.{rules}
+use mathlib.Core.Path.{◌≡◌, sym}
 use mathlib.Core.Bool.{Bool, true, false, cond}
 use Prim.Native.Nat.{ℕ, ◌^◌, ◌≤◌, ◌<◌}
 use native.Mathlib.Nat.{pow-le-pow_right}
@@ -26,10 +27,12 @@ pub magnitude-requires : goal.magnitude-requires
 magnitude-requires c =
     let a = c in
     let t = ten-range a.args.places a.requires in
-    (omega arith, omega arith, omega (arith, t, c.ten.ensures), omega (arith, t, c.ten.ensures))
+    (omega arith, omega arith, omega (arith, t, c.pow.ensures), omega (arith, t, c.pow.ensures))
 
 pub overflow_add-result : goal.overflow_add-result
 overflow_add-result c = omega (arith, c.magnitude.ensures.0, c.sign-s.ensures, sign-most c.args.minus)
 
 pub returns : goal.returns
-returns c = rw (c.sign-s.ensures, ← c.ten.ensures) (sym (c.magnitude.ensures.1 _))
+returns c =
+    let e : c.from.result ≡ c.args.n = search rules in
+    rw (c.sign-s.ensures, ← c.pow.ensures, ← e) (sym (c.magnitude.ensures.1 _))

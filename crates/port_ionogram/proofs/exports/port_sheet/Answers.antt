@@ -17,15 +17,15 @@ pub returns-then-out-lt200 : goal.returns-then-out-lt200
 unfolding port_sheet
 returns-then-out-lt200 c = rw (le-ltb _ _ c.if-state-lt-STATE_WORDS.false, le-ltb _ _ c.if-layers-lt44.false, lt-ltb _ _ c.if-out-lt200.true) (refl, refl, refl, refl)
 
-pub returns-in-Answered : goal.returns-in-Answered
-returns-in-Answered c =
-    let a = c.slot_sheet-a.ensures in
+pub returns-in-Ok : goal.returns-in-Ok
+returns-in-Ok c =
+    let a = c.slot_sheet-sheet.ensures in
     answered _ _ _ _ _ _ _ _ _ _ _ _ c.if-state-lt-STATE_WORDS.false c.if-layers-lt44.false c.if-out-lt200.false c.state_of-s.ensures c.lines_of-lines.ensures c.wide-slot.ensures c.wide-n.ensures a.value a.cells_after
-    _ _ c.in-Answered.is c.state_into.ensures c.marked_into.ensures
+    c.in-Ok.a _ _ c.in-Ok.is c.state_into.ensures c.marked_into.ensures
 
-pub returns-in-Refused : goal.returns-in-Refused
-returns-in-Refused c =
-    let a = c.slot_sheet-a.ensures in
-    rw c.number.ensures
+pub returns-in-Err : goal.returns-in-Err
+returns-in-Err c =
+    let a = c.slot_sheet-sheet.ensures in
+    rw c.from.ensures
     (refused _ _ _ _ _ _ _ _ _ _ _ _ c.if-state-lt-STATE_WORDS.false c.if-layers-lt44.false c.if-out-lt200.false c.state_of-s.ensures c.lines_of-lines.ensures c.wide-slot.ensures c.wide-n.ensures a.value a.cells_after
-    _ c.in-Refused.is)
+    _ c.in-Err.is)

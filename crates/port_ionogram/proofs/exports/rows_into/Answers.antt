@@ -1,12 +1,9 @@
--- By the outcome: the rows written, or nothing.
+-- By the answer: the rows written, or nothing.
 use mathlib.Core.Path.{refl}
-use Rattle.port_ionogram.specs.Exports.{rows_into}
 use Rattle.port_ionogram.proofs.exports.rows_into.Goals as goal
 
-pub returns-in-Answered : goal.returns-in-Answered
-unfolding rows_into
-returns-in-Answered c = rw c.in-Answered.is (refl, c.ionogram_into.ensures)
+pub returns-in-Ok : goal.returns-in-Ok
+returns-in-Ok c = rw c.in-Ok.is (refl, c.ionogram_into.ensures)
 
-pub returns-in-Refused : goal.returns-in-Refused
-unfolding rows_into
-returns-in-Refused c = rw c.in-Refused.is (c.number.ensures, refl)
+pub returns-in-Err : goal.returns-in-Err
+returns-in-Err c = rw c.in-Err.is (c.from.ensures, refl)

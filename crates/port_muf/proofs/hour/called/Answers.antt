@@ -16,7 +16,7 @@ offset_bounds-clat-ks c =
     Fits-le {n = 12} (omega arith) (Fits-lit tt)
 
 pub bounds-clat-ks : goal.bounds-clat-ks
-bounds-clat-ks c = (lists-reach _ _ _ _ (sym c.lists_reach.ensures ∙ c.if-lists_reach.true)).0
+bounds-clat-ks c = (lists-reach _ _ _ _ (sym c.lists_reach.ensures ∙ c.if-not-lists_reach.false)).0
 
 pub offset_bounds-clck-ks : goal.offset_bounds-clck-ks
 offset_bounds-clck-ks c =
@@ -25,7 +25,7 @@ offset_bounds-clck-ks c =
     Fits-le {n = 12} (omega arith) (Fits-lit tt)
 
 pub bounds-clck-ks : goal.bounds-clck-ks
-bounds-clck-ks c = (lists-reach _ _ _ _ (sym c.lists_reach.ensures ∙ c.if-lists_reach.true)).1
+bounds-clck-ks c = (lists-reach _ _ _ _ (sym c.lists_reach.ensures ∙ c.if-not-lists_reach.false)).1
 
 pub word_rows-step-requires : goal.word_rows-step-requires
 word_rows-step-requires c = rw c.row_count-n.ensures (rows-there _ _)
@@ -35,27 +35,25 @@ muf_at_slot-requires c =
     let b = c.controlling-ks in
     rw b.ensures (controlling-small _)
 
-pub returns-then-lists_reach : goal.returns-then-lists_reach
-returns-then-lists_reach c =
+pub returns-then-not-in_domain : goal.returns-then-not-in_domain
+returns-then-not-in_domain c =
     let a = c.args in
-    c.muf_at_slot.ensures.value
-    ∙ taken-up a.s a.es.now a.deciles.now a.clat.now a.clck.now a.c _ _ _ _ c.controlling-ks.ensures
-    (sym c.in_domain.ensures ∙ c.if-in_domain.true)
-    (sym c.lists_reach.ensures ∙ c.if-lists_reach.true)
-    (rw (← c.row_count-n.ensures) c.word_rows-step.ensures)
-    c.number-lat.ensures
-    c.number-clock.ensures
+    not-in-domain a.s a.es.now a.deciles.now a.clat.now a.clck.now a.c (sym c.in_domain.ensures ∙ c.if-not-in_domain.true)
 
-pub returns-then-in_domain : goal.returns-then-in_domain
-returns-then-in_domain c =
+pub returns-then-not-lists_reach : goal.returns-then-not-lists_reach
+returns-then-not-lists_reach c =
     let a = c.args in
-    c.refused_rows_kept.ensures
-    ∙ lists-short a.s a.es.now a.deciles.now a.clat.now a.clck.now a.c _ c.controlling-ks.ensures
-    (sym c.in_domain.ensures ∙ c.if-in_domain.true)
-    (sym c.lists_reach.ensures ∙ c.if-lists_reach.false)
+    lists-short a.s a.es.now a.deciles.now a.clat.now a.clck.now a.c _ c.controlling-ks.ensures
+    (sym c.in_domain.ensures ∙ c.if-not-in_domain.false)
+    (sym c.lists_reach.ensures ∙ c.if-not-lists_reach.true)
 
 pub returns : goal.returns
 returns c =
     let a = c.args in
-    c.refused_rows_kept-2.ensures
-    ∙ not-in-domain a.s a.es.now a.deciles.now a.clat.now a.clck.now a.c (sym c.in_domain.ensures ∙ c.if-in_domain.false)
+    c.muf_at_slot.ensures.value
+    ∙ taken-up a.s a.es.now a.deciles.now a.clat.now a.clck.now a.c _ _ _ _ c.controlling-ks.ensures
+    (sym c.in_domain.ensures ∙ c.if-not-in_domain.false)
+    (sym c.lists_reach.ensures ∙ c.if-not-lists_reach.false)
+    (rw (← c.row_count-n.ensures) c.word_rows-step.ensures)
+    c.number-lat.ensures
+    c.number-clock.ensures

@@ -1,12 +1,11 @@
--- By the outcome: state, Es row and hour written, or nothing.
+-- By the answer: state, Es row and hour written, or nothing.
 use Rattle.port_muf.specs.Exports.{done_left}
 use Rattle.port_muf.proofs.hour.done_into.Goals as goal
 
-pub returns-in-Refused : goal.returns-in-Refused
+pub returns-in-Ok : goal.returns-in-Ok
 unfolding done_left
-returns-in-Refused c = rw (c.in-Refused.is, c.number.ensures)
+returns-in-Ok c = rw (c.in-Ok.is, c.state_into.ensures, c.es_into.ensures, c.hour_into.ensures)
 
-pub returns-in-Answered : goal.returns-in-Answered
+pub returns-in-Err : goal.returns-in-Err
 unfolding done_left
-returns-in-Answered c =
-    rw (c.in-Answered.is, c.state_into.ensures, c.es_into.ensures, c.hour_into.ensures)
+returns-in-Err c = rw (c.in-Err.is, c.from.ensures)

@@ -1,7 +1,6 @@
 -- The chain was followed to its end, so every record named is in the file.
-use mathlib.Core.Path.{refl, sym, ap, ◌∙◌}
+use mathlib.Core.Path.{refl}
 use native.Mathlib.Omega.{arith}
-use Rattle.record_chain.specs.declared.Chain.{Chain}
 use Rattle.record_chain.proofs.Followed.{Followed, followed, there}
 use Rattle.wide_circuit.specs.Wide.{form128}
 use Rattle.wide_circuit.proofs.Fit128.{fit128, beside-answered}
@@ -9,7 +8,7 @@ use Rattle.wide_circuit.proofs.numbers.f2m3.Goals.{Start}
 use Rattle.wide_circuit.proofs.numbers.f2m3.Goals as goal
 
 told : (c : Start) → Followed form128 c.args.file.now c.args.c
-told c = rw c.requires.0 (followed form128 fit128 c.args.file.now (ap (λ (k : Chain). k.outcome) (sym c.requires.0) ∙ c.requires.1))
+told c = followed form128 fit128 c.args.file.now c.args.c c.requires
 
 pub slice_bounds-head-end : goal.slice_bounds-head-end
 slice_bounds-head-end c = omega (arith, (told (goal.at.slice_bounds-head-end c).Start).least)
@@ -22,4 +21,4 @@ f2m3s-requires c =
 pub returns : goal.returns
 returns c =
     let s = c in
-    rw (c.f2m3s.ensures, c.byte-km.ensures, beside-answered _ _ s.requires.0 s.requires.1) refl
+    rw (c.f2m3s.ensures, c.byte-km.ensures, beside-answered _ _ s.requires) refl

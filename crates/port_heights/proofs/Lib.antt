@@ -1,0 +1,2 @@
+-- The room that a call on a state's words needs.
+mod Room

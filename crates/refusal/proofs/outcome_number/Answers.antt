@@ -1,5 +1,0 @@
--- A refusal's own number.
-use Rattle.refusal.proofs.outcome_number.Goals as goal
-
-pub returns-in-Refused : goal.returns-in-Refused
-returns-in-Refused c = rw c.in-Refused.is c.number.ensures
