@@ -25,10 +25,10 @@ pub fn f2dis(deciles: &[f32], numbers: &[u32], out: &mut [u32]) -> u32
     ensures { (result ≡ (f2dis_left deciles.now numbers.now out.old).number) × (out.new ≡ (f2dis_left deciles.now numbers.now out.old).words) }
 {
     if numbers.len() < 5 {
-        return 1;
+        return u32::from(Refusal::Length);
     }
     if out.len() < 1 {
-        return 1;
+        return u32::from(Refusal::Length);
     }
     let fmuf = scalar::number(numbers[0]);
     let ssn = scalar::number(numbers[1]);

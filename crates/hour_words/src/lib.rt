@@ -2,26 +2,11 @@
 #![tactic(auto)]
 
 ghost use Rattle.std.specs.Prelude.{◌≡◌, ◌+◌, ◌≤◌, length};
-ghost use Rattle.port_state.specs.Words.{floats_into};
 ghost use Rattle.hour_words.specs.HourWords.{ten_into, line_into, head_into, hour_into, WordThere, words_by};
 
 use layers::LayerMuf;
 use muf::MufHour;
 use sporadic::Rewrite;
-
-fn seven_into(x: [f32; 7], out: &mut [u32], from: usize)
-    requires { from + 7 ≤ length out.old }
-    ensures { out.new ≡ floats_into out.old from x }
-{
-    port_state::floats_into(&x, out, from);
-}
-
-fn three_into(x: [f32; 3], out: &mut [u32], from: usize)
-    requires { from + 3 ≤ length out.old }
-    ensures { out.new ≡ floats_into out.old from x }
-{
-    port_state::floats_into(&x, out, from);
-}
 
 // All of a line but its hop count, which stands at word 7.
 fn ten_into(l: LayerMuf, out: &mut [u32], from: usize)
@@ -31,8 +16,8 @@ fn ten_into(l: LayerMuf, out: &mut [u32], from: usize)
     let x = [l.sigl, l.sigu, l.delmuf, l.hpmuf, l.htmuf, l.fvmuf, l.afmuf];
     let y = [l.yfot, l.ymuf, l.yhpf];
     let deciles = from + 8;
-    seven_into(x, out, from);
-    three_into(y, out, deciles);
+    port_state::floats_into(&x, out, from);
+    port_state::floats_into(&y, out, deciles);
 }
 
 fn line_into(l: LayerMuf, out: &mut [u32], from: usize)

@@ -28,7 +28,7 @@ pub fn sang(gcdkm: u32, amind: u32, out: &mut [u32]) -> u32
     ensures { (result ≡ (sang_words gcdkm amind out.old).number) × (out.new ≡ (sang_words gcdkm amind out.old).words) }
 {
     if out.len() < 1 {
-        return 1;
+        return u32::from(Refusal::Length);
     }
     let km = scalar::number(gcdkm);
     let least = scalar::number(amind);

@@ -19,10 +19,10 @@ pub fn port_selmod(state: &[u32], out: &mut [u32]) -> u32
     ensures { (result ≡ (port_selmod state.now out.old).number) × (out.new ≡ (port_selmod state.now out.old).words) }
 {
     if state.len() < STATE_WORDS {
-        return 1;
+        return u32::from(Refusal::Length);
     }
     if out.len() < 1 {
-        return 1;
+        return u32::from(Refusal::Length);
     }
     let s = port_state::state_of(state);
     let k = selmod::selmod(s);
@@ -48,10 +48,10 @@ pub fn port_genion(state: &[u32], k: u32, out: &mut [u32]) -> u32
     ensures { (result ≡ (port_genion state.now k out.old).number) × (out.new ≡ (port_genion state.now k out.old).words) }
 {
     if state.len() < STATE_WORDS {
-        return 1;
+        return u32::from(Refusal::Length);
     }
     if out.len() < 150 {
-        return 1;
+        return u32::from(Refusal::Length);
     }
     let s = port_state::state_of(state);
     let a = sounding::genion(s, port_state::wide(k));
@@ -63,13 +63,13 @@ pub fn port_alosfv(state: &[u32], k: u32, ion: &mut [u32], layers: &[u32]) -> u3
     ensures { (result ≡ (port_alosfv state.now k ion.old layers.now).number) × (ion.new ≡ (port_alosfv state.now k ion.old layers.now).words) }
 {
     if state.len() < STATE_WORDS {
-        return 1;
+        return u32::from(Refusal::Length);
     }
     if ion.len() < 150 {
-        return 1;
+        return u32::from(Refusal::Length);
     }
     if layers.len() < 44 {
-        return 1;
+        return u32::from(Refusal::Length);
     }
     let s = port_state::state_of(state);
     let rows = port_layouts::ionogram_of(ion);
@@ -83,7 +83,7 @@ pub fn port_fobby(ion: &[u32], nang: u32, cells: &mut [i32]) -> u32
     ensures { (result ≡ (port_fobby ion.now nang cells.old).number) × (cells.new ≡ (port_fobby ion.now nang cells.old).cells) }
 {
     if ion.len() < 150 {
-        return 1;
+        return u32::from(Refusal::Length);
     }
     let rows = port_layouts::ionogram_of(ion);
     let o = reflectrix::fobby(rows, port_state::wide(nang), cells);
@@ -106,13 +106,13 @@ pub fn port_sheet(
         × (out.new ≡ (port_sheet state.old k nang layers.now cells.old out.old).out) }
 {
     if state.len() < STATE_WORDS {
-        return 1;
+        return u32::from(Refusal::Length);
     }
     if layers.len() < 44 {
-        return 1;
+        return u32::from(Refusal::Length);
     }
     if out.len() < 200 {
-        return 1;
+        return u32::from(Refusal::Length);
     }
     let s = port_state::state_of(state);
     let lines = line_words::lines_of(layers);

@@ -117,13 +117,13 @@ pub fn port_curmuf(
     ensures { leaves result state.new es.new out.new ≡ curmuf_left state.old es.old deciles.now clat.now clck.now numbers.now out.old }
 {
     if state.len() < STATE_WORDS {
-        return 1;
+        return u32::from(Refusal::Length);
     }
     if numbers.len() < 4 {
-        return 1;
+        return u32::from(Refusal::Length);
     }
     if out.len() < 54 {
-        return 1;
+        return u32::from(Refusal::Length);
     }
     let s = port_state::state_of(state);
     let c = path_numbers_of(numbers);

@@ -143,7 +143,7 @@ pub fn port_nommuf(
             let a = called(points, f2m3, es, numbers);
             return answer_into(a, out);
         }
-        return 5;
+        return u32::from(Refusal::PointCount);
     }
-    1
+    u32::from(Refusal::Length)
 }

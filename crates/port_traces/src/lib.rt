@@ -3,7 +3,6 @@
 #![tactic(auto)]
 
 ghost use Rattle.std.specs.Prelude.{◌≡◌, ◌+◌, ◌≤◌, length};
-ghost use Rattle.port_state.specs.Words.{floats_of};
 ghost use Rattle.refusal.specs.Number.{answer_number};
 ghost use Rattle.traces.specs.Lines.{count_in};
 ghost use Rattle.port_traces.specs.Exports.{count_into, port_compare, words_at_start, trace_into, port_trace};
@@ -47,15 +46,6 @@ pub fn port_compare(
     count_into(traces::compare(a, ah, b, bh, khz, which, difference), out)
 }
 
-fn floats_30(w: &[u32], from: usize) -> [f32; 30]
-    requires { from + 30 ≤ length w.now }
-    ensures { result ≡ floats_of w.now from 30 }
-{
-    let mut x = [0.0; 30];
-    port_state::floats_of(w, from, &mut x);
-    x
-}
-
 fn words_into(x: &[u32], w: &mut [u32])
     requires { length x.now ≤ length w.old }
     ensures { w.new ≡ words_at_start x.now w.old }
@@ -88,7 +78,7 @@ pub fn port_trace(rows: &[u32], khz: &mut [u32], height: &mut [u32]) -> u32
     if rows.len() < 60 || khz.len() < 30 || height.len() < 30 {
         return u32::from(Refusal::Length);
     }
-    let fvert = floats_30(rows, 0);
-    let hprim = floats_30(rows, 30);
+    let fvert = port_state::floats(rows, 0);
+    let hprim = port_state::floats(rows, 30);
     trace_into(computed_trace::trace_of(fvert, hprim), khz, height)
 }

@@ -6,11 +6,11 @@ use Rattle.deviation_words.proofs.f2dis.Goals as goal
 
 pub returns-then-numbers-lt5 : goal.returns-then-numbers-lt5
 unfolding f2dis_left
-returns-then-numbers-lt5 c = rw (lt-ltb _ _ c.if-numbers-lt5.true) (refl, refl)
+returns-then-numbers-lt5 c = rw (lt-ltb _ _ c.if-numbers-lt5.true) (c.from.ensures, refl)
 
 pub returns-then-out-lt1 : goal.returns-then-out-lt1
 unfolding f2dis_left
-returns-then-out-lt1 c = rw (le-ltb _ _ c.if-numbers-lt5.false, lt-ltb _ _ c.if-out-lt1.true) (refl, refl)
+returns-then-out-lt1 c = rw (le-ltb _ _ c.if-numbers-lt5.false, lt-ltb _ _ c.if-out-lt1.true) (c.from-then-out-lt1.ensures, refl)
 
 pub returns : goal.returns
 unfolding f2dis_left

@@ -4,4 +4,4 @@ use Rattle.hour_words.proofs.ten_into.Goals as goal
 
 pub returns : goal.returns
 unfolding ten_into
-returns c = rw (← c.seven_into.ensures, ← c.three_into.ensures)
+returns c = rw (← c.floats_into.ensures, ← c.floats_into-2.ensures)

@@ -7,7 +7,7 @@ use Rattle.ionogram_words.proofs.sang.Goals as goal
 
 pub returns-then-out-lt1 : goal.returns-then-out-lt1
 unfolding sang_words
-returns-then-out-lt1 c = rw (lt-ltb _ _ c.if-out-lt1.true) (refl, refl)
+returns-then-out-lt1 c = rw (lt-ltb _ _ c.if-out-lt1.true) (c.from.ensures, refl)
 
 pub scan_into-requires : goal.scan_into-requires
 scan_into-requires c = (c.if-out-lt1.false, rw c.sang-a.ensures (angles-range _ _))

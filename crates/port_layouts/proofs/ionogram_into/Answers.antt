@@ -4,4 +4,4 @@ use Rattle.port_layouts.proofs.ionogram_into.Goals as goal
 
 pub returns : goal.returns
 unfolding ionogram_into
-returns c = rw (← c.floats_30_into.ensures, ← c.floats_30_into-2.ensures, ← c.floats_30_into-3.ensures, ← c.floats_30_into-4.ensures, ← c.words_30_into.ensures)
+returns c = rw (← c.floats_into.ensures, ← c.floats_into-2.ensures, ← c.floats_into-3.ensures, ← c.floats_into-4.ensures, ← c.words_into.ensures)

@@ -19,8 +19,8 @@ returns-then-five_at_most c = rw (← c.words_reach.ensures, c.if-words_reach.tr
 
 pub returns-then-words_reach : goal.returns-then-words_reach
 unfolding nominal_left
-returns-then-words_reach c = rw (← c.words_reach.ensures, c.if-words_reach.true, ← c.five_at_most.ensures, c.if-five_at_most.false) (refl, refl)
+returns-then-words_reach c = rw (← c.words_reach.ensures, c.if-words_reach.true, ← c.five_at_most.ensures, c.if-five_at_most.false) (c.from.ensures, refl)
 
 pub returns : goal.returns
 unfolding nominal_left
-returns c = rw (← c.words_reach.ensures, c.if-words_reach.false) (refl, refl)
+returns c = rw (← c.words_reach.ensures, c.if-words_reach.false) (c.from-2.ensures, refl)

@@ -24,8 +24,8 @@ returns c =
       le-ltb _ _ c.if-rows-lt60.false,
       le-ltb _ _ c.if-khz-lt30.false,
       le-ltb _ _ c.if-height-lt30.false,
-      ← c.floats_30-fvert.ensures,
-      ← c.floats_30-hprim.ensures,
+      ← c.floats-fvert.ensures,
+      ← c.floats-hprim.ensures,
       ← c.trace_of.ensures,
     )
     c.trace_into.ensures

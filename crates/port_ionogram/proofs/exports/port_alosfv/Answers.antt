@@ -6,15 +6,15 @@ use Rattle.port_ionogram.proofs.exports.port_alosfv.Goals as goal
 
 pub returns-then-state-lt-STATE_WORDS : goal.returns-then-state-lt-STATE_WORDS
 unfolding port_alosfv
-returns-then-state-lt-STATE_WORDS c = rw (lt-ltb _ _ c.if-state-lt-STATE_WORDS.true) (refl, refl)
+returns-then-state-lt-STATE_WORDS c = rw (lt-ltb _ _ c.if-state-lt-STATE_WORDS.true) (c.from.ensures, refl)
 
 pub returns-then-ion-lt150 : goal.returns-then-ion-lt150
 unfolding port_alosfv
-returns-then-ion-lt150 c = rw (le-ltb _ _ c.if-state-lt-STATE_WORDS.false, lt-ltb _ _ c.if-ion-lt150.true) (refl, refl)
+returns-then-ion-lt150 c = rw (le-ltb _ _ c.if-state-lt-STATE_WORDS.false, lt-ltb _ _ c.if-ion-lt150.true) (c.from-then-ion-lt150.ensures, refl)
 
 pub returns-then-layers-lt44 : goal.returns-then-layers-lt44
 unfolding port_alosfv
-returns-then-layers-lt44 c = rw (le-ltb _ _ c.if-state-lt-STATE_WORDS.false, le-ltb _ _ c.if-ion-lt150.false, lt-ltb _ _ c.if-layers-lt44.true) (refl, refl)
+returns-then-layers-lt44 c = rw (le-ltb _ _ c.if-state-lt-STATE_WORDS.false, le-ltb _ _ c.if-ion-lt150.false, lt-ltb _ _ c.if-layers-lt44.true) (c.from-then-layers-lt44.ensures, refl)
 
 pub returns : goal.returns
 unfolding port_alosfv

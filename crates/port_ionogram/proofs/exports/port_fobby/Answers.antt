@@ -22,7 +22,7 @@ in-turn ion nang cells rows n o c r long er en eo ec e = rw (le-ltb (length ion)
 
 pub returns-then-ion-lt150 : goal.returns-then-ion-lt150
 unfolding port_fobby
-returns-then-ion-lt150 c = rw (lt-ltb _ _ c.if-ion-lt150.true) (refl, refl)
+returns-then-ion-lt150 c = rw (lt-ltb _ _ c.if-ion-lt150.true) (c.from.ensures, refl)
 
 pub returns : goal.returns
 returns c =

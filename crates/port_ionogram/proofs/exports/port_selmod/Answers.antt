@@ -9,11 +9,11 @@ use Rattle.port_ionogram.proofs.exports.port_selmod.Goals as goal
 
 pub returns-then-state-lt-STATE_WORDS : goal.returns-then-state-lt-STATE_WORDS
 unfolding port_selmod
-returns-then-state-lt-STATE_WORDS c = rw (lt-ltb _ _ c.if-state-lt-STATE_WORDS.true) (refl, refl)
+returns-then-state-lt-STATE_WORDS c = rw (lt-ltb _ _ c.if-state-lt-STATE_WORDS.true) (c.from.ensures, refl)
 
 pub returns-then-out-lt1 : goal.returns-then-out-lt1
 unfolding port_selmod
-returns-then-out-lt1 c = rw (le-ltb _ _ c.if-state-lt-STATE_WORDS.false, lt-ltb _ _ c.if-out-lt1.true) (refl, refl)
+returns-then-out-lt1 c = rw (le-ltb _ _ c.if-state-lt-STATE_WORDS.false, lt-ltb _ _ c.if-out-lt1.true) (c.from-then-out-lt1.ensures, refl)
 
 pub overflow_cast-out : goal.overflow_cast-out
 overflow_cast-out c =

@@ -7,15 +7,15 @@ use Rattle.port_ionogram.proofs.exports.port_sheet.Goals as goal
 
 pub returns-then-state-lt-STATE_WORDS : goal.returns-then-state-lt-STATE_WORDS
 unfolding port_sheet
-returns-then-state-lt-STATE_WORDS c = rw (lt-ltb _ _ c.if-state-lt-STATE_WORDS.true) (refl, refl, refl, refl)
+returns-then-state-lt-STATE_WORDS c = rw (lt-ltb _ _ c.if-state-lt-STATE_WORDS.true) (c.from.ensures, refl, refl, refl)
 
 pub returns-then-layers-lt44 : goal.returns-then-layers-lt44
 unfolding port_sheet
-returns-then-layers-lt44 c = rw (le-ltb _ _ c.if-state-lt-STATE_WORDS.false, lt-ltb _ _ c.if-layers-lt44.true) (refl, refl, refl, refl)
+returns-then-layers-lt44 c = rw (le-ltb _ _ c.if-state-lt-STATE_WORDS.false, lt-ltb _ _ c.if-layers-lt44.true) (c.from-then-layers-lt44.ensures, refl, refl, refl)
 
 pub returns-then-out-lt200 : goal.returns-then-out-lt200
 unfolding port_sheet
-returns-then-out-lt200 c = rw (le-ltb _ _ c.if-state-lt-STATE_WORDS.false, le-ltb _ _ c.if-layers-lt44.false, lt-ltb _ _ c.if-out-lt200.true) (refl, refl, refl, refl)
+returns-then-out-lt200 c = rw (le-ltb _ _ c.if-state-lt-STATE_WORDS.false, le-ltb _ _ c.if-layers-lt44.false, lt-ltb _ _ c.if-out-lt200.true) (c.from-then-out-lt200.ensures, refl, refl, refl)
 
 pub returns-in-Ok : goal.returns-in-Ok
 returns-in-Ok c =
@@ -26,6 +26,6 @@ returns-in-Ok c =
 pub returns-in-Err : goal.returns-in-Err
 returns-in-Err c =
     let a = c.slot_sheet-sheet.ensures in
-    rw c.from.ensures
+    rw c.from-in-Err.ensures
     (refused _ _ _ _ _ _ _ _ _ _ _ _ c.if-state-lt-STATE_WORDS.false c.if-layers-lt44.false c.if-out-lt200.false c.state_of-s.ensures c.lines_of-lines.ensures c.wide-slot.ensures c.wide-n.ensures a.value a.cells_after
     _ c.in-Err.is)
