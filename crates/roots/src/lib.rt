@@ -69,13 +69,7 @@ fn near_digits(t: u32, q: f32) -> u32
 fn normal(b: u32) -> u64
     ensures { (result ≤ 1) × ((result ≡ 1) → Normal b) }
 {
-    if b < 0x80_0000 {
-        return 0;
-    }
-    if b < 0x7f80_0000 {
-        return 1;
-    }
-    0
+    u64::from(0x80_0000 <= b && b < 0x7f80_0000)
 }
 
 // Whether the digits guessed are those of the root: 1, else 0. The square less r is below what is
@@ -108,14 +102,14 @@ fn patterns(x: &[f32; 40], b: &mut [u32; 40])
 }
 
 fn near_inverses(b: &[u32; 40], q: &mut [f32; 40]) {
-    for k in 0..40 {
-        q[k] = near_inverse(folded(b[k]));
+    for (q, b) in q.iter_mut().zip(b) {
+        *q = near_inverse(folded(*b));
     }
 }
 
 fn guesses(b: &[u32; 40], q: &[f32; 40], g: &mut [u32; 40]) {
-    for k in 0..40 {
-        g[k] = near_digits(folded(b[k]), q[k]);
+    for (g, (b, q)) in g.iter_mut().zip(b.iter().zip(q)) {
+        *g = near_digits(folded(*b), *q);
     }
 }
 
