@@ -1,7 +1,6 @@
 -- The rounded root of n is the r with r * r - r < n ≤ r * r + r: then the root of 4 * n is at least 2 * r - 1 and below 2 * r + 1. Assumes nothing.
 use mathlib.Core.Path.{◌≡◌}
-use Prim.Native.Nat.{ℕ, zero, suc, ◌+◌, ◌*◌, ◌/◌, ◌^◌, ◌≤◌, ◌<◌}
-use native.Mathlib.Nat.{lt_of_not-le, mul-le-mul_right}
+use Prim.Native.Nat.{ℕ, zero, suc, ◌+◌, ◌*◌, ◌/◌, ◌≤◌, ◌<◌}
 use native.Mathlib.Omega.{arith}
 use Rattle.scalar.specs.Root.{root}
 use Rattle.scalar.proofs.WholeRoot.{root_is, root_ge, root-lt}

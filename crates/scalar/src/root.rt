@@ -12,6 +12,7 @@ ghost use Rattle.scalar.specs.RootPattern.{root_pattern};
 // root to a scale within seven in ten thousand, and with `rest` within two in 10^10. What is added
 // last leaves the digits at the end of the sum's pattern. One guess in 600 is off, by one. No proof
 // rests on that: `rounded_root` corrects any guess.
+// Stays: what n and t are below is asked here and once more; a type for either would be made in one place and read in one.
 fn near_root(n: u64, t: u64) -> u64
     requires { (n < 2 ^ 48) × (t < 2 ^ 24) }
     ensures { result < 2 ^ 25 }

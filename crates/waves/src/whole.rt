@@ -123,6 +123,7 @@ fn cos_sign(x: u64) -> u32
 }
 
 // |x| in units of 2^-61, for |x| up to 4
+// Stays: what is asked of a pattern a (0x3980_0000 ≤ a), here alone in this crate.
 fn magnitude(a: u32) -> u64
     requires { (0x3980_0000 ≤ a) × (a ≤ 0x4080_0000) }
     ensures { result ≡ mag_of a }
@@ -131,6 +132,8 @@ fn magnitude(a: u32) -> u64
 }
 
 // from the bit pattern of x to that of its sine
+// Stays: beside the cosine. The two share all but the answer at a small angle, the fold and the sign, and each of these is a formula
+// of its own: one function for both would ask three times which of the two it is.
 pub fn sin_bits(b: u32) -> u32
     ensures { result ≡ wave_bits sine b }
 {

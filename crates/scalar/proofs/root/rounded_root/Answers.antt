@@ -1,4 +1,3 @@
-use native.Mathlib.Nat.{le_of_lt, lt_of_le_of_lt, mul-le-mul}
 use native.Mathlib.Omega.{arith}
 use Rattle.scalar.proofs.RoundedRoot.{rounded}
 use Rattle.scalar.proofs.root.rounded_root.Goals as goal

@@ -1,10 +1,8 @@
 -- `waves::whole::ratio` meets its contract: the terms taken off are less than those added.
-use mathlib.Core.Path.{◌≡◌, sym, ap, ap₂, ◌∙◌, subst, subst₂}
-use Prim.Native.Nat.{ℕ, ◌-◌, ◌/◌, ◌^◌, ◌<◌, ◌≤◌}
-use native.Mathlib.Nat.{lt_of_le_of_lt}
-use lib.Dec.{lit<}
+use mathlib.Core.Path.{◌≡◌, sym, ap, ap₂, ◌∙◌, subst₂}
+use Prim.Native.Nat.{ℕ, ◌-◌, ◌≤◌}
 use Rattle.waves.specs.SinCos.{times, added, taken, square_of, ratio_of}
-use Rattle.waves.proofs.Patterns.{times-lt, square-lt, taken-le, ratio-in}
+use Rattle.waves.proofs.Patterns.{square-lt, ratio-in}
 use Rattle.waves.proofs.whole.ratio.Goals as goal
 
 -- what was computed, in terms of r
@@ -18,7 +16,7 @@ minus_is : (r y w m p : ℕ) → y ≡ square_of r → w ≡ times (square_of r)
 minus_is r y w m p e f g h = h ∙ ap₂ (λ (y m : ℕ). times y m) e (g ∙ ap (λ (w : ℕ). taken w) f)
 
 pub overflow_cast-q : goal.overflow_cast-q
-overflow_cast-q c = square-lt c.args.r c.requires
+overflow_cast-q c = record { fits = square-lt c.args.r c.requires }
 
 pub overflow_sub-result : goal.overflow_sub-result
 overflow_sub-result c =
