@@ -125,13 +125,12 @@ pub fn gethp_densities(p: Profile, ht: f32, fr: f32, ysq: &mut [f32; 40]) -> usi
     requires { ysq.old ≡ replicate 40 f0 }
     ensures { (ysq.new ≡ table_by p.entry.rises p.entry.htr.now p.entry.fnsq.now ht fr) × (result ≡ cursor_read_by p.entry.rises p.entry.htr.now p.entry.fnsq.now ht) }
 {
-    let mut read = [0.0f32; 40];
     if p.rises {
-        let cursor = walk_reads(p, ht, &mut read);
-        integrands::shares(&read, fr, ysq);
+        let cursor = walk_reads(p, ht, ysq);
+        integrands::shares(ysq, fr);
         return cursor;
     }
-    scan_reads(p, ht, &mut read);
-    integrands::shares(&read, fr, ysq);
+    scan_reads(p, ht, ysq);
+    integrands::shares(ysq, fr);
     0
 }

@@ -63,8 +63,7 @@ fn weight(ig: usize) -> f32
 fn quadrature(ysq: &[f32; 40]) -> f32
     ensures { result ≡ hp_of (flat ysq.now) 20 }
 {
-    let mut mup = [0.0f32; 40];
-    integrands::integrands(ysq, &mut mup);
+    let mup = integrands::integrands(*ysq);
     let mut hp = 0.0;
     // Stays: a weight and two integrands by one index, summed in the Rust's order.
     for ig in 0..20 {

@@ -1,7 +1,7 @@
 -- A place found is that of the layer, and the answer is worked out there; a number that is refused is refused whatever the answer would be.
 use mathlib.Core.Bool.{Bool, true, false}
 use mathlib.Core.Path.{◌≡◌, ap}
-use Rattle.std.specs.Prelude.{Result, Ok, Err}
+use Rattle.std.specs.Prelude.{Ok, Err}
 use Rattle.refusal.specs.declared.Refusal.{Refusal}
 use Rattle.parabolas.specs.Bendy.{layer_answer_by}
 

@@ -4,12 +4,9 @@ use Prim.Native.Nat.{◌<◌, ◌+◌, ◌*◌, ℕ}
 use native.Mathlib.Nat.{le_antisymm}
 use native.Mathlib.Numerals.{add-one}
 use native.Mathlib.Omega.{arith}
-use lib.Dec.{lit≤}
-use lib.ListN.{replicate}
 use lib.Ieee.{Float, nan}
 use Rattle.scalar.specs.F32.{◌+f◌, ◌*f◌, at}
-use Rattle.scalar.specs.Literals.{f0}
-use Rattle.roots.proofs.Stored.{put-at}
+use Rattle.std.proofs.lemmas.List.{get_or-map}
 use Rattle.integrands.specs.Integrands.{integrand_of}
 use Rattle.forty_reads.specs.Walk.{flat}
 use Rattle.heights.specs.Weights.{wt}
@@ -19,7 +16,7 @@ use Rattle.heights.proofs.quadrature.Goals as goal
 
 one_of : (ysq mup : List Float) → Integrands ysq mup → (k : ℕ) → k < 40 → at mup k ≡ mup_of (at ysq k)
 unfolding mup_of
-one_of ysq mup e k h = ap (λ (l : List Float). at l k) e ∙ put-at (λ j. integrand_of (at ysq j)) nan (replicate 40 f0) 40 (lit≤ tt) k h
+one_of ysq mup e k h = ap (λ (l : List Float). at l k) e.0 ∙ get_or-map integrand_of ysq k nan nan (rw e.1 h)
 
 one-turn : (ysq mup : List Float) (ig : ℕ) (w hp : Float) → ig < 20 → w ≡ at wt ig → Integrands ysq mup → hp ≡ hp_of (flat ysq) ig → hp +f w *f (at mup (2 * ig) +f at mup (2 * ig + 1)) ≡ hp_of (flat ysq) (ig + 1)
 unfolding hp_of
@@ -29,7 +26,7 @@ one-turn ysq mup ig w hp h ew em eh =
 
 pub loop-ig-init : goal.loop-ig-init
 unfolding hp_of
-loop-ig-init c = (omega arith, refl, c.integrands.ensures)
+loop-ig-init c = (omega arith, refl, (c.integrands-mup.ensures, c.told-ysq))
 
 pub loop-ig-preserved : goal.loop-ig-preserved
 loop-ig-preserved c =
