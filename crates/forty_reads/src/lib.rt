@@ -2,9 +2,8 @@
 #![tactic(auto)]
 
 ghost use Rattle.std.specs.Prelude.{◌≡◌, ◌<◌, eqb, replicate};
-ghost use Rattle.scalar.specs.F32.{at};
 ghost use Rattle.scalar.specs.Literals.{f0};
-ghost use Rattle.forty_reads.specs.Nodes.{xt, zg_by, height_of, ig_at, ib_at};
+ghost use Rattle.forty_reads.specs.Nodes.{zg_by, height_of, ig_at, ib_at};
 ghost use Rattle.forty_reads.specs.Walk.{walk_reads, scan_reads, table_by, cursor_after, cursor_read_by};
 
 use readings::Profile;
@@ -33,14 +32,6 @@ static XT: [f32; 20] = [
     0.9982377097,
 ];
 
-#[tactic(auto, unfolding(crate::specs::Nodes::xt))]
-fn abscissa(ig: usize) -> f32
-    requires { ig < 20 }
-    ensures { result ≡ at xt ig }
-{
-    XT[ig]
-}
-
 fn node(x: f32, ib: usize) -> f32
     ensures { result ≡ zg_by (eqb ib 0) x }
 {
@@ -55,7 +46,7 @@ fn height(h0: f32, ht: f32, ig: usize, ib: usize) -> f32
     requires { ig < 20 }
     ensures { result ≡ height_of h0 ht ig ib }
 {
-    let x = abscissa(ig);
+    let x = XT[ig];
     let zg = node(x, ib);
     ht * (1.0 - 0.5 * zg) + h0
 }
@@ -120,7 +111,8 @@ fn scan_reads(p: Profile, ht: f32, read: &mut [f32; 40])
 }
 
 // The forty densities over `fr`, cut, after all are read; and the cursor.
-// Stays: two ways to read, chosen by the Rust's own test of its state, `if !s.htr_rises`.
+// Stays: `p` stands where the Rust has its state, beside its `ht` and `fr`, and one of two ways to read is
+// chosen by its own test, `if !s.htr_rises`.
 pub fn gethp_densities(p: Profile, ht: f32, fr: f32, ysq: &mut [f32; 40]) -> usize
     requires { ysq.old ≡ replicate 40 f0 }
     ensures { (ysq.new ≡ table_by p.entry.rises p.entry.htr.now p.entry.fnsq.now ht fr) × (result ≡ cursor_read_by p.entry.rises p.entry.htr.now p.entry.fnsq.now ht) }

@@ -1,11 +1,10 @@
 // Heights of a vertical frequency off the profile, by a Gauss rule or the exact one: `gethp`.
 #![tactic(auto)]
 
-ghost use Rattle.std.specs.Prelude.{false, ◌&&◌, ◌≡◌, ◌<◌};
-ghost use Rattle.scalar.specs.F32.{◌>f◌, at};
+ghost use Rattle.std.specs.Prelude.{false, ◌&&◌, ◌≡◌};
+ghost use Rattle.scalar.specs.F32.{◌>f◌};
 ghost use Rattle.scalar.specs.Literals.{f0};
 ghost use Rattle.forty_reads.specs.Walk.{flat, ysq_read_by, cursor_read_by};
-ghost use Rattle.heights.specs.Weights.{wt};
 ghost use Rattle.heights.specs.Gethp.{hp_of, heights_by, gethp_of, gethp_scan_of};
 ghost use Rattle.heights.specs.Walk.{gethp_read_of};
 
@@ -51,14 +50,6 @@ static WT: [f32; 20] = [
     0.0045212771,
 ];
 
-#[tactic(auto, unfolding(crate::specs::Weights::wt))]
-fn weight(ig: usize) -> f32
-    requires { ig < 20 }
-    ensures { result ≡ at wt ig }
-{
-    WT[ig]
-}
-
 // From `ig` 0 up, as in the Rust: another order of the sum would be rounded otherwise.
 fn quadrature(ysq: &[f32; 40]) -> f32
     ensures { result ≡ hp_of (flat ysq.now) 20 }
@@ -69,7 +60,7 @@ fn quadrature(ysq: &[f32; 40]) -> f32
     for ig in 0..20 {
         let lower = 2 * ig;
         let upper = 2 * ig + 1;
-        let w = weight(ig);
+        let w = WT[ig];
         hp = hp + w * (mup[lower] + mup[upper]);
     }
     hp
@@ -134,6 +125,7 @@ pub fn gethp_read(p: Profile, exact: bool, fxx: f32) -> Heights
 }
 
 // The heights of the vertical frequency `fxx`, densities read by a walk or by scans: `gethp` where `rises` is what the rising test says of the state's heights, for a caller that asks for many frequencies on one profile.
+// Stays: `s` and `fxx` are the Rust's parameters, and `rises` goes beside `s` where the test is made once.
 pub fn gethp_rising(s: IonoState, rises: bool, fxx: f32) -> Heights
     ensures { result ≡ gethp_read_of s.exact_virtual_height rises s.htr s.fnsq fxx }
 {
@@ -145,8 +137,6 @@ pub fn gethp_rising(s: IonoState, rises: bool, fxx: f32) -> Heights
     gethp_read(p, s.exact_virtual_height, fxx)
 }
 
-// Stays: `s` and `fxx` are the Rust's parameters; `rises` goes beside `s` where the test is made once for
-// many frequencies.
 // The virtual and the true height of the vertical frequency `fxx`. The heights are tested here: the state's rising mark is not read.
 pub fn gethp(s: IonoState, fxx: f32) -> Heights
     ensures { result ≡ gethp_of s fxx }

@@ -29,12 +29,13 @@ fn set_point(mut s: IonoState, k: usize, p: LayerParams) -> IonoState
     s
 }
 
+// Stays: the state s and how many points or slots, n, of which the loops take the first.
 fn set_points(s: IonoState, params: [LayerParams; 5], n: usize) -> IonoState
     requires { n ≤ 5 }
     ensures { result ≡ points_set s params n }
 {
     let mut t = s;
-    // Stays: k is the point's row in the tables too, and n counts the points taken of five.
+    // Stays: k is the point's row in the tables too.
     for k in 0..n {
         let p = params[k];
         t = set_point(t, k, p);

@@ -29,9 +29,10 @@ unfolding hp_of
 loop-ig-init c = (omega arith, refl, (c.integrands-mup.ensures, c.told-ysq))
 
 pub loop-ig-preserved : goal.loop-ig-preserved
+unfolding wt
 loop-ig-preserved c =
     let l = c.loop-ig in
-    (omega arith, one-turn c.args.ysq.now _ l.ig _ l.hp c.loop-ig-test.true c.weight-w.ensures l.invariant.2 l.invariant.1, l.invariant.2)
+    (omega arith, one-turn c.args.ysq.now _ l.ig _ l.hp c.loop-ig-test.true refl l.invariant.2 l.invariant.1, l.invariant.2)
 
 pub returns : goal.returns
 returns c = rw (le_antisymm c.loop-ig.invariant.0 c.loop-ig-test.false) at c.loop-ig.invariant.1
