@@ -46,6 +46,7 @@ struct Draft<'a> {
 
 impl<'a> Draft<'a> {
     // Record i.
+    #[tactic(auto, using(crate::proofs::Cells::part_within, crate::proofs::Cells::records_most))]
     fn entry(&self, i: usize, out: &mut [u8])
         requires { (i < self.now.count) × (length out.old ≡ self.now.form.size) }
         ensures { out.new ≡ entry_of self.now.form self.now.circuit.now self.now.beside.now self.now.count i }
@@ -67,6 +68,7 @@ impl<'a> Draft<'a> {
         record_put::record(Kind::Deciles as usize, next, &c.deciles[a..a + 12], out);
     }
 
+    #[tactic(auto, using(crate::proofs::Cells::part_within))]
     fn entries(&self, out: &mut [u8])
         requires { self.now.form.size * self.now.count ≤ length out.old }
         ensures { out.new ≡ file_of self.now.form self.now.circuit.now self.now.beside.now ++ drop (self.now.form.size * self.now.count) out.old }
@@ -115,5 +117,5 @@ pub fn write(c: Circuit, out: &mut [u8]) -> Result<usize, Refusal>
     ensures value { result ≡ write_answer_of form64 c out.old }
     ensures out_after { out.new ≡ left_of form64 c [] out.old }
 {
-    write_form(records::FORM64, c, &[], out)
+    write_form(records::form64(), c, &[], out)
 }

@@ -148,5 +148,5 @@ pub fn follow_form(o: Form, file: &[u8]) -> Result<Chain, Refusal>
 pub fn follow(file: &[u8]) -> Result<Chain, Refusal>
     ensures { result ≡ chain_of form64 file.now }
 {
-    follow_form(records::FORM64, file)
+    follow_form(records::form64(), file)
 }

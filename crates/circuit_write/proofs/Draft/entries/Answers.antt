@@ -7,30 +7,18 @@ use lib.ListN.{length, drop}
 use Rattle.records.proofs.Lists.{length_part}
 use Rattle.record_put.proofs.Cells.{length-filled}
 use Rattle.circuit_write.specs.Written.{entries_of, file_of}
-use Rattle.circuit_write.proofs.Cells.{part-within, entry_more, length-entries}
+use Rattle.circuit_write.proofs.Cells.{part_within, entry_more, length-entries}
 use Rattle.circuit_write.proofs.Draft.entries.Goals as goal
 
 pub loop-i-init : goal.loop-i-init
 unfolding entries_of
 loop-i-init c = (omega arith, refl, rw mul-zero)
 
-pub overflow_mul-size : goal.overflow_mul-size
-overflow_mul-size c = let d = c.args.self.now in omega (arith, part-within d.form.size d.count c.loop-i.i (omega arith))
-
-pub overflow_mul-size-in-loop-i : goal.overflow_mul-size-in-loop-i
-overflow_mul-size-in-loop-i c = let d = c.args.self.now in omega (arith, part-within d.form.size d.count c.loop-i.i (omega arith))
-
-pub overflow_add-size : goal.overflow_add-size
-overflow_add-size c = let d = c.args.self.now in omega (arith, part-within d.form.size d.count c.loop-i.i (omega arith))
-
-pub slice_bounds-entry-end : goal.slice_bounds-entry-end
-slice_bounds-entry-end c = let d = c.args.self.now in omega (arith, part-within d.form.size d.count c.loop-i.i (omega arith))
-
 pub entry-requires : goal.entry-requires
 entry-requires c =
     let d = c.args.self.now in
     let l = c.loop-i in
-    (omega arith, length_part (d.form.size * l.i) d.form.size l.out (omega (arith, part-within d.form.size d.count l.i (omega arith))))
+    (omega arith, length_part (d.form.size * l.i) d.form.size l.out (omega (arith, part_within d.form.size d.count l.i (omega arith))))
 
 pub loop-i-preserved : goal.loop-i-preserved
 loop-i-preserved c =
@@ -41,7 +29,7 @@ loop-i-preserved c =
       omega arith,
       ap length e
           ∙ length-filled (entries_of d.form d.circuit.now d.beside.now d.count (l.i + 1)) out (d.form.size * (l.i + 1))
-          (length-entries d.form d.fit d.circuit.now d.beside.now d.count (l.i + 1)) (omega (arith, part-within d.form.size d.count l.i (omega arith))),
+          (length-entries d.form d.fit d.circuit.now d.beside.now d.count (l.i + 1)) (omega (arith, part_within d.form.size d.count l.i (omega arith))),
       e,
     )
 

@@ -3,7 +3,7 @@ use Prim.Native.Nat.{◌*◌, ◌-◌}
 use mathlib.Core.Path.{◌∙◌}
 use native.Mathlib.Omega.{arith}
 use Rattle.records.proofs.Lists.{length_part}
-use Rattle.circuit_write.proofs.Cells.{part-within, records-most, entry-head, entry-point, entry-twelve}
+use Rattle.circuit_write.proofs.Cells.{part_within, entry-head, entry-point, entry-twelve}
 use Rattle.circuit_write.proofs.Draft.entry.Goals as goal
 
 pub returns-then-i-eq0 : goal.returns-then-i-eq0
@@ -11,28 +11,10 @@ returns-then-i-eq0 c =
     let d = c.args.self.now in
     c.head.ensures ∙ entry-head d.form d.fit d.circuit.now d.beside.now d.count c.args.i _ c.next_in-next.ensures c.if-i-eq0.true
 
-pub overflow_mul-b : goal.overflow_mul-b
-overflow_mul-b c = let d = c.args.self.now in omega (arith, part-within d.form.extra 5 (c.args.i - 1) (omega arith))
-
-pub overflow_add-b : goal.overflow_add-b
-overflow_add-b c = let d = c.args.self.now in omega (arith, part-within d.form.extra 5 (c.args.i - 1) (omega arith))
-
-pub offset_bounds-self-b : goal.offset_bounds-self-b
-offset_bounds-self-b c = let d = c.args.self.now in omega (arith, part-within d.form.extra 5 (c.args.i - 1) (omega arith))
-
-pub slice_bounds-point-count-then-i-c : goal.slice_bounds-point-count-then-i-c
-slice_bounds-point-count-then-i-c c = let d = c.args.self.now in omega (arith, part-within d.form.extra 5 (c.args.i - 1) (omega arith))
-
-pub slice_bounds-point-start-then-i-c : goal.slice_bounds-point-start-then-i-c
-slice_bounds-point-start-then-i-c c = let d = c.args.self.now in omega (arith, part-within d.form.extra 5 (c.args.i - 1) (omega arith))
-
-pub slice_bounds-point-end-then-i-c : goal.slice_bounds-point-end-then-i-c
-slice_bounds-point-end-then-i-c c = let d = c.args.self.now in omega (arith, d.five, part-within d.form.extra 5 (c.args.i - 1) (omega arith))
-
 pub point-requires : goal.point-requires
 point-requires c =
     let d = c.args.self.now in
-    let x = part-within d.form.extra 5 (c.args.i - 1) (omega arith) in
+    let x = part_within d.form.extra 5 (c.args.i - 1) (omega arith) in
     let p = 15 * (c.args.i - 1) in
     let q = d.form.extra * (c.args.i - 1) in (
       length_part p 15 d.circuit.now.points (omega arith),
@@ -44,9 +26,6 @@ returns-then-i-c c =
     let d = c.args.self.now in
     rw c.requires.1 at c.point.ensures
     ∙ entry-point d.form d.fit d.circuit.now d.beside.now d.count c.args.i _ c.next_in-next.ensures c.if-i-eq0.false c.if-i-c.true
-
-pub slice_bounds-record-end : goal.slice_bounds-record-end
-slice_bounds-record-end c = let d = c.args.self.now in omega (arith, d.counted, records-most d.circuit.now)
 
 pub returns : goal.returns
 returns c =
