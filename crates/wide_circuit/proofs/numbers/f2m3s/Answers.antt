@@ -36,7 +36,7 @@ pub loop-i-preserved : goal.loop-i-preserved
 loop-i-preserved c =
     let a = c.args in
     let l = c.loop-i in
-    rw one-mul at (read_next form128 a.file.now a.records.now 0 15 1 5 (length a.records.now) l.i l.out l.invariant _ (omega arith) (rw (zero-add l.i) c.read_f2m3.ensures) (omega arith))
+    rw one-mul at (read_next form128 a.file.now a.records.now 0 15 1 5 (length a.records.now) l.i l.out l.invariant c.read_f2m3.new.out (omega arith) (rw (zero-add l.i) c.read_f2m3.ensures) (omega arith))
 
 pub returns : goal.returns
 returns c =
