@@ -11,7 +11,7 @@ use circuit::Circuit;
 use compose_line::{Fault, LineKind, Row, Wrong};
 
 // What the lines say from that of the path on: the circuit so far, and the lines of deciles so far.
-#[derive(Clone, Copy)]
+#[derive(Clone, Copy, Debug, PartialEq, Eq)]
 pub struct Draft {
     pub circuit: Circuit,
     pub twelves: usize,
