@@ -94,6 +94,8 @@ impl<'a> File<'a> {
         records::sound(r, Kind::Deciles as usize, 12)
     }
 
+    // The chain from record 0 on, of km points.
+    // Stays: km ≤ 5 is what the test of record 0 told just before, and no type of its own.
     fn walk(&self, km: usize) -> Result<Chain, Refusal>
         requires { (self.now.form.size ≤ length self.now.bytes.now) × (km ≤ 5) }
         ensures { result ≡ Rattle.record_chain.specs.Chain.walk self.now.form self.now.bytes.now (km + 48) (0 ∷ []) 0 }
