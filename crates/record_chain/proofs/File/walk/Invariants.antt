@@ -4,13 +4,13 @@ use mathlib.Core.Path.{◌≡◌}
 use mathlib.Core.List.{[], ◌∷◌}
 use lib.ListN.{length, take}
 use Rattle.record_chain.specs.Chain as chain
-use Rattle.record_chain.proofs.walk.Given as goal
+use Rattle.record_chain.proofs.File.walk.Given as goal
 
 abbrev pub invariant-loop-next : goal.invariant-loop-next
 invariant-loop-next l =
-    (1 ≤ l.count) × (l.count + l.left ≡ l.km + 49) × (l.o.size * l.at + l.o.size ≤ length l.file) × (length l.order ≡ 64)
+    (1 ≤ l.count) × (l.count + l.left ≡ l.km + 49) × (l.self.form.size * l.at + l.self.form.size ≤ length l.self.bytes.now) × (length l.order ≡ 64)
     × (l.order ≡ chain.padded 64 (take l.count l.order))
-    × (chain.walk l.o l.file l.left (take l.count l.order) l.at ≡ chain.walk l.o l.file (l.km + 48) (0 ∷ []) 0)
+    × (chain.walk l.self.form l.self.bytes.now l.left (take l.count l.order) l.at ≡ chain.walk l.self.form l.self.bytes.now (l.km + 48) (0 ∷ []) 0)
 
 abbrev pub decreases-loop-next : goal.decreases-loop-next
 decreases-loop-next l = l.left

@@ -5,14 +5,12 @@ use mathlib.Core.Logic.{inl, inr}
 use native.Mathlib.Omega.{arith}
 use lib.ListN.{length-set}
 use lib.Seq.{length-take-le}
-use lib.Dec.{leb}
 use Rattle.std.proofs.lemmas.Result.{err_from_is_err_and}
 use Rattle.std.specs.Prelude.{Ok, Err}
 use Rattle.record_chain.specs.Chain as chain
 use Rattle.record_chain.proofs.Steps.{in-file, step-to, walk-whole, walk-cut, walk-astray, walk-long, walk-bad, walk-on, as-answered, one_more, stored}
-use Rattle.records.proofs.Lists.{part}
-use Rattle.record_chain.proofs.walk.Goals.{else-left-ne48-via-then-left-ne48+else-left-ne0, else-left-ne48-via-else-left-ne48}
-use Rattle.record_chain.proofs.walk.Goals as goal
+use Rattle.record_chain.proofs.File.walk.Goals.{else-left-ne48-via-then-left-ne48+else-left-ne0, else-left-ne48-via-else-left-ne48}
+use Rattle.record_chain.proofs.File.walk.Goals as goal
 
 pub loop-next-init : goal.loop-next-init
 loop-next-init c = (omega arith, omega arith, omega arith, refl, refl, refl)
@@ -35,23 +33,8 @@ returns-then-left-eq0 c =
     sym (walk-long _ _ _ _ _ l.left (sym c.step_out.ensures.value ∙ c.in_ok-next.was ∙ ap Ok c.in-Some.is) c.if-left-eq0.true)
     ∙ l.invariant.5
 
-pub overflow_mul-size : goal.overflow_mul-size
-overflow_mul-size c = omega (arith, in-file c.args.o c.args.file.now c.in-Some.next (step-to c.args.o c.args.file.now _ _ c.in-Some.next (sym c.step_out.ensures.value ∙ c.in_ok-next.was ∙ ap Ok c.in-Some.is)))
-
-pub overflow_mul-size-in-Some : goal.overflow_mul-size-in-Some
-overflow_mul-size-in-Some c = omega (arith, in-file c.args.o c.args.file.now c.in-Some.next (step-to c.args.o c.args.file.now _ _ c.in-Some.next (sym c.step_out.ensures.value ∙ c.in_ok-next.was ∙ ap Ok c.in-Some.is)))
-
-pub overflow_add-size : goal.overflow_add-size
-overflow_add-size c = omega (arith, in-file c.args.o c.args.file.now c.in-Some.next (step-to c.args.o c.args.file.now _ _ c.in-Some.next (sym c.step_out.ensures.value ∙ c.in_ok-next.was ∙ ap Ok c.in-Some.is)))
-
-pub slice_bounds-may_stand-count : goal.slice_bounds-may_stand-count
-slice_bounds-may_stand-count c = omega (arith, in-file c.args.o c.args.file.now c.in-Some.next (step-to c.args.o c.args.file.now _ _ c.in-Some.next (sym c.step_out.ensures.value ∙ c.in_ok-next.was ∙ ap Ok c.in-Some.is)))
-
-pub slice_bounds-may_stand-start : goal.slice_bounds-may_stand-start
-slice_bounds-may_stand-start c = omega (arith, in-file c.args.o c.args.file.now c.in-Some.next (step-to c.args.o c.args.file.now _ _ c.in-Some.next (sym c.step_out.ensures.value ∙ c.in_ok-next.was ∙ ap Ok c.in-Some.is)))
-
-pub slice_bounds-may_stand-end : goal.slice_bounds-may_stand-end
-slice_bounds-may_stand-end c = omega (arith, in-file c.args.o c.args.file.now c.in-Some.next (step-to c.args.o c.args.file.now _ _ c.in-Some.next (sym c.step_out.ensures.value ∙ c.in_ok-next.was ∙ ap Ok c.in-Some.is)))
+pub may_stand-requires : goal.may_stand-requires
+may_stand-requires c = in-file c.args.self.now.form c.args.self.now.bytes.now c.in-Some.next (step-to c.args.self.now.form c.args.self.now.bytes.now _ _ c.in-Some.next (sym c.step_out.ensures.value ∙ c.in_ok-next.was ∙ ap Ok c.in-Some.is))
 
 pub returns-then-not-may_stand : goal.returns-then-not-may_stand
 returns-then-not-may_stand c =
@@ -59,7 +42,7 @@ returns-then-not-may_stand c =
     sym
     (walk-bad _ _ _ _ _ l.left (sym c.step_out.ensures.value ∙ c.in_ok-next.was ∙ ap Ok c.in-Some.is)
     c.if-left-eq0.false
-    (sym (c.may_stand.ensures ∙ ap (chain.sound_by c.args.o (leb 48 (l.left - 1))) (part c.args.o c.args.file.now c.in-Some.next)) ∙ c.if-not-may_stand.true))
+    (sym c.may_stand.ensures ∙ c.if-not-may_stand.true))
     ∙ l.invariant.5
 
 pub loop-next-preserved : goal.loop-next-preserved
@@ -69,14 +52,14 @@ loop-next-preserved c =
     let a = c.args in (
       omega arith,
       omega arith,
-      in-file c.args.o c.args.file.now c.in-Some.next (step-to c.args.o c.args.file.now _ _ c.in-Some.next (sym c.step_out.ensures.value ∙ c.in_ok-next.was ∙ ap Ok c.in-Some.is)),
+      in-file c.args.self.now.form c.args.self.now.bytes.now c.in-Some.next (step-to c.args.self.now.form c.args.self.now.bytes.now _ _ c.in-Some.next (sym c.step_out.ensures.value ∙ c.in_ok-next.was ∙ ap Ok c.in-Some.is)),
       simp length-set l.invariant.3,
       stored l.order l.count n (omega arith) l.invariant.3 l.invariant.4,
-      ap (λ (order : List ℕ). chain.walk a.o a.file.now (l.left - 1) order n) (one_more l.order l.count n (omega arith))
+      ap (λ (order : List ℕ). chain.walk a.self.now.form a.self.now.bytes.now (l.left - 1) order n) (one_more l.order l.count n (omega arith))
           ∙ sym
           (walk-on _ _ _ _ _ l.left (sym c.step_out.ensures.value ∙ c.in_ok-next.was ∙ ap Ok c.in-Some.is)
           c.if-left-eq0.false
-          (sym (c.may_stand.ensures ∙ ap (chain.sound_by c.args.o (leb 48 (l.left - 1))) (part c.args.o c.args.file.now c.in-Some.next)) ∙ c.if-not-may_stand.false))
+          (sym c.may_stand.ensures ∙ c.if-not-may_stand.false))
           ∙ l.invariant.5,
     )
 

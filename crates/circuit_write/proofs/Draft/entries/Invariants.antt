@@ -4,8 +4,9 @@ use mathlib.Core.Path.{◌≡◌}
 use mathlib.Core.List.{◌++◌}
 use lib.ListN.{length, drop}
 use Rattle.circuit_write.specs.Written.{entries_of}
-use Rattle.circuit_write.proofs.entries.Given as goal
+use Rattle.circuit_write.proofs.Draft.entries.Given as goal
 
 abbrev pub invariant-loop-i : goal.invariant-loop-i
 invariant-loop-i l =
-    (l.i ≤ l.n) × (length l.out ≡ length l.initial.out) × (l.out ≡ entries_of l.o l.c l.beside l.n l.i ++ drop (l.o.size * l.i) l.initial.out)
+    (l.i ≤ l.self.count) × (length l.out ≡ length l.initial.out)
+    × (l.out ≡ entries_of l.self.form l.self.circuit.now l.self.beside.now l.self.count l.i ++ drop (l.self.form.size * l.i) l.initial.out)
