@@ -18,6 +18,19 @@ pub fn padded(x: [f32; 30]) -> [f32; 32]
     r
 }
 
+// What a function gives of each of thirty-two numbers. Stays: an array's own `map` is no loop that is
+// unrolled and done four places at a time, and a scan takes two hundredths longer by it.
+pub fn each<F: Fn(f32) -> f32>(x: [f32; 32], f: F) -> [f32; 32]
+    requires { F.IsAlwaysCallable f }
+    ensures { (i : ℕ) → i < 32 → F.post f (number_at x i) (number_at result i) }
+{
+    let mut r = x;
+    for i in 0..32 {
+        r[i] = f(x[i]);
+    }
+    r
+}
+
 // The cell that was told, and worked out where it is in doubt.
 fn mended(told: u32, fvv: f32, rcosd: f32, radius: f32) -> i32
     requires { Told fvv (sqcos_of (rcosd /f radius)) told }
@@ -49,8 +62,8 @@ impl Rows {
         Rows {
             fv,
             radii,
-            low: fv.map(|f| cell_test::low(f)),
-            high: fv.map(|f| cell_test::high(f)),
+            low: each(fv, |f| cell_test::low(f)),
+            high: each(fv, |f| cell_test::high(f)),
         }
     }
 

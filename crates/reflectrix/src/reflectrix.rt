@@ -33,7 +33,7 @@ fn angles(ion: Ionogram, nang: usize, cells: &mut [i32])
     requires { (nang ≤ 40) × (30 * nang ≤ length cells.old) }
     ensures { cells.new ≡ angles_into ion cells.old nang }
 {
-    let radii = cell_rows::padded(ion.htrue).map(|h| RZ + h);
+    let radii = cell_rows::each(cell_rows::padded(ion.htrue), |h| RZ + h);
     let rows = Rows::new(cell_rows::padded(ion.fvert), radii);
     rows.scan(&rcosds(), nang, cells);
 }
