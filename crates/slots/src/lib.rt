@@ -18,6 +18,7 @@ fn empty(n: usize) -> IonoState
     s
 }
 
+// Stays: s and k are the Rust's `state` and the number of one of its points.
 fn set_point(mut s: IonoState, k: usize, p: LayerParams) -> IonoState
     requires { k < 5 }
     ensures { result ≡ point_set s k p }
@@ -33,7 +34,7 @@ fn set_points(s: IonoState, params: [LayerParams; 5], n: usize) -> IonoState
     ensures { result ≡ points_set s params n }
 {
     let mut t = s;
-    // Stays: k is the point's row in the tables too.
+    // Stays: k is the point's row in the tables too, and n counts the points taken of five.
     for k in 0..n {
         let p = params[k];
         t = set_point(t, k, p);

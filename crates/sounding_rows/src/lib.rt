@@ -12,7 +12,7 @@ ghost use Rattle.sounding_rows.specs.Rows;
 ghost use Rattle.sounding_rows.specs.Rows.{rows_of, true_by_profile, segment_by_profile, virtual_by_parabola, made, rows_by, rows_with};
 
 use layers::IonoState;
-use readings::Found;
+use readings::{Found, Profile};
 use reflectrix::Ionogram;
 
 const HTE: [f32; 30] = [
@@ -40,14 +40,17 @@ fn by_profile(s: IonoState, rises: bool, fv: [f32; 30]) -> Columns
         × (result.htrue ≡ rows_of (λ f. (gethp_of s f).ht) fv 0 (replicate 30 f0) 30)
         × (result.segment ≡ rows_of (λ f. (gethp_of s f).segment) fv 0 (replicate 30 0) 30) }
 {
-    let htr = s.htr;
-    let fnsq = s.fnsq;
+    let p = Profile {
+        htr: &s.htr,
+        fnsq: &s.fnsq,
+        rises,
+    };
     let exact = s.exact_virtual_height;
     let mut hprim = [0.0; 30];
     let mut htrue = [0.0; 30];
     let mut segment = [0; 30];
     for i in 0..30 {
-        let h = heights::gethp_read(&htr, &fnsq, exact, rises, fv[i]);
+        let h = heights::gethp_read(p, exact, fv[i]);
         hprim[i] = h.hp;
         htrue[i] = h.ht;
         segment[i] = h.segment;
@@ -62,9 +65,7 @@ fn by_profile(s: IonoState, rises: bool, fv: [f32; 30]) -> Columns
 fn true_by_profile(s: IonoState, f: f32) -> Found
     ensures { (result.value ≡ true_by_profile s f) × (result.segment ≡ segment_by_profile s f) }
 {
-    let fnsq = s.fnsq;
-    let htr = s.htr;
-    xlin::xlin(f * f, &fnsq, &htr)
+    xlin::xlin(f * f, &s.fnsq, &s.htr)
 }
 
 // The column of true heights and that of their segments.
@@ -93,12 +94,15 @@ fn virtual_rows_by_profile(s: IonoState, rises: bool, fv: [f32; 30]) -> [f32; 30
     requires { rises ≡ rises_of s.htr }
     ensures { result ≡ rows_of (λ f. (gethp_of s f).hp) fv 10 Rows.HPE 20 }
 {
-    let htr = s.htr;
-    let fnsq = s.fnsq;
+    let p = Profile {
+        htr: &s.htr,
+        fnsq: &s.fnsq,
+        rises,
+    };
     let exact = s.exact_virtual_height;
     let mut hprim = HPE;
     for i in 0..20 {
-        let h = heights::gethp_read(&htr, &fnsq, exact, rises, fv[10 + i]);
+        let h = heights::gethp_read(p, exact, fv[10 + i]);
         hprim[10 + i] = h.hp;
     }
     hprim

@@ -17,13 +17,13 @@ walked htr fnsq ht fr read ysq out er ey eo = rw (eo, er, ey) (walk-table htr fn
 scanned : (htr fnsq : List Float) (ht fr : Float) (read ysq out : List Float) → read ≡ scan_reads htr fnsq ht 40 → ysq ≡ replicate 40 f0 → out ≡ put_each (λ k. share_of (at read k) fr) ysq 40 → out ≡ scan_table htr fnsq ht fr 40
 scanned htr fnsq ht fr read ysq out er ey eo = rw (eo, er, ey) (scan-table htr fnsq ht fr)
 
-pub returns-then-rises : goal.returns-then-rises
-returns-then-rises c =
+pub returns-then-p : goal.returns-then-p
+returns-then-p c =
     let s = c in
     let w = c.walk_reads-cursor.ensures in
-    rw c.if-rises.true (walked _ _ s.args.ht s.args.fr _ _ _ w.0 s.requires c.shares.ensures, w.1)
+    rw c.if-p.true (walked _ _ s.args.ht s.args.fr _ _ _ w.0 s.requires c.shares.ensures, w.1)
 
 pub returns : goal.returns
 returns c =
     let s = c in
-    rw c.if-rises.false (scanned _ _ s.args.ht s.args.fr _ _ _ c.scan_reads.ensures s.requires c.shares-2.ensures, refl)
+    rw c.if-p.false (scanned _ _ s.args.ht s.args.fr _ _ _ c.scan_reads.ensures s.requires c.shares-2.ensures, refl)

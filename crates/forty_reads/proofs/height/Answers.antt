@@ -4,4 +4,4 @@ use Rattle.forty_reads.proofs.height.Goals as goal
 
 pub returns : goal.returns
 unfolding height_of
-returns c = rw (c.node-zg.ensures, c.requires.1)
+returns c = rw (c.node-zg.ensures, c.abscissa-x.ensures)

@@ -21,9 +21,9 @@ one_of : (ysq mup : List Float) → Integrands ysq mup → (k : ℕ) → k < 40 
 unfolding mup_of
 one_of ysq mup e k h = ap (λ (l : List Float). at l k) e ∙ put-at (λ j. integrand_of (at ysq j)) nan (replicate 40 f0) 40 (lit≤ tt) k h
 
-one-turn : (ysq wts mup : List Float) (ig : ℕ) (hp : Float) → ig < 20 → wts ≡ wt → Integrands ysq mup → hp ≡ hp_of (flat ysq) ig → hp +f at wts ig *f (at mup (2 * ig) +f at mup (2 * ig + 1)) ≡ hp_of (flat ysq) (ig + 1)
+one-turn : (ysq mup : List Float) (ig : ℕ) (w hp : Float) → ig < 20 → w ≡ at wt ig → Integrands ysq mup → hp ≡ hp_of (flat ysq) ig → hp +f w *f (at mup (2 * ig) +f at mup (2 * ig + 1)) ≡ hp_of (flat ysq) (ig + 1)
 unfolding hp_of
-one-turn ysq wts mup ig hp h ew em eh =
+one-turn ysq mup ig w hp h ew em eh =
     let z : 2 * ig + 0 ≡ 2 * ig = omega arith in
     rw (add-one ig, z, ew, eh, one_of ysq mup em (2 * ig) (omega arith), one_of ysq mup em (2 * ig + 1) (omega arith))
 
@@ -34,8 +34,7 @@ loop-ig-init c = (omega arith, refl, c.integrands.ensures)
 pub loop-ig-preserved : goal.loop-ig-preserved
 loop-ig-preserved c =
     let l = c.loop-ig in
-    let s = c in
-    (omega arith, one-turn s.args.ysq.now s.args.wts.now _ l.ig l.hp c.loop-ig-test.true s.requires l.invariant.2 l.invariant.1, l.invariant.2)
+    (omega arith, one-turn c.args.ysq.now _ l.ig _ l.hp c.loop-ig-test.true c.weight-w.ensures l.invariant.2 l.invariant.1, l.invariant.2)
 
 pub returns : goal.returns
 returns c = rw (le_antisymm c.loop-ig.invariant.0 c.loop-ig-test.false) at c.loop-ig.invariant.1

@@ -6,7 +6,7 @@ use Rattle.sounding_rows.specs.Rows.{HPE, rows_of}
 use Rattle.sounding_rows.proofs.virtual_rows_by_profile.Given as goal
 
 abbrev pub invariant-loop-i : goal.invariant-loop-i
-invariant-loop-i l = (l.i ≤ 20) × (l.hprim ≡ rows_of (λ f. (gethp_read_of l.exact l.rises l.htr l.fnsq f).hp) l.fv 10 HPE l.i)
+invariant-loop-i l = (l.i ≤ 20) × (l.hprim ≡ rows_of (λ f. (gethp_read_of l.exact l.p.rises l.p.htr.now l.p.fnsq.now f).hp) l.fv 10 HPE l.i)
 
 abbrev pub decreases-loop-i : goal.decreases-loop-i
 decreases-loop-i l = 20 - l.i

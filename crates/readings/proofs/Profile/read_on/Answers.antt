@@ -1,7 +1,7 @@
 -- Each path is the clause that its tests choose; each call is what its contract says.
 use Rattle.readings.specs.Cursor.{read_on_of}
 use borrow.Author.Tests.{lt-ltb, le-ltb}
-use Rattle.readings.proofs.read_on.Goals as goal
+use Rattle.readings.proofs.Profile.read_on.Goals as goal
 
 pub returns-then-zi-htr : goal.returns-then-zi-htr
 unfolding read_on_of

@@ -1,6 +1,6 @@
 -- Each path is the clause that its tests choose; each call is what its contract says.
 use Rattle.readings.specs.Scan.{reading_of}
-use Rattle.readings.proofs.read_by_scan.Goals as goal
+use Rattle.readings.proofs.Profile.read_by_scan.Goals as goal
 
 pub returns-then-zi-htr : goal.returns-then-zi-htr
 unfolding reading_of
