@@ -1,5 +1,7 @@
 // The cells of one angle, guessed together. The loops run over thirty-two places and have no branch,
 // so that four places are worked out at once.
+// Stays: they count a place, since a turn reads or writes up to five lists there, and cells lie thirty
+// an angle where the guesses have thirty-two; a caller in C lends the cells.
 #![tactic(auto)]
 
 ghost use Rattle.std.specs.Prelude.{◌≡◌, map, ℕ, ◌+◌, ◌*◌, ◌≤◌, ◌<◌, length, take, get_or};

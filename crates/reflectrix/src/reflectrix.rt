@@ -1,5 +1,7 @@
 // The reflectrix: for each angle of the scan thirty cells, the oblique frequency of each row in
 // whole kHz.
+// Stays: ion, nang and cells are the Rust's, and thirty cells an angle lie one after the other, as a
+// caller in C lends them.
 ghost use Rattle.std.specs.Prelude.{◌≡◌, map, ◌*◌, ◌≤◌, Float, length};
 ghost use Rattle.scalar.specs.F32.{◌+f◌, ◌*f◌};
 ghost use Rattle.constants.specs.Constants;
