@@ -6,6 +6,7 @@ ghost use Rattle.selmod.specs.Selmod.{selmod_of};
 
 use layers::IonoState;
 
+#[tactic(auto, unfolding(crate::specs::Selmod::selmod_of))]
 pub fn selmod(s: IonoState) -> usize
     ensures { result ≡ selmod_of s }
 {
