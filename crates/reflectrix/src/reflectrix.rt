@@ -9,8 +9,8 @@ ghost use Rattle.waves.specs.SinCos.{cos_of};
 ghost use Rattle.scan_angles.specs.Angles;
 ghost use Rattle.reflectrix.specs.Fobby.{angles_into, cells_after, fobby_outcome};
 
-use cell_rows::Rows;
 use crate::Ionogram;
+use cell_rows::Rows;
 use constants::RZ;
 use refusal::Refusal;
 
