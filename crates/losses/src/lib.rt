@@ -47,8 +47,8 @@ fn factor(c: f32, htrue: f32, hprim: f32, hm: f32) -> f32
     c * (hprim - htrue - hm)
 }
 
-// Of a row's two heights. Stays: apart from `tail_loss`, as in the Rust, since E's constant has no floor, and
-// none is the same as no `max` where the constant is NaN.
+// Of a row's two heights. Stays: apart from `tail_loss`, as in the Rust, since E's constant has no floor,
+// and by no floor that could be handed in would a NaN stay one.
 fn e_loss(cf: f32, htrue: f32, hprim: f32, htmuf: f32, hm: f32, d: Decay) -> Loss
     ensures { result ≡ e_loss cf htrue hprim htmuf hm d }
 {
