@@ -116,6 +116,8 @@ fn f2_bent(
     Ok(e_lines::line(sig.lower, sig.upper, b.del, b.hp, ht2, fx2, xhops, f2muf))
 }
 
+// Stays: t, l, x, f2d, clat, clck and c are no one thing: the profile, its slot, the tangents worked
+// out of it, the decile table, the point's latitude and clock, the circuit.
 pub fn f2_line(
     t: IonoState,
     l: Slot,

@@ -242,6 +242,7 @@ pub fn flat<L: Numbers>(
 
 // The MUF hour; `es` holds four numbers a row: three of `fs`, then `hs`. Only the controlling row's
 // lower decile is rewritten.
+// Stays: s, es, f2d, clat and clck are the Rust's own parameters, in its order; c is its last four.
 pub fn curmuf(
     s: IonoState,
     es: &mut [f32],

@@ -23,6 +23,7 @@ fn search(es: &[EsParams], km: usize, c: PathNumbers) -> Result<EsSearch, Refusa
 // The MUF hour; records past km are not read. Only the controlling record's lower decile is
 // rewritten, and a call that is refused leaves all as they came. The search is the last part that
 // can be refused, so it may come first: it reads nothing that the others work out.
+// Stays: s, es, f2d, clat and clck are the Rust's own parameters, in its order; c is its last four.
 pub fn curmuf_records(
     s: IonoState,
     es: &mut [EsParams],
