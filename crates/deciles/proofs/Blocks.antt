@@ -1,5 +1,5 @@
 -- The time block that is looked up: none exactly where its number is 0.
-use Rattle.std.specs.Prelude.{◌≡◌, ℕ, zero, suc, Option, Some, None, ◌<◌}
+use Rattle.std.specs.Prelude.{◌≡◌, ℕ, zero, suc, Some, None, ◌<◌}
 use Rattle.std.proofs.Common.{arith, refl}
 use Rattle.deciles.specs.F2dis.{block_of}
 

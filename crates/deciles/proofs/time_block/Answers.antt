@@ -1,7 +1,6 @@
-use native.Mathlib.Omega.{arith}
 use mir.Facts.{to_z-of_z}
 use borrow.Author.Rules.{sfits_of}
-use Rattle.scalar.proofs.Casts.{castable, between}
+use Rattle.scalar.proofs.Casts.{between}
 use Rattle.deciles.specs.F2dis.{icc_of, time_block_of}
 use Rattle.deciles.proofs.Blocks.{some_block}
 use Rattle.deciles.proofs.time_block.Goals as goal

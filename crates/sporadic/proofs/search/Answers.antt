@@ -1,5 +1,5 @@
 -- Each turn takes one row off what is left, as the reader gave it.
-use Rattle.std.proofs.Common.{◌≡◌, ◌-◌, ℕ, arith}
+use Rattle.std.proofs.Common.{◌≡◌, ◌-◌, arith}
 use Rattle.std.proofs.lemmas.Result.{err_from_is_err_and}
 use Rattle.sporadic.proofs.Searches.{one_more, none_left}
 use Rattle.sporadic.proofs.Says.{rows-say}
