@@ -40,6 +40,7 @@ fn one_to_nine(a: usize, b: usize) -> bool
     1 <= n && n <= 9
 }
 
+// Stays: `whole` and `rest` are the two sides of a point in one word, read one after the other and not by pairs.
 #[tactic(auto, using(crate::proofs::DigitLists::all_listed), unfolding(crate::specs::Decimal::fine_of))]
 fn fine(whole: &[u8], rest: &[u8]) -> bool
     ensures { result ≡ fine_of whole.now rest.now }
@@ -65,25 +66,13 @@ fn unsigned(minus: bool, u: &[u8]) -> Option<u32>
     parts(minus, &u[..p], &u[e..])
 }
 
-fn is_minus(word: &[u8]) -> bool
-    ensures { result ≡ starts_with_minus word.now }
-{
-    word.first() == Some(&b'-')
-}
-
-fn sign_length(word: &[u8]) -> usize
-    ensures { (result ≤ length word.now) × (result ≡ sign_length word.now) }
-{
-    match word.first() {
-        Some(b'-' | b'+') => 1,
-        _ => 0,
-    }
-}
-
 // The bits of the f32 nearest to the decimal that a word is; none where it is not a decimal of one to nine digits.
 pub fn read(word: &[u8]) -> Option<u32>
     ensures { result ≡ decimal_read word.now }
 {
-    let s = sign_length(word);
-    unsigned(is_minus(word), &word[s..])
+    match word {
+        [b'-', rest @ ..] => unsigned(true, rest),
+        [b'+', rest @ ..] => unsigned(false, rest),
+        _ => unsigned(false, word),
+    }
 }

@@ -1,5 +1,6 @@
 // Two traces held against one another, for callers in any language: words in, words out. Each function answers 0, or the number
 // of its refusal, and then leaves everything lent as it was.
+// Stays: lists side by side, and words lent for what is answered, as callers in C have them.
 #![tactic(auto)]
 
 ghost use Rattle.std.specs.Prelude.{◌≡◌, ◌+◌, ◌≤◌, length};

@@ -21,6 +21,8 @@ fn rises(tops: &[u32]) -> bool
 }
 
 // Is the tariff as described, in every band.
+// Stays: `tops` and `rates` side by side, and `seconds` beside them in the price, as callers in C lend them; a list of bands would be
+// made of them by a copy.
 fn good(tops: &[u32], rates: &[u32]) -> bool
     ensures { result ≡ tariff_good tops.now rates.now }
 {
