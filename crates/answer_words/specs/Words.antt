@@ -6,3 +6,8 @@ use Rattle.refusal.specs.declared.Refusal.{Refusal}
 abbrev pub number_left : Result ℕ Refusal → List ℕ → List ℕ
 number_left (Ok n) out = set out 0 n
 number_left (Err r) out = out
+
+-- the number, 0 at a refusal
+abbrev pub number_in : Result ℕ Refusal → ℕ
+number_in (Ok n) = n
+number_in (Err r) = 0

@@ -1,4 +1,5 @@
 // A decimal as a person writes it, as the nearest f32: by whole numbers only.
+// Stays: `whole` and `rest` side by side are what stands before and after the point of one word, and not read by pairs.
 #![tactic(auto)]
 
 mod fraction;
@@ -40,7 +41,6 @@ fn one_to_nine(a: usize, b: usize) -> bool
     1 <= n && n <= 9
 }
 
-// Stays: `whole` and `rest` are the two sides of a point in one word, read one after the other and not by pairs.
 #[tactic(auto, using(crate::proofs::DigitLists::all_listed), unfolding(crate::specs::Decimal::fine_of))]
 fn fine(whole: &[u8], rest: &[u8]) -> bool
     ensures { result ≡ fine_of whole.now rest.now }

@@ -1,5 +1,7 @@
 // What a call costs: the relay stations charge by band. A tariff is a list of tops, in tenths of a MHz, and a list of
 // rates, in cents a minute; the band of a call is the first whose top is not below the printed figure of its MUF.
+// Stays: `tops` and `rates` side by side, and `seconds` beside them in the price, as callers in C lend them; a list of bands would be
+// made of them by a copy.
 #![tactic(auto)]
 
 ghost use Rattle.std.specs.Prelude.{◌≡◌, true};
@@ -21,8 +23,6 @@ fn rises(tops: &[u32]) -> bool
 }
 
 // Is the tariff as described, in every band.
-// Stays: `tops` and `rates` side by side, and `seconds` beside them in the price, as callers in C lend them; a list of bands would be
-// made of them by a copy.
 fn good(tops: &[u32], rates: &[u32]) -> bool
     ensures { result ≡ tariff_good tops.now rates.now }
 {

@@ -33,6 +33,6 @@ returns-in_default c =
     let w = c.args.word.now in
     c.unsigned-in_default.ensures
     ∙ elim c.in_default.branch [
-        | in_default-via-then-word-lt1 x ↦ plain w (empty_has w 45 (search rules) (omega arith)) (empty_has w 43 (search rules) (omega arith))
-        | in_default-via-else-word-lt1+in_default-1 x ↦ plain w (search rules) (search rules)
-      ]
+      | in_default-via-then-word-lt1 x ↦ plain w (empty_has w 45 (search rules) (omega arith)) (empty_has w 43 (search rules) (omega arith))
+      | in_default-via-else-word-lt1+in_default-1 x ↦ plain w (search rules) (search rules)
+    ]
