@@ -1,4 +1,5 @@
 -- Refused for want of room, or what the comparison leaves, and its count.
+use Rattle.std.proofs.Common.{rules}
 use mathlib.Core.Path.{◌≡◌, refl, ◌∙◌}
 use Prim.Native.Nat.{ℕ, ◌^◌, ◌≤◌, ◌<◌}
 use native.Mathlib.Omega.{arith}
@@ -28,7 +29,7 @@ returns-then-out-lt1 c =
 
 pub count_into-requires : goal.count_into-requires
 count_into-requires c =
-    (c.if-out-lt1.false, fits c.compare-count.result (rw c.compare-count.ensures.value (few-lines _ _ _ _ _ _ _)))
+    (search rules, fits c.compare-count.result (rw c.compare-count.ensures.value (few-lines _ _ _ _ _ _ _)))
 
 pub returns : goal.returns
 unfolding port_compare
