@@ -1,7 +1,7 @@
 -- The cells that hold the points get fifteen words more, and nothing else of the circuit changes but their count.
 use native.Mathlib.Omega.{arith}
 use Prim.Native.Nat.{◌*◌}
-use mathlib.Core.Path.{◌≡◌, ap, ◌∙◌}
+use mathlib.Core.Path.{◌≡◌}
 use lib.ListN.{length}
 use Rattle.compose_text.specs.Draft.{pointed, given_point}
 use Rattle.compose_text.proofs.Parts.{part_put}
