@@ -71,13 +71,7 @@ fn lowest_es(es: &[EsParams], gcd: f32, gcdkm: f32) -> f32
 }
 
 // The hour of an accepted call: as many Es rows as points.
-fn nominal(
-    points: &[LayerParams],
-    f2m3: &[f32],
-    es: &[EsParams],
-    gcd: f32,
-    gcdkm: f32,
-) -> MufHour
+fn nominal(points: &[LayerParams], f2m3: &[f32], es: &[EsParams], gcd: f32, gcdkm: f32) -> MufHour
     requires f2m3s { length points.now ≤ length f2m3.now }
     requires rows { length es.now ≡ length points.now }
     ensures { result ≡ nominal_of points.now f2m3.now es.now (length points.now) gcd gcdkm }
