@@ -142,6 +142,7 @@ pub fn es_start() -> EsSearch
 }
 
 // The first n rows, in order, each as `row` reads it.
+// Stays: a row's number is what its reader is asked by, and what the search keeps of it.
 pub fn search<F: Fn(usize) -> EsRow>(row: F, n: usize, c: PathNumbers) -> Result<EsSearch, Refusal>
     requires { (k : ℕ) → k < n → F.pre row k }
     ensures value { (rows : ℕ → EsRow) → Reads (F.post row) n rows → result ≡ es_from rows c n 0 start_of }
