@@ -9,6 +9,7 @@ ghost use Rattle.std.specs.Prelude.{List, ℕ, ◌≡◌, ◌≤◌, [], ◌∷�
 ghost use Rattle.lines.specs.Text.{with_text, decimal_of, hex_of, field_of, refused_text};
 
 use refusal::Refusal;
+use std::convert::AsSlice;
 use std::marker::Model;
 
 #[derive(Drop)]
@@ -24,6 +25,14 @@ impl<const N: usize> Model for Page<N> {
     ghost view = { λ p. take p.len p.bytes };
 
     ghost invariant = { λ p. p.len ≤ N };
+}
+
+impl<const N: usize> AsSlice<u8> for Page<N> {
+    ghost items = { λ p. p };
+
+    fn as_slice(&self) -> &[u8] {
+        self.text()
+    }
 }
 
 impl<const N: usize> Page<N> {
