@@ -5,11 +5,11 @@ use native.Mathlib.Omega.{arith}
 use Rattle.io.specs.Digits.{last_digits}
 use Rattle.lines.specs.Text.{hex_of}
 use Rattle.lines.proofs.Decimals.{fewest-hex}
-use Rattle.lines.proofs.put_hex.Goals as goal
+use Rattle.lines.proofs.Page.put_hex.Goals as goal
 
 pub returns : goal.returns
 unfolding hex_of
-returns c =
+returns g c =
     let h = c.hex-k in
     let k = fewest-hex _ _ (omega arith) h.ensures.len in
     let e = h.ensures.digits ∙ ap (λ (n : ℕ). last_digits 16 n c.args.n) k in
