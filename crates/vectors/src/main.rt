@@ -18,9 +18,7 @@ pub enum Replay {
 
 // Whether the sheet of a file is this text.
 fn same_sheet(file: &[u8], wanted: &[u8]) -> bool {
-    let mut text = [0u8; ROOM];
-    let len = sheet_text::sheet_text(file, &mut text);
-    &text[..len] == wanted
+    sheet_text::sheet_text(file).text() == wanted
 }
 
 fn hour(n: usize, m: usize) -> Replay {
@@ -54,6 +52,7 @@ fn next_hour() -> Replay {
 }
 
 // How many hours of each kind, and whether the list is broken.
+// Stays: a flag beside the counts, which are printed where the list is broken too.
 #[derive(Clone, Copy)]
 pub struct Totals {
     pub same: u64,
@@ -62,6 +61,7 @@ pub struct Totals {
 }
 
 // The whole list, of at most 100,000 hours.
+// Stays: the range is no index of anything, but a bound on the hours read.
 fn replayed() -> Totals {
     let mut totals = Totals {
         same: 0,
