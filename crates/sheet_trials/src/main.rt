@@ -5,7 +5,7 @@
 
 ghost use Rattle.std.specs.Prelude.{◌+◌, ◌<◌, ◌≤◌};
 
-use sheet_text::{INPUT, ROOM};
+use sheet_text::INPUT;
 
 // A point: fi, yi, hi and Es fs, three each, hs, clat, clck.
 const P0: [f32; 15] = [
@@ -146,9 +146,8 @@ fn print(name: &[u8], f: [u8; INPUT], n: usize)
     requires { n ≤ 4160 }
 {
     io::write_all(1, name);
-    let mut text = [0u8; ROOM];
-    let len = sheet_text::sheet_text(&f[..n], &mut text);
-    io::write_all(1, &text[..len]);
+    let text = sheet_text::sheet_text(&f[..n]);
+    io::write_all(1, text.text());
 }
 
 fn circuits() {

@@ -18,9 +18,7 @@ pub enum Replay {
 
 // Whether the sheet of a file is this text. Stays: two lists of bytes, which are no pairs.
 fn same_sheet(file: &[u8], wanted: &[u8]) -> bool {
-    let mut text = [0u8; ROOM];
-    let len = sheet_text::sheet_text(file, &mut text);
-    &text[..len] == wanted
+    sheet_text::sheet_text(file).text() == wanted
 }
 
 fn hour(n: usize, m: usize) -> Replay {
