@@ -40,6 +40,8 @@ fn put_up<const N: usize>(page: &mut Page<N>, km: u64)
     page.put_word(b"</text>\n");
 }
 
+// Stays: two loops over the line's number, since a closure that puts a line would need a promise longer than the loop that it
+// spares.
 fn put_frequencies<const N: usize>(page: &mut Page<N>)
     ensures { page.new ≡ with_text N page.old (joined across_at 7) }
 {
@@ -48,6 +50,7 @@ fn put_frequencies<const N: usize>(page: &mut Page<N>)
     }
 }
 
+// Stays: a loop of its own, for the reason of the one above.
 fn put_heights<const N: usize>(page: &mut Page<N>)
     ensures { page.new ≡ with_text N page.old (joined up_at 7) }
 {
@@ -56,15 +59,15 @@ fn put_heights<const N: usize>(page: &mut Page<N>)
     }
 }
 
-#[tactic(auto, using(lines::proofs::Placing::put_both), unfolding(crate::specs::Axes::axes_text))]
 pub fn put_axes<const N: usize>(page: &mut Page<N>)
     ensures { page.new ≡ with_text N page.old axes_text }
 {
     page.put_word(b"<g id='axes'>\n<path class='frame' d='M700 500h5700V3500h-5700z'/>\n");
     put_frequencies(page);
     put_heights(page);
-    page.put_word(b"<text class='m' x='3550' y='3840'>frequency (MHz)</text>\n");
     page.put_word(
-        b"<text class='m' transform='translate(230 2000) rotate(-90)'>height (km)</text>\n</g>\n",
+        b"<text class='m' x='3550' y='3840'>frequency (MHz)</text>\n\
+          <text class='m' transform='translate(230 2000) rotate(-90)'>height (km)</text>\n\
+          </g>\n",
     );
 }

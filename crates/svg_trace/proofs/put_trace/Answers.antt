@@ -1,16 +1,11 @@
-use Rattle.std.proofs.Common.{ℕ, Float, ◌≡◌, refl, sym, ◌∙◌, ap, length, length-append, add-one, arith, rules}
+use Rattle.std.proofs.Common.{ℕ, Float, ◌≡◌, ◌∙◌, ap, length, length-append, add-one, arith, rules}
 use Rattle.std.proofs.lemmas.Slice.Zip.{zip_turn, zip_end}
-use Rattle.lines.specs.Text.{joined}
-use Rattle.lines.proofs.Placing.{put_none, put_then, joined_none, joined_more}
+use Rattle.lines.proofs.Placing.{put_then, joined_more}
 use Rattle.std.specs.Float.{nan}
 use Rattle.scalar.specs.F32.{at}
 use Rattle.svg_points.specs.Points.{point_drawn_of}
 use Rattle.svg_trace.specs.Trace.{row_point, step_at, before_of, trace_text}
 use Rattle.svg_trace.proofs.put_trace.Goals as goal
-
-pub loop-f-init : goal.loop-f-init
-unfolding before_of
-loop-f-init g c = (refl, rw (joined_none (step_at c.args.f.now c.args.h.now)) (sym (put_none _ _)))
 
 pub loop-f-preserved : goal.loop-f-preserved
 unfolding before_of
