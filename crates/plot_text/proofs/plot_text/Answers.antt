@@ -33,16 +33,14 @@ pub put_plot-requires : goal.put_plot-requires
 put_plot-requires c = few _ c.in-Ok.p (sym c.of_file.ensures ∙ c.in-Ok.is)
 
 pub returns-in-Ok : goal.returns-in-Ok
-unfolding plot_text picture_text
+unfolding plot_text
 returns-in-Ok c =
     let p = c.in-Ok.p in
     let e : plot_of c.args.file.now ≡ Ok p = sym c.of_file.ensures ∙ c.in-Ok.is in
-    let t = fits c.put_plot.ensures (omega (arith, (answered-most p (few _ p e)).most)) in
-    record { put = rw e t.0; room = t.1 }
+    rw (e, ← fits 24576 _ (omega (arith, (answered-most p (few _ p e)).most)), ← c.new-page.ensures) c.put_plot.ensures
 
 pub returns-in-Err : goal.returns-in-Err
 unfolding plot_text
 returns-in-Err c =
     let e : plot_of c.args.file.now ≡ Err c.in-Err.r = sym c.of_file.ensures ∙ c.in-Err.is in
-    let t = fits c.put_refused.ensures (omega (arith, (refused c.in-Err.r).most)) in
-    record { put = rw e t.0; room = t.1 }
+    rw (e, ← fits 24576 _ (omega (arith, (refused c.in-Err.r).most)), ← c.new-page.ensures) c.put_refused.ensures

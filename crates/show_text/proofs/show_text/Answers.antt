@@ -1,5 +1,5 @@
 -- The sheet or its refusal decides, and the text fits.
-use mathlib.Core.List.{List}
+use mathlib.Core.List.{List, []}
 use mathlib.Core.Path.{◌≡◌, sym, subst, ◌∙◌}
 use Prim.Native.Nat.{ℕ, ◌≤◌}
 use native.Mathlib.Omega.{arith}
@@ -9,7 +9,6 @@ use Rattle.circuit_sheet.specs.declared.Sheet.{Sheet}
 use Rattle.circuit_sheet.specs.CircuitSheet.{sheet_of}
 use Rattle.sheet_text.specs.SheetText.{SlotsFew}
 use Rattle.sheet_text.proofs.SlotCount.{three-slots}
-use Rattle.show_page.specs.Page.{page_text}
 use Rattle.show_text.specs.ShowText.{show_text}
 use Rattle.show_page.proofs.Lengths.{page-most, refusal-most}
 use Rattle.show_text.proofs.show_text.Goals as goal
@@ -21,16 +20,14 @@ pub put_page-requires : goal.put_page-requires
 put_page-requires c = few _ c.in-Ok.s (sym c.of_file.ensures ∙ c.in-Ok.is)
 
 pub returns-in-Ok : goal.returns-in-Ok
-unfolding show_text page_text
+unfolding show_text
 returns-in-Ok c =
     let s = c.in-Ok.s in
     let e : sheet_of c.args.file.now ≡ Ok s = sym c.of_file.ensures ∙ c.in-Ok.is in
-    let p = fits c.put_page.ensures (omega (arith, (page-most s (few _ s e)).most)) in
-    record { put = rw e p.0; room = p.1 }
+    rw (e, ← fits 9216 _ (omega (arith, (page-most s (few _ s e)).most)), ← c.new-page.ensures) c.put_page.ensures
 
 pub returns-in-Err : goal.returns-in-Err
 unfolding show_text
 returns-in-Err c =
     let e : sheet_of c.args.file.now ≡ Err c.in-Err.r = sym c.of_file.ensures ∙ c.in-Err.is in
-    let p = fits c.put_refusal.ensures (omega (arith, (refusal-most c.in-Err.r).most)) in
-    record { put = rw e p.0; room = p.1 }
+    rw (e, ← fits 9216 _ (omega (arith, (refusal-most c.in-Err.r).most)), ← c.new-page.ensures) c.put_refusal.ensures
