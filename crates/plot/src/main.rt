@@ -1,4 +1,5 @@
 // Prints the picture of the circuit file on standard input.
+// Stays: beside `show`, since a function over both would take the text's function and its room, for three lines.
 #![tactic(auto)]
 
 fn main() {

@@ -23,7 +23,6 @@ fn put_named<const N: usize>(page: &mut Page<N>, k: usize, ks: usize)
 }
 
 // A panel's name, and its frame and axes; all that follows in it is measured from its own corner.
-#[tactic(auto, using(lines::proofs::Placing::putting), unfolding(crate::specs::Panels::top_text))]
 fn put_top<const N: usize>(page: &mut Page<N>, k: usize, ks: usize)
     requires { k < 3 }
     ensures { page.new ≡ with_text N page.old (top_text k ks) }

@@ -28,6 +28,7 @@ fn next() {
     plot(usize::from(u16::from_le_bytes(head)));
 }
 
+// Stays: turns are counted, and no list is read.
 fn main() {
     for _ in 0..8 {
         next();

@@ -1,4 +1,5 @@
 // Prints the sheet of the circuit file on standard input for the eye.
+// Stays: beside `plot`, since a function over both would take the text's function and its room, for three lines.
 #![tactic(auto)]
 
 fn main() {

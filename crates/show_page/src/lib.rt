@@ -11,7 +11,6 @@ use lines::Page;
 use refusal::Refusal;
 
 // A slot's number, its rows, then the runs of its marks.
-#[tactic(auto, using(lines::proofs::Placing::putting), unfolding(crate::specs::Page::slot_page))]
 fn put_slot<const N: usize>(page: &mut Page<N>, rows: &SlotRows, k: usize)
     ensures { page.new ≡ with_text N page.old (slot_page rows.now k) }
 {

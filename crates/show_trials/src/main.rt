@@ -29,6 +29,7 @@ fn next_page() -> bool {
 }
 
 // At most a hundred pages.
+// Stays: turns are counted, and no list is read.
 fn main() {
     for _ in 0..100 {
         if !next_page() {
