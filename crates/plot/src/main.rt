@@ -1,10 +1,10 @@
 // Prints the picture of the circuit file on standard input.
+// Stays: beside `show`, since a function over both would take the text's function and its room, for three lines.
 #![tactic(auto)]
 
 fn main() {
     let mut file = [0u8; sheet_text::INPUT];
     let n = io::read_full(0, &mut file);
-    let mut text = [0u8; plot_text::ROOM];
-    let len = plot_text::plot_text(&file[..n], &mut text);
-    output::write_text(&text[..len]);
+    let picture = plot_text::plot_text(&file[..n]);
+    output::write_text(picture.text());
 }
