@@ -1,8 +1,11 @@
 // What `chain` prints of files of every refusal that it gives, and of unusual chains. The stored output has the
 // paper's answers.
+// Stays: a trial's `name` and its `file` are two texts, each of its own length.
 #![tactic(auto)]
 
-use trial_files::{Form, first, first_bytes, permuted, points, record, smallest, steps, with_deciles};
+use trial_files::{
+    Form, first, first_bytes, permuted, points, record, smallest, steps, with_deciles,
+};
 
 // The text of a file, after its name.
 fn print(name: &[u8], file: &[u8]) {

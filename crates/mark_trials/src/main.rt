@@ -1,6 +1,7 @@
 // What `mark` prints of inputs that are too short or refused, of our own sheet, and of sheets that differ from it in one place. The
 // stored output has the paper's answers: the sheet of this circuit has a line of `muf`, one of `call`, one of `slot`, thirty rows and
 // fifty marks.
+// Stays: texts side by side, as a trial's name and its input, are each of their own length.
 #![tactic(auto)]
 
 ghost use Rattle.std.specs.Prelude.{◌≤◌, length};
@@ -23,7 +24,6 @@ const LAST: usize = 83;
 const MOST: usize = 53300;
 
 // What is printed of an input, after its name.
-// Stays: `name` and `input` are two texts, each of its own length; so are those of the functions below.
 fn print(name: &[u8], input: &[u8]) {
     io::write_all(1, name);
     io::write_all(1, marking::marking_text(input).text());
@@ -174,13 +174,23 @@ fn sheets() {
     replaced(b"no sheet\n", 0, REST, b"");
     replaced(b"the first line alone\n", after(1), REST, b"");
     replaced(b"all but the last line\n", after(LAST - 1), REST, b"");
-    replaced(b"three bytes of the last line\n", after(LAST - 1) + 3, REST, b"");
+    replaced(
+        b"three bytes of the last line\n",
+        after(LAST - 1) + 3,
+        REST,
+        b"",
+    );
     replaced(b"the last line feed missing\n", feed(LAST), 1, b"");
     replaced(b"an empty line too many\n", after(LAST), 0, b"\n");
     replaced(b"a space too many, at the end\n", after(LAST), 0, b" ");
     replaced(b"a space before the last line feed\n", feed(LAST), 0, b" ");
     replaced(b"a carriage return in the first line\n", feed(1), 0, b"\r");
-    replaced(b"a carriage return in the last line\n", feed(LAST), 0, b"\r");
+    replaced(
+        b"a carriage return in the last line\n",
+        feed(LAST),
+        0,
+        b"\r",
+    );
     replaced(b"an empty line in front\n", 0, 0, b"\n");
     replaced(b"the first line feed missing\n", feed(1), 1, b"");
     replaced(b"line 2 missing\n", after(1), 11, b"");

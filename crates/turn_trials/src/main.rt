@@ -1,8 +1,11 @@
 // What `narrow` makes of files of every refusal that it gives, and of unusual chains: the chain of the old file, or the
 // refusal. Then old files, widened and narrowed again. The stored output has the paper's answers.
+// Stays: a trial's `name` and its `file` are two texts, each of its own length.
 #![tactic(auto)]
 
-use trial_files::{Form, first, first_bytes, permuted, points, record, smallest, steps, with_deciles};
+use trial_files::{
+    Form, first, first_bytes, permuted, points, record, smallest, steps, with_deciles,
+};
 
 // A refusal is shorter than a record; of a file its chain is shown.
 fn show(old: &[u8]) {
