@@ -1,10 +1,9 @@
+// Prints the circuit file of the text on standard input, or the number of the first wrong line and what is wrong.
+// Stays: like the other programs but for its names; a function for all would be handed the sizes and the text, which is no less.
 #![tactic(auto)]
 
-// Prints the circuit file of the text on standard input, or the number of the first wrong line and what is wrong.
 fn main() {
     let mut text = [0u8; composing::INPUT];
     let n = io::read_full(0, &mut text);
-    let mut file = [0u8; composing::ROOM];
-    let len = composing::compose(&text[..n], &mut file);
-    output::write_text(&file[..len]);
+    output::write_text(composing::compose(&text[..n]).text());
 }
