@@ -1,10 +1,6 @@
 // Prints the picture of the circuit file on standard input.
-// Stays: beside `show`, since a function over both would take the text's function and its room, for three lines.
 #![tactic(auto)]
 
 fn main() {
-    let mut file = [0u8; sheet_text::INPUT];
-    let n = io::read_full(0, &mut file);
-    let picture = plot_text::plot_text(&file[..n]);
-    output::write_text(picture.text());
+    output::answer(&mut [0u8; sheet_text::INPUT], plot_text::plot_text);
 }
