@@ -40,14 +40,14 @@ fn put_deciles<const N: usize>(page: &mut Page<N>, lines: usize) {
     }
 }
 
-// The last line of each of these texts is blank.
+// The last line of each of these texts is blank, up to the page's end.
 fn six_points() {
     let mut page: Page<512> = Page::new();
     put_start(&mut page);
     for _i in 0..5 {
         page.put_word(POINT);
     }
-    page.put_byte(b' ');
+    aligned::put_repeated(&mut page, b' ', 512);
     print(page.text());
 }
 
@@ -56,7 +56,7 @@ fn late_point() {
     put_start(&mut page);
     put_deciles(&mut page, 1);
     page.put_word(POINT);
-    page.put_byte(b' ');
+    aligned::put_repeated(&mut page, b' ', 256);
     print(page.text());
 }
 
@@ -65,12 +65,12 @@ fn deciles() {
     let mut page: Page<2048> = Page::new();
     put_start(&mut page);
     put_deciles(&mut page, 49);
-    page.put_byte(b' ');
+    aligned::put_repeated(&mut page, b' ', 2048);
     print(page.text());
     let mut few: Page<2048> = Page::new();
     put_start(&mut few);
     put_deciles(&mut few, 7);
-    few.put_byte(b' ');
+    aligned::put_repeated(&mut few, b' ', 2048);
     print(few.text());
 }
 
