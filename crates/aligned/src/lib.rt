@@ -1,27 +1,31 @@
-// A text in a field of a given width, put into lent bytes as the crate `lines` puts text.
-#![tactic(auto)]
+// A text in a field of a given width, put on a page.
+// Stays: functions of our own and no `Display`, for the reason in crate `lines`.
+#![tactic(auto, using(lines::proofs::Placing::putting))]
 
-ghost use Rattle.lines.specs.Text.{Clipped};
+ghost use Rattle.std.specs.Prelude.{◌≡◌};
+ghost use Rattle.lines.specs.Text.{with_text};
 ghost use Rattle.aligned.specs.Aligned.{repeated, right};
 
+use lines::Page;
+
 // A byte, n times.
-pub fn put_repeated(out: &mut [u8], at: usize, b: u8, n: usize) -> usize
-    ensures { Clipped (repeated b n) out.old at out.new result }
+#[tactic(auto, using(lines::proofs::Placing::putting), unfolding(crate::specs::Aligned::repeated))]
+pub fn put_repeated<const N: usize>(page: &mut Page<N>, b: u8, n: usize)
+    ensures { page.new ≡ with_text N page.old (repeated b n) }
 {
-    let mut e = at;
     for _i in 0..n {
-        e = lines::put_byte(out, e, b);
+        page.put_byte(b);
     }
-    e
 }
 
 // A word at the right of its field; stars where it is wider.
-pub fn put_right(out: &mut [u8], at: usize, width: usize, word: &[u8]) -> usize
-    ensures { Clipped (right width word.now) out.old at out.new result }
+#[tactic(auto, using(lines::proofs::Placing::putting), unfolding(crate::specs::Aligned::right))]
+pub fn put_right<const N: usize>(page: &mut Page<N>, width: usize, word: &[u8])
+    ensures { page.new ≡ with_text N page.old (right width word.now) }
 {
     if word.len() <= width {
-        let a = put_repeated(out, at, b' ', width - word.len());
-        return lines::put_word(out, a, word);
+        put_repeated(page, b' ', width - word.len());
+        return page.put_word(word);
     }
-    put_repeated(out, at, b'*', width)
+    put_repeated(page, b'*', width);
 }

@@ -1,4 +1,6 @@
 // The arc sine: the cosine by a whole root, and then the angle by the sine of its difference from one of the table's.
+// Stays: what is asked of a sine n (n < 2^32), of what is rooted (0 < n) and of a pattern a (0x3980_0000 ≤ a), in whose other end
+// the functions differ. Each works with its number at the full width, so a narrower type would be widened in every line.
 ghost use Rattle.std.specs.Prelude.{◌≡◌, ◌+◌, ◌-◌, ◌*◌, ◌^◌, ◌<◌, ◌≤◌, get_or};
 ghost use Rattle.scalar.specs.Root.{root};
 ghost use Rattle.arc_tables.specs.Tables.{cosines};
@@ -54,6 +56,7 @@ fn guess(n: u64) -> u64
 }
 
 // the whole part of n's root, from a number not below it down by means
+// Stays: a loop that counts nothing and ends where the square is not above n.
 fn whole_root(n: u64, start: u64) -> u64
     requires { (n < (start + 1) * (start + 1)) × (start < 2 ^ 32) }
     ensures { result ≡ root n }

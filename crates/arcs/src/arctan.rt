@@ -1,4 +1,5 @@
 // The arc tangent: a table of angles with their tangents, and v - v^3 / 3 for the tangent v of what is left.
+// Stays: what is asked of a pattern a (0x3980_0000 ≤ a), since the functions differ in its other end.
 ghost use Rattle.std.specs.Prelude.{◌≡◌, ◌+◌, ◌-◌, ◌*◌, ◌/◌, ◌%◌, ◌^◌, ◌<◌, ◌≤◌};
 ghost use Rattle.arcs.specs.Atan.{cube_of, angle_of, low_angle, mid_angle, high_angle, atan_mag, atan_bits};
 
@@ -15,6 +16,7 @@ fn cube(q: u64) -> u64
 }
 
 // n / d in units of 2^-56, by two divisions
+// Stays: n and d are a quotient's two numbers at one call each, and no pair that is kept.
 fn quotient(n: u64, d: u64) -> u64
     requires { (n < 2 ^ 31) × (2 ^ 25 ≤ d) × (d ≤ 2 ^ 38) }
     ensures { result ≡ n * 2 ^ 56 / d }

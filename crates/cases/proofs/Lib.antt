@@ -1,5 +1,4 @@
 -- Cases of whole numbers, tables, and lists filled place by place.
 pub mod Cases
-pub mod Arms
 pub mod Entries
 pub mod Tabulate

@@ -1,3 +1,4 @@
--- The turns of the loop over an angle's cells, and the cells that are written.
+-- The turns of the loop over an angle's cells, the cells that are written, and an array's `map`.
 mod Turns
 mod Writes
+pub mod Maps

@@ -10,24 +10,21 @@ use lib.ListN.{length, get_or, set, get_or-map}
 use lib.Seq.{get_or-set_same, get_or-set_other}
 use Rattle.scalar.specs.F32.{◌/f◌, at}
 use Rattle.cell_test.specs.Cell.{sqcos_of, tame, khz_square_of, low_of, high_of, in_doubt, Told}
-use Rattle.cell_rows.specs.Row.{RowTold, SameBelow}
 
-pub record Turn (fv radii : List Float) (rcosd : Float) (start : ℕ) (before out : List ℕ) (doubts i : ℕ) : Type 0 where
-  pub told : (j : ℕ) → j < i → Told (at fv j) (sqcos_of (rcosd /f at radii j)) (get_or out (start + j) 0)
+pub record Turn (fv radii : List Float) (rcosd : Float) (told : List ℕ) (doubts i : ℕ) : Type 0 where
+  pub each : (j : ℕ) → j < i → Told (at fv j) (sqcos_of (rcosd /f at radii j)) (get_or told j 0)
   pub few : doubts ≤ i
-  pub sure : doubts ≡ 0 → (j : ℕ) → j < i → get_or out (start + j) 0 < in_doubt
-  pub kept : SameBelow start before out
+  pub sure : doubts ≡ 0 → (j : ℕ) → j < i → get_or told j 0 < in_doubt
 
-pub none : (fv radii : List Float) (rcosd : Float) (start : ℕ) (out : List ℕ) → Turn fv radii rcosd start out out 0 0
-none fv radii rcosd start out = record { told = λ j h. absurd (not-suc-le-zero h); few = omega arith; sure = λ e j h. absurd (not-suc-le-zero h); kept = λ j h. refl }
+pub none : (fv radii : List Float) (rcosd : Float) (told : List ℕ) → Turn fv radii rcosd told 0 0
+none fv radii rcosd told = record { each = λ j h. absurd (not-suc-le-zero h); few = omega arith; sure = λ e j h. absurd (not-suc-le-zero h) }
 
-pub next : (fv radii : List Float) (rcosd : Float) (start : ℕ) (before out : List ℕ) (doubts i r : ℕ) → start + i < length out → Turn fv radii rcosd start before out doubts i → Told (at fv i) (sqcos_of (rcosd /f at radii i)) r
-    → Turn fv radii rcosd start before (set out (start + i) r) (doubts + r / in_doubt) (suc i)
-next fv radii rcosd start before out doubts i r h t k = record {
-  told = λ j l. go j (eq-or-lt_of_le (le_of_suc-le-suc l));
+pub next : (fv radii : List Float) (rcosd : Float) (told : List ℕ) (doubts i r : ℕ) → i < length told → Turn fv radii rcosd told doubts i → Told (at fv i) (sqcos_of (rcosd /f at radii i)) r
+    → Turn fv radii rcosd (set told i r) (doubts + r / in_doubt) (suc i)
+next fv radii rcosd told doubts i r h t k = record {
+  each = λ j l. go j (eq-or-lt_of_le (le_of_suc-le-suc l));
   few = one_more doubts i r t.few k.most;
   sure = λ e j l. certain (none_before doubts r e) (this-one doubts r e) j (eq-or-lt_of_le (le_of_suc-le-suc l));
-  kept = λ j l. get_or-set_other out (start + i) j r 0 (under start j i l) ∙ t.kept j l;
 }
   where
     one_more : (d i r : ℕ) → d ≤ i → r < 2 ^ 32 → d + r / in_doubt ≤ suc i
@@ -39,36 +36,22 @@ next fv radii rcosd start before out doubts i r h t k = record {
     this-one : (d r : ℕ) → d + r / in_doubt ≡ 0 → r < in_doubt
     this-one d r e = omega arith
 
-    under : (s j i : ℕ) → j < s → j ≡ s + i → ⊥
-    under s j i l e = omega arith
+    apart : (j i : ℕ) → j < i → j ≡ i → ⊥
+    apart j i l e = omega arith
 
-    apart : (s j i : ℕ) → j < i → s + j ≡ s + i → ⊥
-    apart s j i l e = omega arith
+    stays : (j : ℕ) → j < i → get_or (set told i r) j 0 ≡ get_or told j 0
+    stays j l = get_or-set_other told i j r 0 (apart j i l)
 
-    stays : (j : ℕ) → j < i → get_or (set out (start + i) r) (start + j) 0 ≡ get_or out (start + j) 0
-    stays j l = get_or-set_other out (start + i) (start + j) r 0 (apart start j i l)
+    set_here : (j : ℕ) → j ≡ i → get_or (set told i r) j 0 ≡ r
+    set_here j e = ap (λ (z : ℕ). get_or (set told i r) z 0) e ∙ get_or-set_same told i r 0 h
 
-    set_here : (j : ℕ) → j ≡ i → get_or (set out (start + i) r) (start + j) 0 ≡ r
-    set_here j e = ap (λ (z : ℕ). get_or (set out (start + i) r) (start + z) 0) e ∙ get_or-set_same out (start + i) r 0 h
-
-    go : (j : ℕ) → (j ≡ i) ⊎ (j < i) → Told (at fv j) (sqcos_of (rcosd /f at radii j)) (get_or (set out (start + i) r) (start + j) 0)
+    go : (j : ℕ) → (j ≡ i) ⊎ (j < i) → Told (at fv j) (sqcos_of (rcosd /f at radii j)) (get_or (set told i r) j 0)
     go j (inl e) = subst (λ (z : ℕ). Told (at fv j) (sqcos_of (rcosd /f at radii j)) z) (sym (set_here j e)) (subst (λ (z : ℕ). Told (at fv z) (sqcos_of (rcosd /f at radii z)) r) (sym e) k)
-    go j (inr l) = subst (λ (z : ℕ). Told (at fv j) (sqcos_of (rcosd /f at radii j)) z) (sym (stays j l)) (t.told j l)
+    go j (inr l) = subst (λ (z : ℕ). Told (at fv j) (sqcos_of (rcosd /f at radii j)) z) (sym (stays j l)) (t.each j l)
 
-    certain : doubts ≡ 0 → r < in_doubt → (j : ℕ) → (j ≡ i) ⊎ (j < i) → get_or (set out (start + i) r) (start + j) 0 < in_doubt
+    certain : doubts ≡ 0 → r < in_doubt → (j : ℕ) → (j ≡ i) ⊎ (j < i) → get_or (set told i r) j 0 < in_doubt
     certain e f j (inl x) = subst (λ (z : ℕ). z < in_doubt) (sym (set_here j x)) f
     certain e f j (inr l) = subst (λ (z : ℕ). z < in_doubt) (sym (stays j l)) (t.sure e j l)
-
--- what is told of an angle stays, where the places above it are written
-pub told_below : (fv radii : List Float) (rcosd : Float) (start : ℕ) (before after : List ℕ) (doubts upper : ℕ) → start + 32 ≤ upper → SameBelow upper before after → RowTold fv radii rcosd start before doubts
-    → RowTold fv radii rcosd start after doubts
-told_below fv radii rcosd start before after doubts upper h k t = record {
-  told = λ i l. subst (λ (z : ℕ). Told (at fv i) (sqcos_of (rcosd /f at radii i)) z) (sym (k (start + i) (in-range start i upper l h))) (t.told i l);
-  sure = λ e i l. subst (λ (z : ℕ). z < in_doubt) (sym (k (start + i) (in-range start i upper l h))) (t.sure e i l);
-}
-  where
-    in-range : (s i u : ℕ) → i < 32 → s + 32 ≤ u → s + i < u
-    in-range s i u l h = omega arith
 
 -- ---- a bound of the list of bounds
 low-nan : low_of nan ≡ nan

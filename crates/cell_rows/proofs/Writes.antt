@@ -1,4 +1,4 @@
--- The cells keep their number; and thirty cells told without a doubt are the row.
+-- The cells keep their number.
 use mathlib.Core.Path.{◌≡◌, refl, sym, ap₂, ◌∙◌}
 use mathlib.Core.List.{List}
 use Prim.Native.Nat.{ℕ, zero, suc, ◌+◌, ◌*◌, ◌≤◌, ◌<◌}
@@ -8,27 +8,14 @@ use lib.Ieee.{Float}
 use lib.ListN.{length, set, get_or, length-set}
 use Rattle.scalar.specs.F32.{◌/f◌, at}
 use Rattle.cell_test.specs.Cell.{khz_of, sqcos_of}
-use Rattle.cell_rows.specs.Row.{RowTold, angle_cells_of, stored_of, cell_scan_of}
+use Rattle.cell_rows.specs.Row.{angle_cells_of, cell_scan_of}
 
 pub length-row : (fv radii : List Float) (rcosd : Float) (from : ℕ) (cells : List ℤ) (n : ℕ) → length (angle_cells_of fv radii rcosd from cells n) ≡ length cells
 unfolding angle_cells_of
 length-row fv radii rcosd from cells zero = refl
 length-row fv radii rcosd from cells (suc n) = length-set (angle_cells_of fv radii rcosd from cells n) (from + n) (khz_of (at fv n) (sqcos_of (rcosd /f at radii n))) ∙ length-row fv radii rcosd from cells n
 
-pub length-stored : (out : List ℕ) (start from : ℕ) (cells : List ℤ) (n : ℕ) → length (stored_of out start from cells n) ≡ length cells
-unfolding stored_of
-length-stored out start from cells zero = refl
-length-stored out start from cells (suc n) = length-set (stored_of out start from cells n) (from + n) (pos (get_or out (start + n) 0)) ∙ length-stored out start from cells n
-
 pub length-scan : (rcosds fv radii : List Float) (cells : List ℤ) (n : ℕ) → length (cell_scan_of rcosds fv radii cells n) ≡ length cells
 unfolding cell_scan_of
 length-scan rcosds fv radii cells zero = refl
 length-scan rcosds fv radii cells (suc n) = length-row fv radii (at rcosds n) (30 * n) (cell_scan_of rcosds fv radii cells n) 30 ∙ length-scan rcosds fv radii cells n
-
-pub stored_row : {fv radii : List Float} {rcosd : Float} {start : ℕ} {out : List ℕ} {doubts : ℕ} (from : ℕ) (cells : List ℤ) → RowTold fv radii rcosd start out doubts → doubts ≡ 0 → (n : ℕ) → n ≤ 30
-    → stored_of out start from cells n ≡ angle_cells_of fv radii rcosd from cells n
-unfolding angle_cells_of stored_of
-stored_row from cells t e zero h = refl
-stored_row from cells t e (suc n) h =
-    let l : n < 32 = omega arith in
-    ap₂ (λ (cs : List ℤ) (z : ℤ). set cs (from + n) z) (stored_row from cells t e n (omega arith)) (sym ((t.told n l).right (t.sure e n l)))

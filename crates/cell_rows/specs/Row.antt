@@ -3,28 +3,15 @@ use Rattle.std.specs.Prelude.{◌≡◌, List, ℕ, zero, suc, ◌+◌, ◌*◌,
 use Rattle.scalar.specs.F32.{◌/f◌, at}
 use Rattle.cell_test.specs.Cell.{khz_of, sqcos_of, in_doubt, Told}
 
--- What is answered for the frequencies fv and the radii at their heights, from the place `start` on: each cell or that it is in doubt, and how many are.
-pub record RowTold (fv radii : List Float) (rcosd : Float) (start : ℕ) (out : List ℕ) (doubts : ℕ) : Type 0 where
-  pub told : (i : ℕ) → i < 32 → Told (at fv i) (sqcos_of (rcosd /f at radii i)) (get_or out (start + i) 0)
-  pub sure : doubts ≡ 0 → (i : ℕ) → i < 32 → get_or out (start + i) 0 < in_doubt
-
--- the places below `start` hold what they held
-abbrev pub SameBelow : ℕ → List ℕ → List ℕ → Type 0
-SameBelow start before after = (j : ℕ) → j < start → get_or after j 0 ≡ get_or before j 0
-
--- so for each of n angles, thirty-two places an angle
-abbrev pub ScanTold : List Float → List Float → List Float → List ℕ → List ℕ → ℕ → Type 0
-ScanTold rcosds fv radii out doubts n = (a : ℕ) → a < n → RowTold fv radii (at rcosds a) (32 * a) out (get_or doubts a 0)
+-- What is told for the frequencies fv and the radii at their heights: each cell or that it is in doubt, and how many are.
+pub record RowTold (fv radii : List Float) (rcosd : Float) (told : List ℕ) (doubts : ℕ) : Type 0 where
+  pub each : (i : ℕ) → i < 32 → Told (at fv i) (sqcos_of (rcosd /f at radii i)) (get_or told i 0)
+  pub sure : doubts ≡ 0 → (i : ℕ) → i < 32 → get_or told i 0 < in_doubt
 
 -- n cells of an angle, from the cell `from` on
 unfoldable pub angle_cells_of : List Float → List Float → Float → ℕ → List ℤ → ℕ → List ℤ
 angle_cells_of fv radii rcosd from cells zero = cells
 angle_cells_of fv radii rcosd from cells (suc n) = set (angle_cells_of fv radii rcosd from cells n) (from + n) (khz_of (at fv n) (sqcos_of (rcosd /f at radii n)))
-
--- n numbers, from the place `start` on, written there
-unfoldable pub stored_of : List ℕ → ℕ → ℕ → List ℤ → ℕ → List ℤ
-stored_of out start from cells zero = cells
-stored_of out start from cells (suc n) = set (stored_of out start from cells n) (from + n) (pos (get_or out (start + n) 0))
 
 -- thirty cells for each of n angles
 unfoldable pub cell_scan_of : List Float → List Float → List Float → List ℤ → ℕ → List ℤ

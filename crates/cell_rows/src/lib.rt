@@ -1,11 +1,13 @@
 // The cells of one angle, guessed together. The loops run over thirty-two places and have no branch,
 // so that four places are worked out at once.
+// Stays: they count a place, since a turn reads or writes up to five lists there, and cells lie thirty
+// an angle where the guesses have thirty-two; a caller in C lends the cells.
 #![tactic(auto)]
 
 ghost use Rattle.std.specs.Prelude.{◌≡◌, map, ℕ, ◌+◌, ◌*◌, ◌≤◌, ◌<◌, length, take, get_or};
 ghost use Rattle.scalar.specs.F32.{◌/f◌, at as number_at};
 ghost use Rattle.cell_test.specs.Cell.{khz_of, sqcos_of, low_of, high_of, in_doubt, Told};
-ghost use Rattle.cell_rows.specs.Row.{RowTold, SameBelow, ScanTold, angle_cells_of, stored_of, cell_scan_of};
+ghost use Rattle.cell_rows.specs.Row.{RowTold, angle_cells_of, cell_scan_of};
 
 use cell_test::IN_DOUBT;
 
@@ -14,58 +16,21 @@ pub fn padded(x: [f32; 30]) -> [f32; 32]
     ensures { take 30 result ≡ x }
 {
     let mut r = [0.0123456; 32];
-    for i in 0..30 {
-        r[i] = x[i];
-    }
+    r[..30].copy_from_slice(&x);
     r
 }
 
-// The lower bounds of the test.
-pub fn lows(fv: [f32; 32]) -> [f32; 32]
-    ensures { result ≡ map low_of fv }
+// What a function gives of each of thirty-two numbers. Stays: an array's own `map` is no loop that is
+// unrolled and done four places at a time, and a scan takes two hundredths longer by it.
+pub fn each<F: Fn(f32) -> f32>(x: [f32; 32], f: F) -> [f32; 32]
+    requires { F.IsAlwaysCallable f }
+    ensures { (i : ℕ) → i < 32 → F.post f (number_at x i) (number_at result i) }
 {
-    let mut r = fv;
+    let mut r = x;
     for i in 0..32 {
-        let b = cell_test::low(fv[i]);
-        r[i] = b;
+        r[i] = f(x[i]);
     }
     r
-}
-
-// And the upper ones.
-pub fn highs(fv: [f32; 32]) -> [f32; 32]
-    ensures { result ≡ map high_of fv }
-{
-    let mut r = fv;
-    for i in 0..32 {
-        let b = cell_test::high(fv[i]);
-        r[i] = b;
-    }
-    r
-}
-
-// The cells for an angle into the places from `at` on, `IN_DOUBT` or more where one is in doubt, and how
-// many are.
-fn row(
-    fv: &[f32; 32],
-    radii: &[f32; 32],
-    low: &[f32; 32],
-    high: &[f32; 32],
-    rcosd: f32,
-    at: usize,
-    out: &mut [u32],
-) -> u32
-    requires { (low.now ≡ map low_of fv.now) × (high.now ≡ map high_of fv.now) × (at + 32 ≤ length out.old) }
-    ensures { RowTold fv.now radii.now rcosd at out.new result × SameBelow at out.old out.new }
-{
-    let mut doubts = 0u32;
-    for i in 0..32 {
-        let sqcos = cell_test::squared_cosine(rcosd / radii[i]);
-        let r = cell_test::cell(fv[i], sqcos, low[i], high[i]);
-        out[at + i] = r;
-        doubts += r / IN_DOUBT;
-    }
-    doubts
 }
 
 // The cell that was told, and worked out where it is in doubt.
@@ -79,119 +44,76 @@ fn mended(told: u32, fvv: f32, rcosd: f32, radius: f32) -> i32
     cell_test::khz(fvv, cell_test::squared_cosine(rcosd / radius))
 }
 
-// The thirty cells, none of them in doubt.
-fn store(out: &[u32], at: usize, from: usize, cells: &mut [i32])
-    requires { (from + 30 ≤ length cells.old) × (at + 32 ≤ length out.now) × ((i : ℕ) → i < 32 → get_or out.now (at + i) 0 < in_doubt) }
-    ensures { cells.new ≡ stored_of out.now at from cells.old 30 }
-{
-    for i in 0..30 {
-        cells[from + i] = out[at + i] as i32;
-    }
+// The rows as they are laid out for all angles: each row's frequency, its distance from the Earth's
+// centre, and the bounds of the test that follow from the frequency.
+#[derive(Clone, Copy, Debug, PartialEq)]
+pub struct Rows {
+    pub fv: [f32; 32],
+    pub radii: [f32; 32],
+    pub low: [f32; 32],
+    pub high: [f32; 32],
+    pub ghost lows: { low ≡ map low_of fv },
+    pub ghost highs: { high ≡ map high_of fv },
 }
 
-// And where some are.
-fn mend(
-    fv: &[f32; 32],
-    radii: &[f32; 32],
-    rcosd: f32,
-    out: &[u32],
-    at: usize,
-    from: usize,
-    cells: &mut [i32],
-)
-    requires { (from + 30 ≤ length cells.old) × (at + 32 ≤ length out.now) × ((i : ℕ) → i < 32 → Told (number_at fv.now i) (sqcos_of (rcosd /f number_at radii.now i)) (get_or out.now (at + i) 0)) }
-    ensures { cells.new ≡ angle_cells_of fv.now radii.now rcosd from cells.old 30 }
-{
-    for i in 0..30 {
-        let c = mended(out[at + i], fv[i], rcosd, radii[i]);
-        cells[from + i] = c;
-    }
-}
-
-// The thirty cells of an angle, from the cell `from` on, out of the places from `at` on.
-fn angle_cells(
-    fv: &[f32; 32],
-    radii: &[f32; 32],
-    rcosd: f32,
-    doubts: u32,
-    out: &[u32],
-    at: usize,
-    from: usize,
-    cells: &mut [i32],
-)
-    requires { (from + 30 ≤ length cells.old) × (at + 32 ≤ length out.now) × RowTold fv.now radii.now rcosd at out.now doubts }
-    ensures { cells.new ≡ angle_cells_of fv.now radii.now rcosd from cells.old 30 }
-{
-    if doubts == 0 {
-        store(out, at, from, cells);
-        return;
-    }
-    mend(fv, radii, rcosd, out, at, from, cells);
-}
-
-// What is told of the cells of each angle, thirty-two places an angle. No test stands between the
-// angles, so that none waits for the one before.
-fn guesses(
-    rcosds: &[f32; 40],
-    fv: &[f32; 32],
-    radii: &[f32; 32],
-    low: &[f32; 32],
-    high: &[f32; 32],
-    nang: usize,
-    out: &mut [u32],
-    doubts: &mut [u32],
-)
-    requires { (nang ≤ 40) × (low.now ≡ map low_of fv.now) × (high.now ≡ map high_of fv.now) × (32 * nang ≤ length out.old) × (nang ≤ length doubts.old) }
-    ensures { ScanTold rcosds.now fv.now radii.now out.new doubts.new nang }
-{
-    for ia in 0..nang {
-        let d = row(fv, radii, low, high, rcosds[ia], 32 * ia, out);
-        doubts[ia] = d;
-    }
-}
-
-// The cells of each angle, out of what was told.
-fn all_cells(
-    rcosds: &[f32; 40],
-    fv: &[f32; 32],
-    radii: &[f32; 32],
-    nang: usize,
-    out: &[u32],
-    doubts: &[u32],
-    cells: &mut [i32],
-)
-    requires { (nang ≤ 40) × (30 * nang ≤ length cells.old) × (32 * nang ≤ length out.now) × (nang ≤ length doubts.now) × ScanTold rcosds.now fv.now radii.now out.now doubts.now nang }
-    ensures { cells.new ≡ cell_scan_of rcosds.now fv.now radii.now cells.old nang }
-{
-    for ia in 0..nang {
-        angle_cells(
+impl Rows {
+    pub fn new(fv: [f32; 32], radii: [f32; 32]) -> Self
+        ensures fv { result.fv ≡ fv }
+        ensures radii { result.radii ≡ radii }
+    {
+        Rows {
             fv,
             radii,
-            rcosds[ia],
-            doubts[ia],
-            out,
-            32 * ia,
-            30 * ia,
-            cells,
-        );
+            low: each(fv, |f| cell_test::low(f)),
+            high: each(fv, |f| cell_test::high(f)),
+        }
     }
-}
 
-// The cells of the first `nang` angles.
-pub fn scan(
-    rcosds: &[f32; 40],
-    fv: &[f32; 32],
-    radii: &[f32; 32],
-    low: &[f32; 32],
-    high: &[f32; 32],
-    nang: usize,
-    cells: &mut [i32],
-)
-    requires { (nang ≤ 40) × (30 * nang ≤ length cells.old) × (low.now ≡ map low_of fv.now) × (high.now ≡ map high_of fv.now) }
-    ensures { cells.new ≡ cell_scan_of rcosds.now fv.now radii.now cells.old nang }
-{
-    let mut out = [0u32; 1280];
-    let mut doubts = [0u32; 40];
-    guesses(rcosds, fv, radii, low, high, nang, &mut out, &mut doubts);
-    all_cells(rcosds, fv, radii, nang, &out, &doubts, cells);
+    // The cells for an angle, `IN_DOUBT` or more where one is in doubt, and how many are.
+    fn guess(&self, rcosd: f32, told: &mut [u32; 32]) -> u32
+        ensures { RowTold self.now.fv self.now.radii rcosd told.new result }
+    {
+        let mut doubts = 0u32;
+        for i in 0..32 {
+            let sqcos = cell_test::squared_cosine(rcosd / self.radii[i]);
+            let r = cell_test::cell(self.fv[i], sqcos, self.low[i], self.high[i]);
+            told[i] = r;
+            doubts += r / IN_DOUBT;
+        }
+        doubts
+    }
+
+    // The thirty cells of an angle, from the cell `from` on, out of what was guessed.
+    fn settle(&self, rcosd: f32, doubts: u32, told: &[u32; 32], from: usize, cells: &mut [i32])
+        requires { (from + 30 ≤ length cells.old) × RowTold self.now.fv self.now.radii rcosd told.now doubts }
+        ensures { cells.new ≡ angle_cells_of self.now.fv self.now.radii rcosd from cells.old 30 }
+    {
+        if doubts == 0 {
+            for i in 0..30 {
+                cells[from + i] = told[i] as i32;
+            }
+            return;
+        }
+        for i in 0..30 {
+            let c = mended(told[i], self.fv[i], rcosd, self.radii[i]);
+            cells[from + i] = c;
+        }
+    }
+
+    // The cells of the first `nang` angles, all guessed before one is settled: no test stands between
+    // the guesses of two angles, so that none waits for the one before.
+    pub fn scan(&self, rcosds: &[f32; 40], nang: usize, cells: &mut [i32])
+        requires { (nang ≤ 40) × (30 * nang ≤ length cells.old) }
+        ensures { cells.new ≡ cell_scan_of rcosds.now self.now.fv self.now.radii cells.old nang }
+    {
+        let mut told = [[0u32; 32]; 40];
+        let mut doubts = [0u32; 40];
+        for ia in 0..nang {
+            let d = self.guess(rcosds[ia], &mut told[ia]);
+            doubts[ia] = d;
+        }
+        for ia in 0..nang {
+            self.settle(rcosds[ia], doubts[ia], &told[ia], 30 * ia, cells);
+        }
+    }
 }

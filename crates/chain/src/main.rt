@@ -2,9 +2,5 @@
 #![tactic(auto)]
 
 fn main() {
-    let mut file = [0u8; chain_text::INPUT];
-    let n = io::read_full(0, &mut file);
-    let mut text = [0u8; chain_text::ROOM];
-    let len = chain_text::chain_text(&file[..n], &mut text);
-    output::write_text(&text[..len]);
+    output::answer(&mut [0u8; chain_text::INPUT], chain_text::chain_text);
 }

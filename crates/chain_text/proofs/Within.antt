@@ -1,9 +1,10 @@
 -- Every record of a chain that was followed to its end is in the file, and there are at most 64 of them. So the text has at most 4,057 bytes: a line has three numbers of at most twenty digits, two spaces and the line feed.
 use mathlib.Core.Path.{◌≡◌}
 use mathlib.Core.List.{List}
-use Prim.Native.Nat.{ℕ, ◌+◌, ◌*◌, ◌≤◌}
+use Prim.Native.Nat.{ℕ, ◌+◌, ◌*◌, ◌≤◌, ◌<◌}
 use native.Mathlib.Omega.{arith}
-use lib.ListN.{length, get_or}
+use lib.ListN.{length, get_or, take, length-take}
+use lib.Seq.{get_or-take}
 use Rattle.std.specs.Prelude.{Ok}
 use Rattle.lines.proofs.Sizes.{AtMost, ◌then◌, word, line-feed, decimal, field, times}
 use Rattle.record_chain.specs.declared.Chain.{Chain}
@@ -19,6 +20,13 @@ within f k e =
     let t : Followed form64 f k = followed form64 fit64 f k e in
     let n = count-range form64 f k t in
     (omega (arith, t.head.most, n.1), there form64 f k t)
+
+-- the record of a step, in the list that a loop goes along
+pub step_there : (f : List ℕ) (k : Chain) (i : ℕ) → chain_of form64 f ≡ Ok k → i < length (take k.count k.order)
+    → 64 * get_or (take k.count k.order) i 0 + 64 ≤ length f
+step_there f k i e h =
+    let l : i < k.count = let m = length-take k.count k.order in omega arith in
+    rw (get_or-take k.count k.order i 0 l) ((within f k e).1 i)
 
 step-most : (r : List ℕ) (n : ℕ) → AtMost (step_line r n) 63
 unfolding step_line

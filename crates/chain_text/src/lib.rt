@@ -1,72 +1,55 @@
 // What `chain` prints of a circuit file, as bytes.
-#![tactic(auto)]
+// Stays: functions of our own and no `Display`, for the reason in crate `lines`.
+#![tactic(auto, using(lines::proofs::Placing::putting))]
 
-ghost use Rattle.std.specs.Prelude.{Ok, ℕ, ◌+◌, ◌*◌, ◌≤◌, ◌≡◌, length, get_or};
-ghost use Rattle.io.specs.Counts.{IsPrefixLen};
-ghost use Rattle.lines.specs.Text.{joined, Clipped, Put};
+ghost use Rattle.std.specs.Prelude.{Ok, ◌≡◌, length};
+ghost use Rattle.lines.specs.Text.{with_text};
 ghost use Rattle.records.specs.Record.{form64};
 ghost use Rattle.record_chain.specs.Chain.{chain_of};
-ghost use Rattle.chain_text.specs.ChainText.{step_line, step_line_at, end_line, followed_text, chain_text};
+ghost use Rattle.chain_text.specs.ChainText.{step_line, followed_text, chain_text};
 
+use lines::Page;
 use record_chain::Chain;
 
 // A step of the chain: the record's number, its kind and its next index.
-fn put_step(out: &mut [u8], at: usize, r: &[u8], n: usize) -> usize
-    requires { length r.now ≡ 64 }
-    ensures { Clipped (step_line r.now n) out.old at out.new result }
+#[tactic(auto, using(lines::proofs::Placing::putting), unfolding(crate::specs::ChainText::step_line))]
+fn put_step<const N: usize>(page: &mut Page<N>, n: usize, bytes: &[u8])
+    requires { length bytes.now ≡ 64 }
+    ensures { page.new ≡ with_text N page.old (step_line bytes.now n) }
 {
-    let kind = records::half(r, 0);
-    let next = records::half(r, 2);
-    let a = lines::put_decimal(out, at, n as u64);
-    let b = lines::put_field(out, a, kind as u64);
-    let c = lines::put_field(out, b, next as u64);
-    lines::put_byte(out, c, b'\n')
+    page.put_decimal(n as u64);
+    page.put_field(records::half(bytes, 0) as u64);
+    page.put_field(records::half(bytes, 2) as u64);
+    page.put_byte(b'\n');
 }
 
-fn put_steps(out: &mut [u8], file: &[u8], order: [usize; 64], count: usize) -> usize
-    requires { (count ≤ 64) × ((i : ℕ) → 64 * get_or order i 0 + 64 ≤ length file.now) }
-    ensures { Clipped (joined (step_line_at file.now order) count) out.old 0 out.new result }
+// The steps, then their count.
+#[tactic(auto, using(lines::proofs::Placing::putting, crate::proofs::Within::step_there), unfolding(crate::specs::ChainText::followed_text, crate::specs::ChainText::end_line))]
+fn put_chain<const N: usize>(page: &mut Page<N>, file: &[u8], chain: &Chain)
+    requires { chain_of form64 file.now ≡ Ok chain.now }
+    ensures { page.new ≡ with_text N page.old (followed_text file.now chain.now) }
 {
-    let mut at = 0;
-    for i in 0..count {
-        let n = order[i];
-        at = put_step(out, at, &file[64 * n..64 * n + 64], n);
+    for n in &chain.order[..chain.count] {
+        put_step(page, *n, &file[64 * n..64 * n + 64]);
     }
-    at
+    page.put_word(b"end ");
+    page.put_decimal(chain.count as u64);
+    page.put_byte(b'\n');
 }
 
-fn put_end(out: &mut [u8], at: usize, count: usize) -> usize
-    ensures { Clipped (end_line count) out.old at out.new result }
-{
-    let a = lines::put_word(out, at, b"end ");
-    let b = lines::put_decimal(out, a, count as u64);
-    lines::put_byte(out, b, b'\n')
-}
-
-fn put_chain(out: &mut [u8], file: &[u8], c: Chain) -> usize
-    requires { chain_of form64 file.now ≡ Ok c }
-    ensures { Clipped (followed_text file.now c) out.old 0 out.new result }
-{
-    let order = c.order;
-    let count = c.count;
-    let at = put_steps(out, file, order, count);
-    put_end(out, at, count)
-}
-
-// The bytes that a program reads: a record more than the longest file, so that a longer one is seen to be
-// too long.
+// The bytes that a program reads: a record more than the longest file, so that a longer one is seen to be too long.
 pub const INPUT: usize = 4160;
 
-// The bytes that a text is put into: one of 64 steps has room.
+// The bytes of a page: the text of 64 steps has room.
 pub const ROOM: usize = 4096;
 
-// Puts the text at the start of out, and answers its length.
-pub fn chain_text(file: &[u8], out: &mut [u8; ROOM]) -> usize
-    ensures put { Put (chain_text file.now) out.old 0 out.new result }
-    ensures room { IsPrefixLen result out.new }
+pub fn chain_text(file: &[u8]) -> Page<ROOM>
+    ensures { result ≡ chain_text file.now }
 {
+    let mut page = Page::new();
     match record_chain::follow(file) {
-        Ok(c) => put_chain(out, file, c),
-        Err(r) => lines::put_refused(out, 0, r),
+        Ok(chain) => put_chain(&mut page, file, &chain),
+        Err(r) => page.put_refused(r),
     }
+    page
 }

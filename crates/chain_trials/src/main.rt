@@ -1,39 +1,27 @@
 // What `chain` prints of files of every refusal that it gives, and of unusual chains. The stored output has the
 // paper's answers.
+// Stays: a trial's `name` and its `file` are two texts, each of its own length.
 #![tactic(auto)]
 
-ghost use Rattle.std.specs.Prelude.{◌≤◌};
-
-use chain_text::ROOM;
 use trial_files::{
-    File, Form, first, first_bytes, permuted, points, record, smallest, steps, with_deciles,
+    Form, first, first_bytes, permuted, points, record, smallest, steps, with_deciles,
 };
 
 // The text of a file, after its name.
 fn print(name: &[u8], file: &[u8]) {
     io::write_all(1, name);
-    let mut text = [0u8; ROOM];
-    let len = chain_text::chain_text(file, &mut text);
-    io::write_all(1, &text[..len]);
-}
-
-// The same of the first n bytes.
-fn print_bytes(name: &[u8], f: File, n: usize)
-    requires { n ≤ 4160 }
-{
-    let bytes = f.bytes;
-    print(name, &bytes[..n]);
+    io::write_all(1, chain_text::chain_text(file).text());
 }
 
 fn lengths() {
     let f = smallest(Form::Old);
-    print_bytes(b"64 bytes\n", f, 64);
-    print_bytes(b"127 bytes\n", f, 127);
-    print_bytes(b"128 bytes\n", f, 128);
-    print_bytes(b"129 bytes\n", f, 129);
-    print_bytes(b"4096 bytes\n", f, 4096);
-    print_bytes(b"4160 bytes\n", f, 4160);
-    print_bytes(b"no bytes\n", f, 0);
+    print(b"64 bytes\n", &f.bytes[..64]);
+    print(b"127 bytes\n", &f.bytes[..127]);
+    print(b"128 bytes\n", &f.bytes[..128]);
+    print(b"129 bytes\n", &f.bytes[..129]);
+    print(b"4096 bytes\n", &f.bytes[..4096]);
+    print(b"4160 bytes\n", &f.bytes[..4160]);
+    print(b"no bytes\n", &f.bytes[..0]);
 }
 
 fn first_record() {

@@ -3,9 +3,11 @@ use Prim.Native.Nat.{ℕ, zero, suc, ◌+◌, ◌*◌, ◌-◌, ◌≤◌, ◌<�
 use mathlib.Core.Path.{◌≡◌, refl, ap, ◌∙◌}
 use mathlib.Core.List.{List, ◌++◌}
 use native.Mathlib.Omega.{arith}
-use native.Mathlib.Nat.{le_antisymm}
+use native.Mathlib.Nat.{le_antisymm, le_refl, zero-add}
 use native.Mathlib.Numerals.{add-one}
-use lib.ListN.{length, get_or, take, drop, length-append}
+use lib.ListN.{length, get_or, take, drop, length-append, length-drop}
+use lib.Seq.{length-take-le}
+use Rattle.std.proofs.lemmas.List.{get_or-take, get_or-drop}
 use Rattle.records.specs.declared.Form.{Form}
 use Rattle.record_chain.specs.Chain.{padded}
 use Rattle.records.proofs.Lists.{part, length-after}
@@ -59,3 +61,30 @@ module _ (o : Form) (f order : List ℕ) (from skip words : ℕ) where
 
     pub read-end : most ≤ i → xs ≡ padded N (numbers_of o f order from skip words most)
     read-end l = h.1.1 ∙ ap (λ (n : ℕ). padded N (numbers_of o f order from skip words n)) (le_antisymm h.0 l)
+
+-- the same of a part of the list, which begins at `from`
+pub numbers-cut : (o : Form) (f order : List ℕ) (from k skip words n : ℕ) → n ≤ k
+    → numbers_of o f (take k (drop from order)) 0 skip words n ≡ numbers_of o f order from skip words n
+unfolding numbers_of
+numbers-cut o f order from k skip words zero h = refl
+numbers-cut o f order from k skip words (suc n) h =
+    let e : get_or (take k (drop from order)) (0 + n) 0 ≡ get_or order (from + n) 0
+    = ap (λ (i : ℕ). get_or (take k (drop from order)) i 0) (zero-add n) ∙ get_or-take k (drop from order) n 0 (omega arith) ∙ get_or-drop from order n 0 in
+    rw (e, numbers-cut o f order from k skip words n (omega arith))
+
+length-cut : (order : List ℕ) (from k : ℕ) → from + k ≤ length order → length (take k (drop from order)) ≡ k
+length-cut order from k h = length-take-le k (drop from order) (simp length-drop (omega arith))
+
+pub numbers-part : (o : Form) (f order : List ℕ) (from k n skip words : ℕ) → k ≡ n → from + k ≤ length order
+    → numbers_of o f (take k (drop from order)) 0 skip words (length (take k (drop from order))) ≡ numbers_of o f order from skip words n
+numbers-part o f order from k n skip words e h =
+    rw (length-cut order from k h, ← e) (numbers-cut o f order from k skip words k (le_refl k))
+
+-- and each record of the part is in the file, where each of the list is
+pub part-there : (o : Form) (f order : List ℕ) (from k most : ℕ) → ((i : ℕ) → o.size * get_or order i 0 + o.size ≤ length f)
+    → k ≤ most → from + k ≤ length order
+    → (length (take k (drop from order)) ≤ most)
+    × ((i : ℕ) → i < length (take k (drop from order)) → o.size * get_or (take k (drop from order)) i 0 + o.size ≤ length f)
+part-there o f order from k most t m h =
+    let e = length-cut order from k h in
+    (omega (arith, e), λ i l. rw (get_or-take k (drop from order) i 0 (omega (arith, e)), get_or-drop from order i 0) (t (from + i)))

@@ -18,7 +18,8 @@ use refusal::Refusal;
 
 // A point is fifteen words: fi, yi, hi and Es fs, three each, hs, clat, clck. The words past the km points are no part of the
 // circuit: the reader leaves them zero, the writer does not look at them.
-#[derive(Clone, Copy)]
+// Stays: `shape` is a number, as `km` is, since a caller may hand any to the writer, which refuses it by number.
+#[derive(Clone, Copy, Debug, PartialEq, Eq)]
 pub struct Circuit {
     pub km: usize,
     pub shape: usize,
@@ -42,11 +43,11 @@ pub fn read(file: &[u8]) -> Result<Circuit, Refusal>
 pub fn has_deciles(c: Circuit) -> bool
     ensures { result ≡ not (all_zero c.deciles) }
 {
-    let d = c.deciles;
-    !numbers::all_zero(&d)
+    !numbers::all_zero(&c.deciles)
 }
 
 // Word j of point i, as the number whose bits it is.
+// Stays: i and j count points and words of a point, as in the definition.
 pub fn point_number(points: &[u32; 75], i: usize, j: usize) -> f32
     requires { (i < 5) × (j < 15) }
     ensures { result ≡ point_number points.now i j }
@@ -59,12 +60,11 @@ pub fn decile_table(c: Circuit) -> [f32; 576]
     ensures { result ≡ map (of_bits binary32) c.deciles }
 {
     let mut table = [0.0; 576];
-    let d = c.deciles;
-    if numbers::all_zero(&d) {
+    if numbers::all_zero(&c.deciles) {
         return table;
     }
-    for i in 0..576 {
-        table[i] = scalar::number(d[i]);
+    for (i, w) in c.deciles.iter().enumerate() {
+        table[i] = scalar::number(*w);
     }
     table
 }

@@ -1,6 +1,6 @@
 // The numbers of a circuit, read along its chain. `read_point`, `read_deciles` and `joined` take a record of any form; `points`,
 // `deciles` and `circuit` hand them those of a file with 64-byte records.
-ghost use Rattle.std.specs.Prelude.{◌≡◌, Ok, ℕ, ◌+◌, ◌*◌, ◌≤◌, length, get_or};
+ghost use Rattle.std.specs.Prelude.{◌≡◌, Ok, ℕ, ◌+◌, ◌*◌, ◌≤◌, ◌<◌, length, get_or};
 ghost use Rattle.records.specs.Record.{form64, record_words, all_zero};
 ghost use Rattle.record_chain.specs.Chain.{chain_of, padded};
 ghost use Rattle.circuit.specs.Read.{numbers_of, circuit_by, circuit_of, no_circuit};
@@ -9,6 +9,7 @@ use crate::Circuit;
 use record_chain::Chain;
 
 // The fifteen words of a point.
+// Stays: a reader is handed the record r as its part of the file, and the words `out` of its point to fill.
 pub fn read_point(r: &[u8], out: &mut [u32])
     requires { (64 ≤ length r.now) × (length out.old ≡ 15) }
     ensures { out.new ≡ record_words r.now 15 }
@@ -33,25 +34,23 @@ pub fn all_zero(s: &[u32]) -> bool
 }
 
 // Stays: the part of the file by its 64 bytes, as this form's readers are handed it; the wide form has the same loops by 128.
-fn points(file: &[u8], order: &[usize], km: usize) -> [u32; 75]
-    requires { (km ≤ 5) × (length order.now ≡ 64) × ((i : ℕ) → 64 * get_or order.now i 0 + 64 ≤ length file.now) }
-    ensures { result ≡ padded 75 (numbers_of form64 file.now order.now 1 0 15 km) }
+fn points(file: &[u8], records: &[usize]) -> [u32; 75]
+    requires { (length records.now ≤ 5) × ((i : ℕ) → i < length records.now → 64 * get_or records.now i 0 + 64 ≤ length file.now) }
+    ensures { result ≡ padded 75 (numbers_of form64 file.now records.now 0 0 15 (length records.now)) }
 {
     let mut out = [0u32; 75];
-    for i in 0..km {
-        let n = order[1 + i];
+    for (i, &n) in records.iter().enumerate() {
         read_point(&file[64 * n..64 * n + 64], &mut out[15 * i..15 * i + 15]);
     }
     out
 }
 
-fn deciles(file: &[u8], order: &[usize], from: usize, count: usize) -> [u32; 576]
-    requires { (from ≤ 6) × (count ≤ 48) × (length order.now ≡ 64) × ((i : ℕ) → 64 * get_or order.now i 0 + 64 ≤ length file.now) }
-    ensures { result ≡ padded 576 (numbers_of form64 file.now order.now from 0 12 count) }
+fn deciles(file: &[u8], records: &[usize]) -> [u32; 576]
+    requires { (length records.now ≤ 48) × ((i : ℕ) → i < length records.now → 64 * get_or records.now i 0 + 64 ≤ length file.now) }
+    ensures { result ≡ padded 576 (numbers_of form64 file.now records.now 0 0 12 (length records.now)) }
 {
     let mut out = [0u32; 576];
-    for i in 0..count {
-        let n = order[from + i];
+    for (i, &n) in records.iter().enumerate() {
         read_deciles(&file[64 * n..64 * n + 64], &mut out[12 * i..12 * i + 12]);
     }
     out
@@ -74,16 +73,15 @@ pub fn joined(head: &[u8], points: [u32; 75], deciles: [u32; 576]) -> Circuit
     }
 }
 
+// Stays: the file and its chain c, since the chain of a file is numbers alone, which others show and follow without it.
 pub fn circuit(file: &[u8], c: Chain) -> Circuit
     requires { chain_of form64 file.now ≡ Ok c }
     ensures { result ≡ circuit_of form64 file.now c }
 {
     let head = &file[0..64];
     let km = records::byte(head, 4);
-    let order = c.order;
-    let count = c.count;
-    let points = points(file, &order, km);
-    let deciles = deciles(file, &order, 1 + km, count - (1 + km));
+    let points = points(file, &c.order[1..1 + km]);
+    let deciles = deciles(file, &c.order[1 + km..c.count]);
     joined(head, points, deciles)
 }
 

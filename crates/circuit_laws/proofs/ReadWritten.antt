@@ -23,7 +23,7 @@ use Rattle.record_chain.proofs.Steps.{walk_end, walk-on}
 use Rattle.circuit.proofs.Answers.{read-answered}
 use Rattle.record_put.specs.Bytes.{bytes_of, head_of, record_of}
 use Rattle.circuit_write.specs.Written.{good_of, write_answer_by, write_answer_of, left_of, point_at, extra_at, twelve_at, decile_records, records_of, next_index_by, next_in, entry_by, entry_of, entries_of, file_of}
-use Rattle.circuit_write.proofs.Cells.{part-within, length-entry, length-entries, length-file, records-most, size-most, write-good}
+use Rattle.circuit_write.proofs.Cells.{part_within, length-entry, length-entries, length-file, records_most, size-most, write-good}
 use Rattle.circuit_laws.specs.Forms.{Each, Whole, Beside, held_circuit, held_beside, indices_below}
 use Rattle.circuit_laws.specs.Laws.{EveryForm, ReadWritten, ReadSame, WrittenLength}
 use Rattle.circuit_laws.proofs.Back.{half_back, word_back, next-back, all-zeros, record-words, record-fits}
@@ -97,7 +97,7 @@ entry_in o fit c beside n (suc k) i h =
     ∙ take_all o.size B (omega (arith, length-entry o fit c beside n k))
     ∙ ap (entry_of o c beside n) (sym e))
     (λ (j : i < k).
-    let room = part-within o.size k i j in
+    let room = part_within o.size k i j in
     let q : o.size ≤ length (drop (o.size * i) A) = simp length-drop (omega (arith, len, room)) in
     ap (take o.size) (drop-append-le (o.size * i) A B (omega (arith, len, room)))
     ∙ take-append-le o.size (drop (o.size * i) A) B q
@@ -139,7 +139,7 @@ module _ (o : Form) (fit : Fit o) (c : Circuit) (beside : List ℕ) (w : Whole c
     N-least = least_by (all_zero c.deciles) c.km
 
     N-most : N ≤ c.km + 49
-    N-most = records-most c
+    N-most = records_most c
 
     at-file : (i : ℕ) → i < N → record_at o file i ≡ entry_of o c beside N i
     unfolding file_of
@@ -174,7 +174,7 @@ module _ (o : Form) (fit : Fit o) (c : Circuit) (beside : List ℕ) (w : Whole c
     extra-long : (i : ℕ) → i < c.km → length (extra_at o beside i) ≡ o.extra
     extra-long i h =
         length-take-le o.extra (drop (o.extra * i) beside)
-        (simp length-drop (omega (arith, x.five, part-within o.extra 5 i (omega arith))))
+        (simp length-drop (omega (arith, x.five, part_within o.extra 5 i (omega arith))))
 
     all-long : (i : ℕ) → i < c.km → length (all_at i) ≡ 15 + o.extra
     all-long i h = omega (arith, length-append (point_at c i) (extra_at o beside i), point-long i h, extra-long i h)

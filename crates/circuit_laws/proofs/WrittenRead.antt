@@ -25,7 +25,7 @@ use Rattle.record_chain.proofs.Followed.{Followed, followed, count-range}
 use Rattle.circuit.proofs.Answers.{read-answered}
 use Rattle.record_put.specs.Bytes.{record_of, head_of}
 use Rattle.circuit_write.specs.Written.{point_at, extra_at, twelve_at, records_of, next_in, entry_of, entries_of, file_of, good_of, write_answer_of, left_of}
-use Rattle.circuit_write.proofs.Cells.{part-within, write-good, good-is}
+use Rattle.circuit_write.proofs.Cells.{part_within, write-good, good-is}
 use Rattle.circuit_laws.specs.Forms.{Each, InForm, indices_below}
 use Rattle.circuit_laws.specs.Laws.{EveryForm, WrittenRead}
 use Rattle.circuit_laws.proofs.Back.{all-zeros}
@@ -200,7 +200,7 @@ module _ (o : Form) (fit : Fit o) (f : List ℕ) (w : InForm o f) (k : Chain) (e
   record-long : (i : ℕ) → i < N → length (record_at o f i) ≡ o.size
   record-long i h =
       length-take-le o.size (drop (o.size * i) f)
-      (simp length-drop (omega (arith, length-is, part-within o.size N i h)))
+      (simp length-drop (omega (arith, length-is, part_within o.size N i h)))
 
   record-bytes : (i : ℕ) → Each 256 (record_at o f i)
   record-bytes i = each_take 256 o.size (drop (o.size * i) f) (each-drop 256 (o.size * i) f w.bytes)

@@ -21,21 +21,23 @@ fn layers_at(words: &[u32; 75], i: usize) -> LayerParams
     requires { i < 5 }
     ensures { result ≡ layers_at words.now i }
 {
-    let fi = three_at(words, i, 0);
-    let yi = three_at(words, i, 3);
-    let hi = three_at(words, i, 6);
-    LayerParams { fi, yi, hi }
+    LayerParams {
+        fi: three_at(words, i, 0),
+        yi: three_at(words, i, 3),
+        hi: three_at(words, i, 6),
+    }
 }
 
 pub fn params(words: &[u32; 75]) -> [LayerParams; 5]
     ensures { result ≡ params_of words.now }
 {
-    let p0 = layers_at(words, 0);
-    let p1 = layers_at(words, 1);
-    let p2 = layers_at(words, 2);
-    let p3 = layers_at(words, 3);
-    let p4 = layers_at(words, 4);
-    [p0, p1, p2, p3, p4]
+    [
+        layers_at(words, 0),
+        layers_at(words, 1),
+        layers_at(words, 2),
+        layers_at(words, 3),
+        layers_at(words, 4),
+    ]
 }
 
 // Of each point Es fs and hs.
@@ -43,8 +45,8 @@ pub fn es_rows(words: &[u32; 75]) -> [f32; 20]
     ensures { result ≡ es_of words.now }
 {
     let mut es = [0.0; 20];
-    for n in 0..20 {
-        es[n] = circuit::point_number(words, n / 4, 9 + n % 4);
+    for (n, e) in es.iter_mut().enumerate() {
+        *e = circuit::point_number(words, n / 4, 9 + n % 4);
     }
     es
 }

@@ -9,7 +9,7 @@ use layers::IonoState;
 use refusal::Refusal;
 
 // Fifty heights in km, and at each the square of the plasma frequency, in MHz².
-#[derive(Clone, Copy)]
+#[derive(Clone, Copy, Debug, PartialEq)]
 pub struct Profile {
     pub htr: [f32; 50],
     pub fnsq: [f32; 50],

@@ -11,13 +11,15 @@ use refusal::Refusal;
 use shapes::Mark;
 
 // What the sheet has of a slot: its ionogram, and the marks of its fifty heights.
-#[derive(Clone, Copy)]
+#[derive(Clone, Copy, Debug, PartialEq)]
 pub struct SlotRows {
     pub ion: Ionogram,
     pub marks: [Mark; 50],
 }
 
 // The rows of a slot that is not there are +0, and it has no marks.
+// Stays: a count beside three slots, since memory is fixed and the count is the state's `kfx`, by which
+// the Rust goes over them.
 #[derive(Clone, Copy)]
 pub struct Sheet {
     pub hour: MufHour,
@@ -59,7 +61,7 @@ fn no_slot() -> SlotRows
     }
 }
 
-// The rows and marks of slot k, with cells of its own.
+// The rows and marks of slot k, with cells of its own. Stays: s, k and nang go on to the slot sheet.
 fn slot_rows(s: IonoState, k: usize, nang: usize, lines: [LayerMuf; 4]) -> SlotRows
     ensures { result ≡ slot_rows_of s k nang lines }
 {

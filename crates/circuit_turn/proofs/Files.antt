@@ -1,19 +1,18 @@
--- A circuit that was read is one that the writer takes, and its file has at most 54 records; given cells with that room, the
--- writer puts all of it.
+-- A circuit that was read is one that the writer takes, and its file has at most 54 records; in cells with that room
+-- the writer writes all of it.
 use Prim.Native.Nat.{ℕ, ◌*◌, ◌≤◌}
-use mathlib.Core.Path.{◌≡◌, refl, ap, sym, ◌∙◌}
+use mathlib.Core.Path.{◌≡◌, refl}
 use mathlib.Core.List.{List, ◌++◌}
 use mathlib.Core.Bool.{Bool, true, false, ◌&&◌}
 use native.Mathlib.Omega.{arith}
-use native.Mathlib.Nat.{zero-add, mul-le-mul_left}
-use lib.ListN.{length, drop}
-use lib.Seq.{sets-eq}
+use native.Mathlib.Nat.{mul-le-mul_left}
+use lib.ListN.{length, take, drop, length-append}
+use lib.Seq.{take-append_seam}
 use lib.Dec.{leb}
 use borrow.Author.Tests.{leb-true}
-use Rattle.std.specs.Prelude.{Result, Ok, Err, IsOk}
+use Rattle.std.specs.Prelude.{Result, Ok, IsOk}
 use Rattle.std.specs.Result.{result_unwrap_or}
 use Rattle.refusal.specs.declared.Refusal.{Refusal}
-use Rattle.lines.specs.Text.{Clipped}
 use Rattle.circuit.specs.declared.Circuit.{Circuit}
 use Rattle.records.specs.declared.Form.{Form}
 use Rattle.records.specs.Record.{Fit, all_zero}
@@ -21,7 +20,7 @@ use Rattle.circuit.specs.Read.{read_of, circuit_of, circuit_in}
 use Rattle.records.proofs.Lists.{both}
 use Rattle.record_chain.proofs.Followed.{followed}
 use Rattle.circuit.proofs.Answers.{read-answered}
-use Rattle.circuit_write.specs.Written.{decile_records, records_of, file_of, good_of, write_answer_of, length_in, left_of}
+use Rattle.circuit_write.specs.Written.{decile_records, records_of, file_of, good_of, write_answer_of, left_of}
 use Rattle.circuit_write.proofs.Cells.{write-good, length-file, good-is}
 use Rattle.circuit_laws.proofs.WrittenRead.{chain-answered}
 
@@ -53,11 +52,6 @@ read-good o fit f a = let t = read-range o fit f a in good-is (circuit_in (read_
 pub good_read : (o : Form) → Fit o → (f : List ℕ) (c : Circuit) → read_of o f ≡ Ok c → good_of c ≡ true
 good_read o fit f c e = rw e at (read-good o fit f (rw e refl))
 
--- what the writer says it wrote
-pub unwrapped : (a : Result ℕ Refusal) → result_unwrap_or a 0 ≡ length_in a
-unwrapped (Ok n) = refl
-unwrapped (Err r) = refl
-
 module _ (o : Form) (fit : Fit o) (c : Circuit) (g : good_of c ≡ true) where
   pub size-most : o.size * records_of c ≤ o.size * 54
   size-most = mul-le-mul_left o.size (records-most c (good-most c g))
@@ -65,15 +59,14 @@ module _ (o : Form) (fit : Fit o) (c : Circuit) (g : good_of c ≡ true) where
   pub file-most : (beside : List ℕ) → length (file_of o c beside) ≤ o.size * 54
   file-most beside = rw (length-file o fit c beside) size-most
 
-  pub put-file : (beside out : List ℕ) → o.size * 54 ≤ length out
-      → Clipped (file_of o c beside) out 0 (left_of o c beside out) (length_in (write_answer_of o c out))
-  put-file beside out h =
+  -- the first n cells are the file
+  pub written : (beside out : List ℕ) {a : Result ℕ Refusal} {n : ℕ} {out' : List ℕ} → o.size * 54 ≤ length out
+      → a ≡ write_answer_of o c out → n ≡ result_unwrap_or a 0 → out' ≡ left_of o c beside out
+      → (n ≤ length out') × (n ≡ length (take n out')) × (take n out' ≡ file_of o c beside)
+  written beside out {a} {n} {out'} h p q r =
       let t = write-good o fit c beside out g (omega (arith, size-most, h)) in
       let l = length-file o fit c beside in
-      record {
-        next = rw (← t.0) (omega (arith, l, size-most, h));
-        cells =
-            sym t.1
-            ∙ ap (λ (n : ℕ). file_of o c beside ++ drop n out) (sym l ∙ sym (zero-add (length (file_of o c beside))))
-            ∙ sym (sets-eq (file_of o c beside) out 0 (omega (arith, file-most beside, h)));
-      }
+      let m : n ≡ length (file_of o c beside) = rw (q, p, ← t.0, l) in
+      let e : out' ≡ file_of o c beside ++ drop (length (file_of o c beside)) out = rw (r, ← t.1, l) in
+      let f : take n out' ≡ file_of o c beside = rw (m, e) (take-append_seam (file_of o c beside) (drop (length (file_of o c beside)) out)) in
+      (rw (e, length-append) (omega (arith, m)), rw f m, f)

@@ -1,5 +1,5 @@
 -- Files turned from one form into the other: outcomes, the circuit kept, there and back, refusals.
-mod Files
+pub mod Files
 mod Outcomes
 mod Kept
 pub mod Turned

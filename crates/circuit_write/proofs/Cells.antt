@@ -84,8 +84,8 @@ module _ (o : Form) (fit : Fit o) (c : Circuit) (beside : List ℕ) (n : ℕ) wh
         rw (k, ne_eqb i 0 e, lt-leb i c.km h, add-sub_cancel_left (12 * (i - (c.km + 1))) 12)
 
 -- part i of n parts of one length lies within them
-pub part-within : (size n i : ℕ) → i < n → size * i + size ≤ size * n
-part-within size n i h =
+pub part_within : (size n i : ℕ) → i < n → size * i + size ≤ size * n
+part_within size n i h =
     let a : size * (i + 1) ≤ size * n = mul-le-mul_left size (omega arith) in
     omega arith
 
@@ -93,13 +93,13 @@ most-by : (b : Bool) (m : ℕ) → 1 + m + decile_records b ≤ m + 49
 most-by true m = omega arith
 most-by false m = omega arith
 
-pub records-most : (c : Circuit) → records_of c ≤ c.km + 49
-records-most c = most-by (all_zero c.deciles) c.km
+pub records_most : (c : Circuit) → records_of c ≤ c.km + 49
+records_most c = most-by (all_zero c.deciles) c.km
 
 -- a file has at most 64 records
 pub size-most : (o : Form) (c : Circuit) → c.km ≤ 5 → o.size * records_of c ≤ 64 * o.size
 size-most o c h =
-    let a : o.size * records_of c ≤ o.size * 64 = mul-le-mul_left o.size (omega (arith, records-most c)) in
+    let a : o.size * records_of c ≤ o.size * 64 = mul-le-mul_left o.size (omega (arith, records_most c)) in
     omega arith
 
 module _ (o : Form) (fit : Fit o) (c : Circuit) (beside : List ℕ) where

@@ -6,15 +6,15 @@ ghost use Rattle.records.specs.Record.{form64, Fit};
 ghost use Rattle.circuit_write.specs.Written.{records_of, next_in, entry_of, file_of, write_answer_of, left_of};
 
 use circuit::Circuit;
-use records::Form;
+use records::{Form, Kind};
 use refusal::Refusal;
 
 // How many records the file of a circuit has.
-fn records(c: Circuit) -> usize
-    requires { c.km ≤ 5 }
-    ensures { result ≡ records_of c }
+fn records(c: &Circuit) -> usize
+    requires { c.now.km ≤ 5 }
+    ensures { result ≡ records_of c.now }
 {
-    if circuit::has_deciles(c) {
+    if circuit::has_deciles(*c) {
         return 1 + c.km + 48;
     }
     1 + c.km
@@ -30,41 +30,59 @@ fn next_in(n: usize, i: usize) -> usize
     i + 1
 }
 
-// Record i of n. `beside` are the words that the form adds, room for those of five points.
-fn entry(o: Form, c: Circuit, beside: &[u32], n: usize, i: usize, out: &mut [u8])
-    requires { Fit o × (c.km ≤ 5) × (c.shape ≤ 1) × (length beside.now ≡ 5 * o.extra) × (i < n) × (n ≤ c.km + 49) × (length out.old ≡ o.size) }
-    ensures { out.new ≡ entry_of o c beside.now n i }
-{
-    let next = next_in(n, i);
-    let km = c.km;
-    if i == 0 {
-        record_put::head(o, c, next, out);
-        return;
-    }
-    if i <= km {
-        let a = 15 * (i - 1);
-        let points = c.points;
-        let extra = o.extra;
-        let b = extra * (i - 1);
-        record_put::point(next, &points[a..a + 15], &beside[b..b + extra], out);
-        return;
-    }
-    let a = 12 * (i - (km + 1));
-    let deciles = c.deciles;
-    record_put::record(3, next, &deciles[a..a + 12], out);
+// A circuit that the writer takes, in a form, with the words that the form adds, room for those of five points; and its file's
+// count of records.
+#[derive(Clone, Copy)]
+struct Draft<'a> {
+    form: Form,
+    circuit: &'a Circuit,
+    beside: &'a [u32],
+    count: usize,
+    ghost fit: { Fit form },
+    ghost good: { (circuit.now.km ≤ 5) × (circuit.now.shape ≤ 1) },
+    ghost five: { length beside.now ≡ 5 * form.extra },
+    ghost counted: { count ≡ records_of circuit.now },
 }
 
-fn entries(o: Form, c: Circuit, beside: &[u32], n: usize, out: &mut [u8])
-    requires { Fit o × (c.km ≤ 5) × (c.shape ≤ 1) × (length beside.now ≡ 5 * o.extra) × (n ≡ records_of c) × (o.size * n ≤ length out.old) }
-    ensures { out.new ≡ file_of o c beside.now ++ drop (o.size * n) out.old }
-{
-    let size = o.size;
-    for i in 0..n {
-        entry(o, c, beside, n, i, &mut out[size * i..size * i + size]);
+impl<'a> Draft<'a> {
+    // Record i.
+    #[tactic(auto, using(crate::proofs::Cells::part_within, crate::proofs::Cells::records_most))]
+    fn entry(&self, i: usize, out: &mut [u8])
+        requires { (i < self.now.count) × (length out.old ≡ self.now.form.size) }
+        ensures { out.new ≡ entry_of self.now.form self.now.circuit.now self.now.beside.now self.now.count i }
+    {
+        let next = next_in(self.count, i);
+        let c = self.circuit;
+        if i == 0 {
+            record_put::head(self.form, *c, next, out);
+            return;
+        }
+        if i <= c.km {
+            let a = 15 * (i - 1);
+            let extra = self.form.extra;
+            let b = extra * (i - 1);
+            record_put::point(next, &c.points[a..a + 15], &self.beside[b..b + extra], out);
+            return;
+        }
+        let a = 12 * (i - (c.km + 1));
+        record_put::record(Kind::Deciles as usize, next, &c.deciles[a..a + 12], out);
+    }
+
+    #[tactic(auto, using(crate::proofs::Cells::part_within))]
+    fn entries(&self, out: &mut [u8])
+        requires { self.now.form.size * self.now.count ≤ length out.old }
+        ensures { out.new ≡ file_of self.now.form self.now.circuit.now self.now.beside.now ++ drop (self.now.form.size * self.now.count) out.old }
+    {
+        let size = self.form.size;
+        // Stays: i is the record's number, and no list is read.
+        for i in 0..self.count {
+            self.entry(i, &mut out[size * i..size * i + size]);
+        }
     }
 }
 
 // The writer, in any form: how many bytes the file has.
+// Stays: `o`, `c`, `beside` and `out` as a caller has them, before the tests that make of them what may be written.
 pub fn write_form(o: Form, c: Circuit, beside: &[u32], out: &mut [u8]) -> Result<usize, Refusal>
     requires { Fit o × (length beside.now ≡ 5 * o.extra) }
     ensures value { result ≡ write_answer_of o c out.old }
@@ -79,12 +97,18 @@ pub fn write_form(o: Form, c: Circuit, beside: &[u32], out: &mut [u8]) -> Result
     if c.shape > 1 {
         return Err(Refusal::RecordZero);
     }
-    let n = records(c);
+    let n = records(&c);
     let length = o.size * n;
     if out.len() < length {
         return Err(Refusal::Length);
     }
-    entries(o, c, beside, n, out);
+    let draft = Draft {
+        form: o,
+        circuit: &c,
+        beside,
+        count: n,
+    };
+    draft.entries(out);
     Ok(length)
 }
 
@@ -93,6 +117,5 @@ pub fn write(c: Circuit, out: &mut [u8]) -> Result<usize, Refusal>
     ensures value { result ≡ write_answer_of form64 c out.old }
     ensures out_after { out.new ≡ left_of form64 c [] out.old }
 {
-    let none = [0u32; 0];
-    write_form(records::form64(), c, &none, out)
+    write_form(records::form64(), c, &[], out)
 }

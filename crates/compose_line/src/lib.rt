@@ -13,7 +13,8 @@ pub use names::LineKind;
 
 // A line that has its first word. `missing` has a true for each number that is still to come; the next `left` numbers go to the
 // places from `at` on.
-#[derive(Clone, Copy)]
+// Stays: `left` is how many numbers a field still awaits, and no length of an array.
+#[derive(Clone, Copy, Debug, PartialEq, Eq)]
 pub struct Row {
     pub kind: LineKind,
     pub values: [u32; 15],
@@ -119,6 +120,7 @@ fn all_words(line: &[u8]) -> Result<Option<Row>, Fault>
 {
     let mut row = None;
     let mut at = words::word_start(line, 0);
+    // Stays: nothing is counted; `split` would give an empty word between two blanks.
     while at < line.len() {
         let e = words::word_end(line, at);
         row = Some(word(row, &line[at..e])?);

@@ -123,10 +123,7 @@ pub fn wanted(kind: LineKind) -> [bool; 15]
 pub fn at_once(kind: LineKind) -> usize
     ensures { result ≡ at_once kind }
 {
-    match kind {
-        LineKind::Deciles => 12,
-        LineKind::Path | LineKind::Point => 0,
-    }
+    if kind == LineKind::Deciles { 12 } else { 0 }
 }
 
 // Whether some number is still to come.

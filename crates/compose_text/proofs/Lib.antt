@@ -1,2 +1,3 @@
 -- The lines of a text by their places.
 mod LinePlaces
+mod Parts

@@ -11,7 +11,7 @@ use circuit::Circuit;
 use compose_line::{Fault, LineKind, Row, Wrong};
 
 // What the lines say from that of the path on: the circuit so far, and the lines of deciles so far.
-#[derive(Clone, Copy)]
+#[derive(Clone, Copy, Debug, PartialEq, Eq)]
 pub struct Draft {
     pub circuit: Circuit,
     pub twelves: usize,
@@ -24,6 +24,7 @@ fn is_shape(b: u32) -> bool
     b == 0 || b == 0x3f80_0000
 }
 
+// Stays: a draft and a line's `values`, which three kinds of line test in orders of their own.
 #[tactic(auto, unfolding(crate::specs::Draft::with_path))]
 fn with_path(draft: Option<Draft>, values: [u32; 15]) -> Result<Draft, Fault>
     ensures { result ≡ with_path draft values }
@@ -130,6 +131,7 @@ fn at_line<T>(line: usize, answer: Result<T, Fault>) -> Result<T, Wrong>
 }
 
 // Past the line feed that ends the line, or the end.
+// Stays: `text` and `at`, the place where a line starts in it.
 fn line_end(text: &[u8], at: usize) -> usize
     requires { at < length text.now }
     ensures { (result ≤ length text.now) × (at < result) × (result ≡ min (at + run (other 10) (drop at text.now) + 1) (length text.now)) }
@@ -144,6 +146,7 @@ pub fn compose(text: &[u8]) -> Result<Circuit, Wrong>
     let mut draft = None;
     let mut line = 1;
     let mut at = 0;
+    // Stays: each turn goes to the end of a line, its line feed in it; `split` has lines without, and one after the last feed.
     while at < text.len() {
         let e = line_end(text, at);
         draft = at_line(line, with_line(draft, &text[at..e]))?;

@@ -1,12 +1,11 @@
 // What `compose` prints of a text with each thing that can be wrong. The stored output has the texts of the definition.
+// Stays: functions of our own that put a text on a page, for the reason in crate `lines`; loops that only count how often a line is put.
 #![tactic(auto)]
 
-use lines::put_word;
+use lines::Page;
 
 fn print(text: &[u8]) {
-    let mut out = [0u8; composing::ROOM];
-    let len = composing::compose(text, &mut out);
-    io::write_all(1, &out[..len]);
+    io::write_all(1, composing::compose(text).text());
 }
 
 fn lines() {
@@ -27,68 +26,52 @@ fn order() {
     print(b"path ssn 1 amind 2 gcdkm 3 gcd 4 shape 1\r\n");
 }
 
-fn put_point(text: &mut [u8], at: usize) -> usize {
-    put_word(
-        text,
-        at,
-        b"point fi 1 2 3 yi 4 5 6 hi 7 8 9 fs 1 2 3 hs 4 clat 5 clck 6\n",
-    )
-}
-
-fn put_deciles(text: &mut [u8], at: usize) -> usize {
-    put_word(text, at, b"deciles 1 2 3 4 5 6 7 8 9 10 11 12\n")
-}
+const POINT: &[u8] = b"point fi 1 2 3 yi 4 5 6 hi 7 8 9 fs 1 2 3 hs 4 clat 5 clck 6\n";
 
 // A path and a point.
-fn put_start(text: &mut [u8]) -> usize {
-    let e = put_word(text, 0, b"path ssn 1 amind 2 gcdkm 3 gcd 4 shape 1\n");
-    put_point(text, e)
+fn put_start<const N: usize>(page: &mut Page<N>) {
+    page.put_word(b"path ssn 1 amind 2 gcdkm 3 gcd 4 shape 1\n");
+    page.put_word(POINT);
 }
 
-fn put_seven(text: &mut [u8], at: usize) -> usize {
-    let a = put_deciles(text, at);
-    let b = put_deciles(text, a);
-    let c = put_deciles(text, b);
-    let d = put_deciles(text, c);
-    let e = put_deciles(text, d);
-    let f = put_deciles(text, e);
-    put_deciles(text, f)
+fn put_deciles<const N: usize>(page: &mut Page<N>, lines: usize) {
+    for _i in 0..lines {
+        page.put_word(b"deciles 1 2 3 4 5 6 7 8 9 10 11 12\n");
+    }
 }
 
-// The last line of each of these texts is blank.
+// The last line of each of these texts is blank, up to the page's end.
 fn six_points() {
-    let mut text = [b' '; 512];
-    let a = put_start(&mut text);
-    let b = put_point(&mut text, a);
-    let c = put_point(&mut text, b);
-    let d = put_point(&mut text, c);
-    let e = put_point(&mut text, d);
-    put_point(&mut text, e);
-    print(&text);
+    let mut page: Page<512> = Page::new();
+    put_start(&mut page);
+    for _i in 0..5 {
+        page.put_word(POINT);
+    }
+    aligned::put_repeated(&mut page, b' ', 512);
+    print(page.text());
 }
 
 fn late_point() {
-    let mut text = [b' '; 256];
-    let a = put_start(&mut text);
-    let b = put_deciles(&mut text, a);
-    put_point(&mut text, b);
-    print(&text);
+    let mut page: Page<256> = Page::new();
+    put_start(&mut page);
+    put_deciles(&mut page, 1);
+    page.put_word(POINT);
+    aligned::put_repeated(&mut page, b' ', 256);
+    print(page.text());
 }
 
 // 49 lines of deciles, and 7.
 fn deciles() {
-    let mut text = [b' '; 2048];
-    let a = put_start(&mut text);
-    let b = put_seven(&mut text, a);
-    let few = text;
-    let c = put_seven(&mut text, b);
-    let d = put_seven(&mut text, c);
-    let e = put_seven(&mut text, d);
-    let f = put_seven(&mut text, e);
-    let g = put_seven(&mut text, f);
-    put_seven(&mut text, g);
-    print(&text);
-    print(&few);
+    let mut page: Page<2048> = Page::new();
+    put_start(&mut page);
+    put_deciles(&mut page, 49);
+    aligned::put_repeated(&mut page, b' ', 2048);
+    print(page.text());
+    let mut few: Page<2048> = Page::new();
+    put_start(&mut few);
+    put_deciles(&mut few, 7);
+    aligned::put_repeated(&mut few, b' ', 2048);
+    print(few.text());
 }
 
 // One comment as long as a text may be, and one byte longer.

@@ -1,39 +1,31 @@
 // What `compose` prints of a text: the file of its circuit, or the number of the first wrong line and what is wrong.
+// Stays: functions of our own and no `Display`, for the reason in crate `lines`.
 #![tactic(auto)]
 
-ghost use Rattle.std.specs.Prelude.{◌≡◌, ◌≤◌, length};
-ghost use Rattle.io.specs.Counts.{IsPrefixLen};
-ghost use Rattle.composing.specs.Composing.{said_length, said_held, length_of, composed_held};
+ghost use Rattle.std.specs.Prelude.{◌≡◌};
+ghost use Rattle.composing.specs.Composing.{composed_text};
 
-use circuit::Circuit;
-use compose_line::Wrong;
+use circuit_turn::put_old;
 use fault_text::put_wrong;
-use lines::put_word;
+use lines::Page;
 
 // One byte more than the longest text that is read.
 pub const INPUT: usize = 32769;
-// Room for every file and every line.
+// The bytes of a page: every file and every line has room.
 pub const ROOM: usize = 4096;
 
-fn said(composed: Result<Circuit, Wrong>, out: &mut [u8]) -> usize
-    ensures value { result ≡ said_length composed out.old }
-    ensures out_after { out.new ≡ said_held composed out.old }
-    ensures upper_bound { result ≤ length out.old }
+// The file of the circuit that a text says, or what is wrong with the text.
+pub fn compose(text: &[u8]) -> Page<ROOM>
+    ensures { result ≡ composed_text text.now }
 {
-    match composed {
-        Ok(c) => circuit_write::write(c, out).unwrap_or(0),
-        Err(wrong) => put_wrong(out, wrong),
-    }
-}
-
-// The file of the circuit that a text says, or what is wrong with the text; how many bytes that is.
-pub fn compose(text: &[u8], out: &mut [u8]) -> usize
-    ensures value { result ≡ length_of text.now out.old }
-    ensures out_after { out.new ≡ composed_held text.now out.old }
-    ensures prefix_len { IsPrefixLen result out.new }
-{
+    let mut page = Page::new();
     if text.len() > 32768 {
-        return put_word(out, 0, b"over 32768 bytes\n");
+        page.put_word(b"over 32768 bytes\n");
+        return page;
     }
-    said(compose_text::compose(text), out)
+    match compose_text::compose(text) {
+        Ok(c) => put_old(&mut page, c),
+        Err(wrong) => put_wrong(&mut page, wrong),
+    }
+    page
 }

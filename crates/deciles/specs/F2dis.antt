@@ -1,5 +1,5 @@
 -- `f2dis`: how far the F2 MUF spreads about its median, as a standard deviation. With no table (its first number at most 0) the classical value; else by time block, sunspot row, hemisphere, latitude and the half of the distribution in which `freq` lies.
-use Rattle.std.specs.Prelude.{Bool, true, false, cond, List, ◌≡◌, ℕ, ◌+◌, ◌*◌, ◌-◌, eqb, Result, Ok, Err, ℤ, pos, nat_abs, get_or, length, Float}
+use Rattle.std.specs.Prelude.{Bool, true, false, cond, List, ◌≡◌, ℕ, zero, suc, ◌+◌, ◌*◌, ◌-◌, eqb, Result, Ok, Err, ℤ, pos, nat_abs, get_or, length, Float, Option, Some, None}
 use Rattle.std.specs.Int.Signed.{lt_z}
 use Rattle.std.specs.Float.{nan}
 use Rattle.scalar.specs.F32.{◌+f◌, ◌-f◌, ◌*f◌, ◌/f◌, ◌≤f◌, ◌>f◌}
@@ -52,6 +52,11 @@ icc_by false false n = nat_abs n
 
 unfoldable pub icc_of : Float → ℕ
 icc_of abb = let n = time_block_of abb in icc_by (lt_z (pos 6) n) (lt_z n (pos 1)) n
+
+-- the block that is looked up, none for 0
+abbrev pub block_of : ℕ → Option ℕ
+block_of zero = None
+block_of (suc n) = Some (suc n)
 
 -- where the Rust's f2d[icc - 1][j - 1][iz - 1] stands in the flat list
 abbrev pub place_of : ℕ → ℕ → ℕ → ℕ

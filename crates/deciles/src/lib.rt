@@ -2,7 +2,7 @@
 #![tactic(auto)]
 
 ghost use Rattle.std.specs.Prelude.{◌≡◌, ◌<◌, ◌≤◌};
-ghost use Rattle.deciles.specs.F2dis.{sunspot_row_of, j_of, i_of, icl_of, icc_of, place_of, classical_of, spread_of, f2dis_of, DeviationSays};
+ghost use Rattle.deciles.specs.F2dis.{sunspot_row_of, j_of, i_of, icl_of, icc_of, block_of, place_of, classical_of, spread_of, f2dis_of, DeviationSays};
 
 use refusal::Refusal;
 
@@ -38,28 +38,22 @@ fn half(fmuf: f32, freq: f32) -> usize
 fn band(cl: f32) -> usize
     ensures { result ≡ icl_of cl }
 {
-    let icl = scalar::trunc(9.5 - scalar::abs(cl) / 10.0);
-    if icl < 1 {
-        return 1;
-    }
-    if icl > 8 {
-        return 8;
-    }
+    let icl = scalar::trunc(9.5 - scalar::abs(cl) / 10.0).clamp(1, 8);
     icl as usize
 }
 
-// `icc`: the time block, 1 to 6; 0 where the truncated number is below 1, which `f2dis` refuses.
-pub fn time_block(abb: f32) -> usize
-    ensures { result ≡ icc_of abb }
+// `icc`: the time block, 1 to 6; none where the truncated number is below 1, which `f2dis` refuses.
+pub fn time_block(abb: f32) -> Option<usize>
+    ensures { result ≡ block_of (icc_of abb) }
 {
     let icc = scalar::trunc(abb / 4.0 + 1.55);
     if icc > 6 {
-        return 1;
+        return Some(1);
     }
     if icc < 1 {
-        return 0;
+        return None;
     }
-    icc as usize
+    Some(icc as usize)
 }
 
 // Where `f2d[icc - 1][j - 1][iz - 1]` of the Rust stands in the flat list.
@@ -87,6 +81,7 @@ fn spread(fmuf: f32, decile: f32) -> f32
 }
 
 // `abb` is the point's clock, in hours of local mean time, and `clat` its latitude in radians.
+// Stays: f2d, fmuf, ssn, clat, freq and abb are the Rust's own parameters, in its order.
 pub fn f2dis(
     f2d: &[f32],
     fmuf: f32,
@@ -104,10 +99,9 @@ pub fn f2dis(
     if f2d[0] <= 0.0 {
         return Ok(classical(fmuf));
     }
-    let icc = time_block(abb);
-    if icc == 0 {
+    let Some(icc) = time_block(abb) else {
         return Err(Refusal::TimeBlock);
-    }
+    };
     let cl = clat * 57.29577;
     let iz = band(cl) + half(fmuf, freq);
     let j = row(ssn, cl);

@@ -1,6 +1,6 @@
 -- The digits of a number from the left, and how many there are at least.
 use Prim.Native.Nat.{ℕ, zero, suc, ◌+◌, ◌-◌, ◌*◌, ◌/◌, ◌%◌, ◌^◌, ◌≤◌, ◌<◌}
-use mathlib.Core.Path.{◌≡◌, ap, ◌∙◌, subst}
+use mathlib.Core.Path.{◌≡◌, ap, ◌∙◌}
 use mathlib.Core.List.{List, [], ◌∷◌}
 use native.Mathlib.Nat.{pow-suc, pow-le-pow_right, div-div-eq-div-mul}
 use native.Mathlib.Numerals.{add-one}
@@ -9,8 +9,8 @@ use borrow.Author.Tests.{lt-ltb, le-ltb}
 use lib.Dec.{ltb}
 use lib.ListN.{length, length-append}
 use Rattle.io.specs.Digits.{hex_digit_ascii, last_digits}
-use Rattle.lines.specs.Text.{tens_by, decimal_in, decimal_of, Clipped}
-use Rattle.lines.proofs.Placing.{clip-then}
+use Rattle.lines.specs.Text.{tens_by, decimal_in, decimal_of, with_text}
+use Rattle.lines.proofs.Placing.{put_then}
 
 pub some : (k : ℕ) → 0 < 10 ^ k
 some k = pow-le-pow_right (omega arith) {i = 0} {j = k} (omega arith)
@@ -39,15 +39,15 @@ unfolding decimal_of
 long k n h l = long-in 20 k n h l
 
 -- one more digit, from the left
-pub next-digit : (k i n d : ℕ) {l l' l'' : List ℕ} {at r r' : ℕ} → i < k → d ≡ hex_digit_ascii (n / 10 ^ (k - 1 - i) % 10)
-    → Clipped (last_digits 10 i (n / 10 ^ (k - i))) l at l' r → Clipped (d ∷ []) l' r l'' r' → Clipped (last_digits 10 (i + 1) (n / 10 ^ (k - (i + 1)))) l at l'' r'
-next-digit k i n d h e p q =
+pub next-digit : (k i n d m : ℕ) (page : List ℕ) {page' page'' : List ℕ} → i < k → d ≡ hex_digit_ascii (n / 10 ^ (k - 1 - i) % 10)
+    → page' ≡ with_text m page (last_digits 10 i (n / 10 ^ (k - i))) → page'' ≡ with_text m page' (d ∷ []) → page'' ≡ with_text m page (last_digits 10 (i + 1) (n / 10 ^ (k - (i + 1))))
+next-digit k i n d m page h e p q =
     let f : k - suc i ≡ k - 1 - i = omega arith in
-    rw (add-one i, f, before k i n h, ← e) (clip-then p q)
+    rw (add-one i, f, before k i n h, ← e) (put_then m page _ (d ∷ []) p q)
 
 -- all k of them
-pub all_digits : (k i n : ℕ) {l l' : List ℕ} {at r : ℕ} → Clipped (last_digits 10 i (n / 10 ^ (k - i))) l at l' r → i ≡ k → Clipped (last_digits 10 k n) l at l' r
-all_digits k i n {l} {l'} {at} {r} p e =
+pub all_digits : (k i n : ℕ) → i ≡ k → last_digits 10 i (n / 10 ^ (k - i)) ≡ last_digits 10 k n
+all_digits k i n e =
     let f : k - k ≡ 0 = omega arith in
     let g : n / 10 ^ 0 ≡ n = omega arith in
-    subst (λ (x : ℕ). Clipped (last_digits 10 k x) l at l' r) (ap (λ (x : ℕ). n / 10 ^ x) f ∙ g) (subst (λ (j : ℕ). Clipped (last_digits 10 j (n / 10 ^ (k - j))) l at l' r) e p)
+    rw e (ap (λ (x : ℕ). last_digits 10 k x) (ap (λ (x : ℕ). n / 10 ^ x) f ∙ g))

@@ -2,7 +2,7 @@
 use Prim.Native.Nat.{ℕ, zero, suc, ◌+◌, ◌-◌, ◌*◌, ◌/◌, ◌^◌, ◌≤◌, ◌<◌, min}
 use mathlib.Core.Path.{◌≡◌, refl, ap, sym, ◌∙◌}
 use mathlib.Core.Bool.{Bool, true, false}
-use mathlib.Core.List.{List, ◌++◌}
+use mathlib.Core.List.{List, [], ◌++◌}
 use native.Mathlib.Nat.{le-div_iff_mul-le}
 use native.Mathlib.Omega.{arith}
 use borrow.Author.Tests.{leb-true, leb-false, lt-leb}
@@ -11,7 +11,8 @@ use lib.ListN.{length, length-append}
 use lib.Ieee.{Float}
 use lib.Pow.{pow-add}
 use Rattle.io.specs.Digits.{last_digits}
-use Rattle.lines.specs.Text.{decimal_of}
+use Rattle.lines.specs.Text.{decimal_of, with_text}
+use Rattle.lines.proofs.Placing.{fits}
 use Rattle.lines.proofs.Decimals.{length_digits, length-decimal}
 use Rattle.lines.proofs.Sizes.{AtMost}
 use Rattle.figures.specs.Nearest.{past}
@@ -35,15 +36,8 @@ placed-length places n =
     let b = length_digits 10 places n in
     omega arith
 
-placed-most : (places n : ℕ) → places ≤ 9 → AtMost (placed_text places n) 30
+pub placed-most : (places n : ℕ) → places ≤ 9 → AtMost (placed_text places n) 30
 placed-most places n h = record { most = omega (arith, placed-length places n, length-decimal (n / 10 ^ places)) }
-
--- a sign, twenty digits, the point and nine places
-pub signed-most : (s : Bool) (places n : ℕ) → places ≤ 9 → AtMost (signed_text s places n) 31
-unfolding signed_text
-signed-most false places n h = record { most = omega (arith, (placed-most places n h).most) }
-signed-most true places zero h = record { most = omega (arith, (placed-most places zero h).most) }
-signed-most true places (suc n) h = record { most = omega (arith, (placed-most places (suc n) h).most) }
 
 -- ---- what is no u32 is too wide for ten characters, exact or kept
 
@@ -72,3 +66,7 @@ kept s width places n w h = by (leb n past) refl
     by false e =
         let l = leb-false n past e in
         starred width _ w (signed-wide places h s (min n past) (omega arith)) ∙ sym (starred width _ w (signed-wide places h s n (omega arith)))
+
+-- what is read back from a page of its own that has room
+pub alone : (n : ℕ) (t : List ℕ) {new page text : List ℕ} → new ≡ [] → page ≡ with_text n new t → text ≡ page → length t ≤ n → text ≡ t
+alone n t e p q l = rw (q, p, e) (fits n t l)

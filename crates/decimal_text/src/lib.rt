@@ -1,11 +1,14 @@
 // A number in decimals, rounded by its exact value and put into a field of a given width.
-#![tactic(auto)]
+// Stays: functions of our own and no `Display`, for the reason in crate `lines`.
+#![tactic(auto, using(lines::proofs::Placing::putting))]
 
-ghost use Rattle.std.specs.Prelude.{◌≡◌, true, ◌/◌, ◌%◌, ◌^◌, ◌≤◌};
+ghost use Rattle.std.specs.Prelude.{◌≡◌, ◌++◌, ◌/◌, ◌%◌, ◌^◌, ◌≤◌, length};
 ghost use Rattle.io.specs.Digits.{hex_digit_ascii, last_digits};
-ghost use Rattle.lines.specs.Text.{decimal_of, Clipped};
+ghost use Rattle.lines.specs.Text.{decimal_of, with_text};
 ghost use Rattle.aligned.specs.Aligned.{right};
-ghost use Rattle.decimal_text.specs.Number.{placed_text, signed_text, number_kind_of, number_text};
+ghost use Rattle.decimal_text.specs.Number.{placed_text, number_kind_of, number_text};
+
+use lines::Page;
 
 // What a number is, beside its size.
 #[derive(Clone, Copy, Debug, PartialEq, Eq)]
@@ -35,38 +38,24 @@ fn digit(n: u64, k: usize) -> u8
 }
 
 // The last k digits of n, zeros in front too.
-fn put_digits(out: &mut [u8], at: usize, k: usize, n: u64) -> usize
+fn put_digits<const N: usize>(page: &mut Page<N>, k: usize, n: u64)
     requires { k ≤ 9 }
-    ensures { Clipped (last_digits 10 k n) out.old at out.new result }
+    ensures { page.new ≡ with_text N page.old (last_digits 10 k n) }
 {
-    let mut e = at;
     for i in 0..k {
-        let d = digit(n, k - 1 - i);
-        e = lines::put_byte(out, e, d);
+        page.put_byte(digit(n, k - 1 - i));
     }
-    e
 }
 
 // n units of the last place, with the decimal point.
-fn put_placed(out: &mut [u8], at: usize, places: usize, n: u64) -> usize
+#[tactic(auto, using(lines::proofs::Placing::putting), unfolding(crate::specs::Number::placed_text))]
+fn put_placed<const N: usize>(page: &mut Page<N>, places: usize, n: u64)
     requires { places ≤ 9 }
-    ensures { Clipped (placed_text places n) out.old at out.new result }
+    ensures { page.new ≡ with_text N page.old (placed_text places n) }
 {
-    let whole = n / ten_power(places) as u64;
-    let a = lines::put_decimal(out, at, whole);
-    let b = lines::put_byte(out, a, b'.');
-    put_digits(out, b, places, n)
-}
-
-fn put_minus(out: &mut [u8], at: usize, places: usize, n: u64) -> usize
-    requires { places ≤ 9 }
-    ensures { Clipped (signed_text true places n) out.old at out.new result }
-{
-    if n == 0 {
-        return put_placed(out, at, places, n);
-    }
-    let a = lines::put_byte(out, at, b'-');
-    put_placed(out, a, places, n)
+    page.put_decimal(n / ten_power(places) as u64);
+    page.put_byte(b'.');
+    put_digits(page, places, n);
 }
 
 // By the bits: a finite number's are below those of the infinities, a NaN's above.
@@ -90,45 +79,38 @@ fn kind_of(v: f32) -> Kind
     Kind::Minus
 }
 
-fn put_signed(out: &mut [u8], at: usize, places: usize, minus: bool, n: u64) -> usize
-    requires { places ≤ 9 }
-    ensures { Clipped (signed_text minus places n) out.old at out.new result }
+// n units after their sign, if they have one, at the right of so many characters.
+fn put_units<const N: usize>(page: &mut Page<N>, width: usize, sign: &[u8], places: usize, n: u64)
+    requires { (length sign.now ≤ 1) × (places ≤ 9) }
+    ensures { page.new ≡ with_text N page.old (right width (sign.now ++ placed_text places n)) }
 {
-    if minus {
-        return put_minus(out, at, places, n);
-    }
-    put_placed(out, at, places, n)
-}
-
-fn put_units(out: &mut [u8], at: usize, width: usize, places: usize, minus: bool, n: u64) -> usize
-    requires { places ≤ 9 }
-    ensures { Clipped (right width (signed_text minus places n)) out.old at out.new result }
-{
-    let mut text = [0u8; 32];
-    let k = put_signed(&mut text, 0, places, minus, n);
-    aligned::put_right(out, at, width, &text[..k])
+    let mut text: Page<31> = Page::new();
+    text.put_word(sign);
+    put_placed(&mut text, places, n);
+    aligned::put_right(page, width, text.text());
 }
 
 // n in decimal digits, at the right of so many characters.
-pub fn put_whole(out: &mut [u8], at: usize, width: usize, n: u64) -> usize
-    ensures { Clipped (right width (decimal_of n)) out.old at out.new result }
+pub fn put_whole<const N: usize>(page: &mut Page<N>, width: usize, n: u64)
+    ensures { page.new ≡ with_text N page.old (right width (decimal_of n)) }
 {
-    let mut text = [0u8; 20];
-    let k = lines::put_decimal(&mut text, 0, n);
-    aligned::put_right(out, at, width, &text[..k])
+    let mut text: Page<20> = Page::new();
+    text.put_decimal(n);
+    aligned::put_right(page, width, text.text());
 }
 
 // v with so many decimal places, at the right of so many characters.
-pub fn put_number(out: &mut [u8], at: usize, width: usize, places: usize, v: f32) -> usize
+pub fn put_number<const N: usize>(page: &mut Page<N>, width: usize, places: usize, v: f32)
     requires { (width ≤ 10) × (places ≤ 9) }
-    ensures { Clipped (number_text width places v) out.old at out.new result }
+    ensures { page.new ≡ with_text N page.old (number_text width places v) }
 {
     let n = figures::times(v, ten_power(places));
     match kind_of(v) {
-        Kind::NotANumber => aligned::put_right(out, at, width, b"NaN"),
-        Kind::Infinity => aligned::put_right(out, at, width, b"inf"),
-        Kind::MinusInfinity => aligned::put_right(out, at, width, b"-inf"),
-        Kind::Plus => put_units(out, at, width, places, false, n),
-        Kind::Minus => put_units(out, at, width, places, true, n),
+        Kind::NotANumber => aligned::put_right(page, width, b"NaN"),
+        Kind::Infinity => aligned::put_right(page, width, b"inf"),
+        Kind::MinusInfinity => aligned::put_right(page, width, b"-inf"),
+        Kind::Plus => put_units(page, width, b"", places, n),
+        Kind::Minus if n == 0 => put_units(page, width, b"", places, n),
+        Kind::Minus => put_units(page, width, b"-", places, n),
     }
 }

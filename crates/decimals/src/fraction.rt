@@ -5,6 +5,7 @@ ghost use Rattle.std.specs.Float.Ieee.{round, to_bits};
 ghost use Rattle.std.specs.Float.Ieee.Nearest.{closest as closest_of};
 
 // a / c to the nearest whole number, an exact half to the even one.
+// Stays: a and c are a quotient's two numbers, as n and d below, and no pair that is kept.
 fn closest(a: u64, c: u64) -> u64
     requires { (0 < c) × (c < 2 ^ 62) × (a < 2 ^ 24 * c) }
     ensures { result ≡ closest_of a c }
@@ -47,13 +48,11 @@ fn magnitude(n: u64, d: u64) -> u32
 fn sign(minus: bool) -> u32
     ensures { result ≡ cond minus (2 ^ 31) 0 }
 {
-    if minus {
-        return 0x8000_0000;
-    }
-    0
+    u32::from(minus) * 0x8000_0000
 }
 
 // The bits of the f32 nearest to n / 10^places, a half to the even one; a zero has its sign too.
+// Stays: that `places` is up to 9 is asked here once, and by the texts of decimals for themselves.
 pub fn nearest(minus: bool, n: u32, places: u32) -> u32
     requires { places ≤ 9 }
     ensures { result ≡ to_bits binary32 (round binary32 minus n (10 ^ places)) }

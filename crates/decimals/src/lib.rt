@@ -1,4 +1,5 @@
 // A decimal as a person writes it, as the nearest f32: by whole numbers only.
+// Stays: `whole` and `rest` side by side are what stands before and after the point of one word, and not read by pairs.
 #![tactic(auto)]
 
 mod fraction;
@@ -65,25 +66,13 @@ fn unsigned(minus: bool, u: &[u8]) -> Option<u32>
     parts(minus, &u[..p], &u[e..])
 }
 
-fn is_minus(word: &[u8]) -> bool
-    ensures { result ≡ starts_with_minus word.now }
-{
-    word.first() == Some(&b'-')
-}
-
-fn sign_length(word: &[u8]) -> usize
-    ensures { (result ≤ length word.now) × (result ≡ sign_length word.now) }
-{
-    match word.first() {
-        Some(b'-' | b'+') => 1,
-        _ => 0,
-    }
-}
-
 // The bits of the f32 nearest to the decimal that a word is; none where it is not a decimal of one to nine digits.
 pub fn read(word: &[u8]) -> Option<u32>
     ensures { result ≡ decimal_read word.now }
 {
-    let s = sign_length(word);
-    unsigned(is_minus(word), &word[s..])
+    match word {
+        [b'-', rest @ ..] => unsigned(true, rest),
+        [b'+', rest @ ..] => unsigned(false, rest),
+        _ => unsigned(false, word),
+    }
 }

@@ -1,5 +1,7 @@
 // `f2dis` on words, the deciles as they are lent: 0, or the number of its refusal, which leaves
 // every lent word as it was.
+// Stays: deciles, numbers and out are what callers in C lend, side by side; the answer is a match of
+// two arms, of which one needs the one word of out that was seen to be there.
 #![tactic(auto)]
 
 ghost use Rattle.std.specs.Prelude.{◌≡◌, ◌≤◌, length};

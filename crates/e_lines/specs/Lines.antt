@@ -8,6 +8,7 @@ use Rattle.constants.specs.Constants.{R2D}
 use Rattle.hops.specs.Geometry.{geometry_of}
 use Rattle.hops.specs.declared.HopGeometry.{HopGeometry}
 use Rattle.heights.specs.Gethp.{Finder, gethp_of}
+use Rattle.heights.specs.declared.Heights.{Heights}
 use Rattle.layers.specs.State.{profile_only}
 use Rattle.layers.specs.declared.IonoState.{IonoState}
 use Rattle.layers.specs.declared.LayerMuf.{LayerMuf}
@@ -30,8 +31,12 @@ abbrev pub line_value : Result LayerMuf Refusal → LayerMuf
 line_value (Ok m) = m
 line_value (Err r) = zero_line
 
+-- of what was read off the profile the two heights
+abbrev pub pair_of : Heights → HeightPair
+pair_of h = record { hp = h.hp; ht = h.ht }
+
 abbrev pub read_with : Finder → IonoState → Float → HeightPair
-read_with find t fx = let h = find t fx in record { hp = h.hp; ht = h.ht }
+read_with find t fx = pair_of (find t fx)
 
 -- the E layer
 

@@ -3,19 +3,29 @@
 
 ghost use Rattle.std.specs.Prelude.{◌≡◌};
 ghost use Rattle.heights.specs.Gethp.{gethp_of};
-ghost use Rattle.e_lines.specs.Lines.{tenth_of, layer_line_of, zero_line, e_heights_with, e_found_of, e_line_of};
+ghost use Rattle.e_lines.specs.Lines.{tenth_of, layer_line_of, zero_line, pair_of, e_heights_with, e_found_of, e_line_of};
 ghost use Rattle.e_lines.specs.Says.{ESays};
 
 use constants::R2D;
+use heights::Heights;
 use hops::HopGeometry;
 use layers::{IonoState, LayerMuf};
 use refusal::Refusal;
 
 // Virtual and true height.
-#[derive(Clone, Copy)]
+#[derive(Clone, Copy, Debug, PartialEq)]
 pub struct HeightPair {
     pub hp: f32,
     pub ht: f32,
+}
+
+impl From<Heights> for HeightPair {
+    // those two of what was read off the profile
+    ghost from_gives = { λ h p. p ≡ pair_of h };
+
+    fn from(h: Heights) -> HeightPair {
+        HeightPair { hp: h.hp, ht: h.ht }
+    }
 }
 
 pub fn tenth(muf: f32) -> f32
@@ -25,6 +35,8 @@ pub fn tenth(muf: f32) -> f32
 }
 
 // A layer's line; `del` in radians.
+// Stays: sigl, sigu, del, hp, ht, fv, xhops and muf stand in the order of LayerMuf's fields, and
+// each caller has them from another place.
 pub fn line(
     sigl: f32,
     sigu: f32,
@@ -78,8 +90,7 @@ fn e_heights(t: IonoState, fxe: f32) -> HeightPair
     ensures { result ≡ e_heights_with gethp_of t fxe }
 {
     if layers::profile_only(t) {
-        let h = heights::gethp(t, fxe);
-        return HeightPair { hp: h.hp, ht: h.ht };
+        return HeightPair::from(heights::gethp(t, fxe));
     }
     HeightPair {
         hp: 125.30,

@@ -82,23 +82,14 @@ fn field(s: u32, e: u32) -> u32
     125 - e
 }
 
-// the least pattern without its sign from which on e^x is infinite, or 0
-fn limit(s: u32) -> u32
-    ensures { result ≡ pick (ltb s 1) 0x42b1_7218 0x42d0_0000 }
+// the one of two numbers that stands for x, or for -x
+fn either(s: u32, plus: u32, minus: u32) -> u32
+    ensures { result ≡ pick (ltb s 1) plus minus }
 {
     if s < 1 {
-        return 0x42b17218;
+        return plus;
     }
-    0x42d00000
-}
-
-fn past(s: u32) -> u32
-    ensures { result ≡ pick (ltb s 1) 0x7f80_0000 0 }
-{
-    if s < 1 {
-        return 0x7f800000;
-    }
-    0
+    minus
 }
 
 // the pattern of h * 2^(e - 62), or of h * 2^-(e + 63)
@@ -132,8 +123,9 @@ fn exp_bits(b: u32) -> u32
         return 0x3f800000;
     }
     let s = b / 0x8000_0000;
-    if limit(s) <= a {
-        return past(s);
+    // from the first pattern on e^x is infinite, and from the second e^-x is 0
+    if either(s, 0x42b17218, 0x42d00000) <= a {
+        return either(s, 0x7f800000, 0);
     }
     signed(s, scaled(a, 94))
 }

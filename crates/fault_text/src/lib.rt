@@ -1,12 +1,13 @@
-// What is wrong with a text that says a circuit, put into lent bytes: the number of its line, and what is wrong.
-#![tactic(auto)]
+// What is wrong with a text that says a circuit, put on a page: the number of its line, and what is wrong.
+// Stays: functions of our own and no `Display`, for the reason in crate `lines`.
+#![tactic(auto, using(lines::proofs::Placing::putting))]
 
 ghost use Rattle.std.specs.Prelude.{◌≡◌};
-ghost use Rattle.lines.specs.Text.{Clipped};
+ghost use Rattle.lines.specs.Text.{with_text};
 ghost use Rattle.fault_text.specs.FaultText.{fault_words, wrong_text};
 
 use compose_line::{Fault, Wrong};
-use lines::{put_byte, put_decimal, put_word};
+use lines::Page;
 
 #[tactic(auto, unfolding(crate::specs::FaultText::fault_words))]
 fn fault_words(fault: Fault) -> &'static [u8]
@@ -32,12 +33,13 @@ fn fault_words(fault: Fault) -> &'static [u8]
     }
 }
 
-pub fn put_wrong(out: &mut [u8], wrong: Wrong) -> usize
-    ensures { Clipped (wrong_text wrong) out.old 0 out.new result }
+#[tactic(auto, using(lines::proofs::Placing::putting), unfolding(crate::specs::FaultText::wrong_text))]
+pub fn put_wrong<const N: usize>(page: &mut Page<N>, wrong: Wrong)
+    ensures { page.new ≡ with_text N page.old (wrong_text wrong) }
 {
-    let a = put_word(out, 0, b"line ");
-    let b = put_decimal(out, a, wrong.line as u64);
-    let c = put_word(out, b, b": ");
-    let d = put_word(out, c, fault_words(wrong.fault));
-    put_byte(out, d, b'\n')
+    page.put_word(b"line ");
+    page.put_decimal(wrong.line as u64);
+    page.put_word(b": ");
+    page.put_word(fault_words(wrong.fault));
+    page.put_byte(b'\n');
 }

@@ -1,29 +1,31 @@
-// The five characters of a printed figure, put into lent bytes as the crate `lines` puts text.
-#![tactic(auto)]
+// The five characters of a printed figure, put on a page.
+// Stays: functions of our own and no `Display`, for the reason in crate `lines`.
+#![tactic(auto, using(lines::proofs::Placing::putting))]
 
 ghost use Rattle.std.specs.Prelude.{◌≡◌, ◌∷◌, ◌-◌, length};
-ghost use Rattle.lines.specs.Text.{Clipped};
+ghost use Rattle.lines.specs.Text.{with_text};
 ghost use Rattle.figures.specs.Figure.{figure_of};
 ghost use Rattle.figure_text.specs.FigureText.{dash, spaces, padded_to_five, tenths_text, figure_text};
 
 use figures::Printed;
+use lines::Page;
 
-fn put_spaces(out: &mut [u8], at: usize, n: usize) -> usize
-    ensures { Clipped (spaces n) out.old at out.new result }
+#[tactic(auto, using(lines::proofs::Placing::putting), unfolding(crate::specs::FigureText::spaces))]
+fn put_spaces<const N: usize>(page: &mut Page<N>, n: usize)
+    ensures { page.new ≡ with_text N page.old (spaces n) }
 {
-    let mut e = at;
     for _i in 0..n {
-        e = lines::put_byte(out, e, b' ');
+        page.put_byte(b' ');
     }
-    e
 }
 
-fn put_tenths(out: &mut [u8], at: usize, n: u32) -> usize
-    ensures { Clipped (tenths_text n) out.old at out.new result }
+#[tactic(auto, using(lines::proofs::Placing::putting), unfolding(crate::specs::FigureText::tenths_text))]
+fn put_tenths<const N: usize>(page: &mut Page<N>, n: u32)
+    ensures { page.new ≡ with_text N page.old (tenths_text n) }
 {
-    let a = lines::put_decimal(out, at, (n / 10) as u64);
-    let b = lines::put_byte(out, a, b'.');
-    lines::put_decimal(out, b, (n % 10) as u64)
+    page.put_decimal(u64::from(n / 10));
+    page.put_byte(b'.');
+    page.put_decimal(u64::from(n % 10));
 }
 
 // How many spaces stand before the tenths.
@@ -49,36 +51,37 @@ fn blanks_minus(n: u32) -> usize
     0
 }
 
-fn put_plus(out: &mut [u8], at: usize, n: u32) -> usize
-    ensures { Clipped (padded_to_five (tenths_text n)) out.old at out.new result }
+fn put_plus<const N: usize>(page: &mut Page<N>, n: u32)
+    ensures { page.new ≡ with_text N page.old (padded_to_five (tenths_text n)) }
 {
-    let a = put_spaces(out, at, blanks(n));
-    put_tenths(out, a, n)
+    put_spaces(page, blanks(n));
+    put_tenths(page, n);
 }
 
-fn put_minus(out: &mut [u8], at: usize, n: u32) -> usize
-    ensures { Clipped (padded_to_five (dash ∷ tenths_text n)) out.old at out.new result }
+fn put_minus<const N: usize>(page: &mut Page<N>, n: u32)
+    ensures { page.new ≡ with_text N page.old (padded_to_five (dash ∷ tenths_text n)) }
 {
-    let a = put_spaces(out, at, blanks_minus(n));
-    let b = lines::put_byte(out, a, b'-');
-    put_tenths(out, b, n)
+    put_spaces(page, blanks_minus(n));
+    page.put_byte(b'-');
+    put_tenths(page, n);
 }
 
-fn put_printed(out: &mut [u8], at: usize, p: Printed) -> usize
-    ensures { Clipped (figure_text p) out.old at out.new result }
+#[tactic(auto, using(lines::proofs::Placing::putting), unfolding(crate::specs::FigureText::figure_text, crate::specs::FigureText::spaces, lines::specs::Text::joined))]
+fn put_printed<const N: usize>(page: &mut Page<N>, p: Printed)
+    ensures { page.new ≡ with_text N page.old (figure_text p) }
 {
     match p {
-        Printed::Tenths(n) => put_plus(out, at, n),
-        Printed::Minus(n) => put_minus(out, at, n),
-        Printed::Stars => lines::put_word(out, at, b"*****"),
-        Printed::Infinite => lines::put_word(out, at, b"  inf"),
-        Printed::NotANumber => lines::put_word(out, at, b"  NaN"),
+        Printed::Tenths(n) => put_plus(page, n),
+        Printed::Minus(n) => put_minus(page, n),
+        Printed::Stars => page.put_word(b"*****"),
+        Printed::Infinite => page.put_word(b"  inf"),
+        Printed::NotANumber => page.put_word(b"  NaN"),
     }
 }
 
 // The figure of a MUF, to the nearest tenth.
-pub fn put_figure(out: &mut [u8], at: usize, muf: f32) -> usize
-    ensures { Clipped (figure_text (figure_of muf)) out.old at out.new result }
+pub fn put_figure<const N: usize>(page: &mut Page<N>, muf: f32)
+    ensures { page.new ≡ with_text N page.old (figure_text (figure_of muf)) }
 {
-    put_printed(out, at, figures::figure(muf))
+    put_printed(page, figures::figure(muf));
 }

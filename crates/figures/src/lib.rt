@@ -20,6 +20,7 @@ pub enum Printed {
 }
 
 // n / d to the nearest whole number, an exact half to the even one.
+// Stays: n and d are a quotient's two numbers, and no pair that is kept.
 fn nearest(n: u64, d: u64) -> u64
     requires { 0 < d }
     ensures { result ≡ nearest_of n d }
@@ -109,6 +110,7 @@ pub fn figure(v: f32) -> Printed
 }
 
 // The case's number.
+// Stays: a figure has two numbers, this and its tenths, and a `From` would not say which it gives.
 pub fn number(p: Printed) -> u32
     ensures { result ≡ figure_number p }
 {

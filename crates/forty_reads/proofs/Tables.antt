@@ -1,13 +1,11 @@
 -- The table of reads, cut, is the table of densities. Both sides compute, whatever the densities are.
 use mathlib.Core.Path.{◌≡◌, refl}
 use mathlib.Core.Bool.{Bool, true, false}
-use mathlib.Core.List.{List}
+use mathlib.Core.List.{List, map}
 use Prim.Native.Nat.{ℕ, ◌/◌, ◌%◌}
-use lib.ListN.{replicate}
 use lib.Ieee.{Float}
 use Rattle.scalar.specs.F32.{◌≥f◌, at}
 use Rattle.scalar.specs.Literals.{f0}
-use Rattle.roots.specs.Roots.{put_each}
 use Rattle.integrands.specs.Integrands.{share_of}
 use Rattle.readings.specs.Scan.{value_of, reading_of}
 use Rattle.forty_reads.specs.Nodes.{ig_at, ib_at, height_of}
@@ -15,15 +13,15 @@ use Rattle.forty_reads.specs.Densities.{cut_of, ysq_of}
 use Rattle.forty_reads.specs.Walk.{read_at, placed, place_at, walk_reads, scan_reads, walk_table, scan_table}
 
 abbrev cuts : List Float → Float → List Float
-cuts read fr = put_each (λ k. share_of (at read k) fr) (replicate 40 f0) 40
+cuts read fr = map (λ (d : Float). share_of d fr) read
 
 walk-cut : (up : Bool) (value : ℕ → Float) (fr : Float) → cuts (placed (place_at up) value 40) fr ≡ placed (place_at up) (λ k. share_of (value k) fr) 40
-unfolding put_each placed ig_at ib_at
+unfolding placed ig_at ib_at
 walk-cut true value fr = refl
 walk-cut false value fr = refl
 
 scan-cut : (value : ℕ → Float) (fr : Float) → cuts (placed (λ k. k) value 40) fr ≡ placed (λ k. k) (λ k. share_of (value k) fr) 40
-unfolding put_each placed
+unfolding placed
 scan-cut value fr = refl
 
 pub walk-table : (htr fnsq : List Float) (ht fr : Float) → cuts (walk_reads htr fnsq ht 40) fr ≡ walk_table htr fnsq ht fr 40

@@ -3,13 +3,13 @@
 
 ghost use Rattle.std.specs.Prelude.{◌≡◌, ◌<◌, eqb, replicate};
 ghost use Rattle.scalar.specs.Literals.{f0};
-ghost use Rattle.forty_reads.specs.Nodes.{xt, zg_by, height_of, ig_at, ib_at};
+ghost use Rattle.forty_reads.specs.Nodes.{zg_by, height_of, ig_at, ib_at};
 ghost use Rattle.forty_reads.specs.Walk.{walk_reads, scan_reads, table_by, cursor_after, cursor_read_by};
 
-use readings::{read_by_scan, read_on};
+use readings::Profile;
 
 // The positive abscissas of the Gauss rule with forty nodes; the others are their negatives.
-const XT: [f32; 20] = [
+static XT: [f32; 20] = [
     0.0387724175,
     0.1160840707,
     0.1926975807,
@@ -32,13 +32,6 @@ const XT: [f32; 20] = [
     0.9982377097,
 ];
 
-// The table is built once a call and lent: a constant array is built anew in each function that reads it.
-fn abscissas() -> [f32; 20]
-    ensures { result ≡ xt }
-{
-    XT
-}
-
 fn node(x: f32, ib: usize) -> f32
     ensures { result ≡ zg_by (eqb ib 0) x }
 {
@@ -49,11 +42,11 @@ fn node(x: f32, ib: usize) -> f32
 }
 
 // The height of node `ig` of the half `ib`, over the lowest height `h0`.
-fn height(xts: &[f32; 20], h0: f32, ht: f32, ig: usize, ib: usize) -> f32
-    requires { (ig < 20) × (xts.now ≡ xt) }
+fn height(h0: f32, ht: f32, ig: usize, ib: usize) -> f32
+    requires { ig < 20 }
     ensures { result ≡ height_of h0 ht ig ib }
 {
-    let x = xts[ig];
+    let x = XT[ig];
     let zg = node(x, ib);
     ht * (1.0 - 0.5 * zg) + h0
 }
@@ -69,42 +62,28 @@ fn ig_at(k: usize) -> usize
     k - 20
 }
 
+// Up, the half 1 comes first.
 fn ib_at(up: bool, k: usize) -> usize
     ensures { (result < 2) × (result ≡ ib_at up k) }
 {
-    if up {
-        if k < 20 {
-            return 1;
-        }
-        return 0;
-    }
-    if k < 20 {
-        return 0;
-    }
-    1
+    usize::from((k < 20) == up)
 }
 
 // Forty densities, `ysq[ig][ib]` of the Rust at 2 * ig + ib, and the cursor after the last read. By
 // one walk in rising order of the nodes: each read goes on from the cursor that the one before left.
-fn walk_reads(
-    htr: &[f32; 50],
-    fnsq: &[f32; 50],
-    xts: &[f32; 20],
-    ht: f32,
-    read: &mut [f32; 40],
-) -> usize
-    requires { (xts.now ≡ xt) × (read.old ≡ replicate 40 f0) }
-    ensures { (read.new ≡ walk_reads htr.now fnsq.now ht 40) × (result ≡ cursor_after htr.now fnsq.now ht 40) }
+fn walk_reads(p: Profile, ht: f32, read: &mut [f32; 40]) -> usize
+    requires { read.old ≡ replicate 40 f0 }
+    ensures { (read.new ≡ walk_reads p.entry.htr.now p.entry.fnsq.now ht 40) × (result ≡ cursor_after p.entry.htr.now p.entry.fnsq.now ht 40) }
 {
     let up = ht >= 0.0;
-    let h0 = htr[0];
+    let h0 = p.htr[0];
     let mut ih = 0usize;
     // Stays: the read's number gives the node and its half, and the place in the table.
     for k in 0..40 {
         let ig = ig_at(k);
         let ib = ib_at(up, k);
-        let zi = height(xts, h0, ht, ig, ib);
-        let r = read_on(htr, fnsq, zi, ih);
+        let zi = height(h0, ht, ig, ib);
+        let r = p.read_on(zi, ih);
         ih = r.cursor;
         let g = r.reading;
         let y = g.value();
@@ -115,42 +94,35 @@ fn walk_reads(
 }
 
 // By forty scans.
-fn scan_reads(htr: &[f32; 50], fnsq: &[f32; 50], xts: &[f32; 20], ht: f32, read: &mut [f32; 40])
-    requires { (xts.now ≡ xt) × (read.old ≡ replicate 40 f0) }
-    ensures { read.new ≡ scan_reads htr.now fnsq.now ht 40 }
+fn scan_reads(p: Profile, ht: f32, read: &mut [f32; 40])
+    requires { read.old ≡ replicate 40 f0 }
+    ensures { read.new ≡ scan_reads p.entry.htr.now p.entry.fnsq.now ht 40 }
 {
-    let h0 = htr[0];
+    let h0 = p.htr[0];
     // Stays: the read's number gives the node and its half, and the place in the table.
     for k in 0..40 {
         let ig = k / 2;
         let ib = k % 2;
-        let zi = height(xts, h0, ht, ig, ib);
-        let g = read_by_scan(htr, fnsq, zi);
+        let zi = height(h0, ht, ig, ib);
+        let g = p.read_by_scan(zi);
         let y = g.value();
         read[k] = y;
     }
 }
 
 // The forty densities over `fr`, cut, after all are read; and the cursor.
-pub fn gethp_densities(
-    htr: &[f32; 50],
-    fnsq: &[f32; 50],
-    rises: bool,
-    ht: f32,
-    fr: f32,
-    ysq: &mut [f32; 40],
-) -> usize
+// Stays: `p` stands where the Rust has its state, beside its `ht` and `fr`, and one of two ways to read is
+// chosen by its own test, `if !s.htr_rises`.
+pub fn gethp_densities(p: Profile, ht: f32, fr: f32, ysq: &mut [f32; 40]) -> usize
     requires { ysq.old ≡ replicate 40 f0 }
-    ensures { (ysq.new ≡ table_by rises htr.now fnsq.now ht fr) × (result ≡ cursor_read_by rises htr.now fnsq.now ht) }
+    ensures { (ysq.new ≡ table_by p.entry.rises p.entry.htr.now p.entry.fnsq.now ht fr) × (result ≡ cursor_read_by p.entry.rises p.entry.htr.now p.entry.fnsq.now ht) }
 {
-    let xts = abscissas();
-    let mut read = [0.0f32; 40];
-    if rises {
-        let cursor = walk_reads(htr, fnsq, &xts, ht, &mut read);
-        integrands::shares(&read, fr, ysq);
+    if p.rises {
+        let cursor = walk_reads(p, ht, ysq);
+        integrands::shares(ysq, fr);
         return cursor;
     }
-    scan_reads(htr, fnsq, &xts, ht, &mut read);
-    integrands::shares(&read, fr, ysq);
+    scan_reads(p, ht, ysq);
+    integrands::shares(ysq, fr);
     0
 }

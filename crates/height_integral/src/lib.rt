@@ -8,6 +8,8 @@ ghost use Rattle.scalar.specs.F32.{◌+f◌, ◌-f◌, ◌>f◌, ◌≥f◌, at}
 ghost use Rattle.scalar.specs.Literals.{f0};
 ghost use Rattle.height_integral.specs.Exact.{last_of, seg_of, whole_of, virtual_height_exact_of};
 
+use readings::Profile;
+
 fn reaching(htr: &[f32], top: f32) -> Option<usize>
     ensures { result ≡ position (λ (h : Float). h ≥f top) htr.now }
 {
@@ -39,10 +41,11 @@ fn seg(z1: f32, y1: f32, z2: f32, y2: f32) -> f32
 }
 
 // The lowest `n` segments, whole.
-fn whole(htr: &[f32; 50], fnsq: &[f32; 50], fr: f32, n: usize) -> f32
+fn whole(p: Profile, fr: f32, n: usize) -> f32
     requires { n ≤ 49 }
-    ensures { result ≡ whole_of htr.now fnsq.now fr n }
+    ensures { result ≡ whole_of p.entry.htr.now p.entry.fnsq.now fr n }
 {
+    let Profile { htr, fnsq, .. } = p;
     let mut sum = 0.0;
     // Stays: neighbours of two lists by one index, summed in the Rust's order.
     for i in 0..n {
@@ -63,13 +66,14 @@ fn top(h0: f32, x: f32) -> f32
 }
 
 // How far the virtual height is above the lowest height, where the reflecting height `x` is above it.
-pub fn virtual_height_exact(htr: &[f32; 50], fnsq: &[f32; 50], fr: f32, x: f32) -> f32
-    requires { T (x -f at htr.now 0 >f f0) }
-    ensures { result ≡ virtual_height_exact_of htr.now fnsq.now fr (x -f at htr.now 0) }
+pub fn virtual_height_exact(p: Profile, fr: f32, x: f32) -> f32
+    requires { T (x -f at p.htr.now 0 >f f0) }
+    ensures { result ≡ virtual_height_exact_of p.entry.htr.now p.entry.fnsq.now fr (x -f at p.entry.htr.now 0) }
 {
+    let Profile { htr, fnsq, .. } = p;
     let end = top(htr[0], x);
     let n = last(htr, end) - 1;
-    let sum = whole(htr, fnsq, fr, n);
+    let sum = whole(p, fr, n);
     let part = seg(htr[n], fnsq[n] / fr, end, 1.0);
     sum + part
 }

@@ -1,4 +1,5 @@
 // Heights, a number found on a grid, a reading and a layer's number as words.
+// Stays: words of any length are lent, as callers in C have them, so a function asks for room.
 #![tactic(auto)]
 
 ghost use Rattle.std.specs.Prelude.{◌≡◌, ◌≤◌, length};

@@ -5,7 +5,6 @@ ghost use Rattle.std.specs.Prelude.{false, ◌&&◌, ◌≡◌};
 ghost use Rattle.scalar.specs.F32.{◌>f◌};
 ghost use Rattle.scalar.specs.Literals.{f0};
 ghost use Rattle.forty_reads.specs.Walk.{flat, ysq_read_by, cursor_read_by};
-ghost use Rattle.heights.specs.Weights.{wt};
 ghost use Rattle.heights.specs.Gethp.{hp_of, heights_by, gethp_of, gethp_scan_of};
 ghost use Rattle.heights.specs.Walk.{gethp_read_of};
 
@@ -13,9 +12,9 @@ use forty_reads::gethp_densities;
 use height_integral::virtual_height_exact;
 use layers::IonoState;
 use profile::rises_throughout;
-use readings::profile_interpolate;
+use readings::{Profile, profile_interpolate};
 
-#[derive(Drop)]
+#[derive(Clone, Copy, Debug, PartialEq)]
 pub struct Heights {
     // virtual and true, in km
     pub hp: f32,
@@ -28,7 +27,7 @@ pub struct Heights {
 }
 
 // The weight of each of the twenty abscissas, and of its negative.
-const WT: [f32; 20] = [
+static WT: [f32; 20] = [
     0.0775059480,
     0.0770398182,
     0.0761103619,
@@ -51,48 +50,31 @@ const WT: [f32; 20] = [
     0.0045212771,
 ];
 
-// The table is built once a call and lent: a constant array is built anew in each function that reads it.
-fn weights() -> [f32; 20]
-    ensures { result ≡ wt }
-{
-    WT
-}
-
 // From `ig` 0 up, as in the Rust: another order of the sum would be rounded otherwise.
-fn quadrature(ysq: &[f32; 40], wts: &[f32; 20]) -> f32
-    requires { wts.now ≡ wt }
+fn quadrature(ysq: &[f32; 40]) -> f32
     ensures { result ≡ hp_of (flat ysq.now) 20 }
 {
-    let mut mup = [0.0f32; 40];
-    integrands::integrands(ysq, &mut mup);
+    let mup = integrands::integrands(*ysq);
     let mut hp = 0.0;
     // Stays: a weight and two integrands by one index, summed in the Rust's order.
     for ig in 0..20 {
         let lower = 2 * ig;
         let upper = 2 * ig + 1;
-        let w = wts[ig];
+        let w = WT[ig];
         hp = hp + w * (mup[lower] + mup[upper]);
     }
     hp
 }
 
 // By the sum over forty densities, read by a walk or by scans. `ht` is the reflecting height less the lowest one.
-fn by_densities(
-    htr: &[f32; 50],
-    fnsq: &[f32; 50],
-    rises: bool,
-    ht: f32,
-    fr: f32,
-    segment: u32,
-) -> Heights
-    ensures { result ≡ heights_by false htr.now fnsq.now fr ht segment (ysq_read_by rises htr.now fnsq.now ht fr) (cursor_read_by rises htr.now fnsq.now ht) }
+fn by_densities(p: Profile, ht: f32, fr: f32, segment: u32) -> Heights
+    ensures { result ≡ heights_by false p.entry.htr.now p.entry.fnsq.now fr ht segment (ysq_read_by p.entry.rises p.entry.htr.now p.entry.fnsq.now ht fr) (cursor_read_by p.entry.rises p.entry.htr.now p.entry.fnsq.now ht) }
 {
-    let h0 = htr[0];
+    let h0 = p.htr[0];
     let hrmz = ht * 0.5 * 1.0;
     let mut ysq = [0.0f32; 40];
-    let cursor = gethp_densities(htr, fnsq, rises, ht, fr, &mut ysq);
-    let wts = weights();
-    let hp = quadrature(&ysq, &wts);
+    let cursor = gethp_densities(p, ht, fr, &mut ysq);
+    let hp = quadrature(&ysq);
     Heights {
         hp: h0 + hrmz * hp,
         ht: h0 + ht,
@@ -108,10 +90,13 @@ fn rule_used(exact: bool, ht: f32) -> bool
     exact && ht > 0.0
 }
 
-// `gethp` with the exact rule where it is asked for and can be used, else with the densities read by a walk, or by scans. The profile is lent: for a caller that asks for many frequencies on one.
-pub fn gethp_read(htr: &[f32; 50], fnsq: &[f32; 50], exact: bool, rises: bool, fxx: f32) -> Heights
-    ensures { result ≡ gethp_read_of exact rises htr.now fnsq.now fxx }
+// `gethp` with the exact rule where it is asked for and can be used, else with the densities read by a
+// walk where the profile is said to rise, or by scans. For a caller that asks for many frequencies on
+// one profile.
+pub fn gethp_read(p: Profile, exact: bool, fxx: f32) -> Heights
+    ensures { result ≡ gethp_read_of exact p.entry.rises p.entry.htr.now p.entry.fnsq.now fxx }
 {
+    let Profile { htr, fnsq, .. } = p;
     let fr = fxx * fxx;
     let h0 = htr[0];
     if fr - fnsq[0] <= 0.0 {
@@ -127,7 +112,7 @@ pub fn gethp_read(htr: &[f32; 50], fnsq: &[f32; 50], exact: bool, rises: bool, f
     let segment = found.segment;
     let ht = top - h0;
     if rule_used(exact, ht) {
-        let rise = virtual_height_exact(htr, fnsq, fr, top);
+        let rise = virtual_height_exact(p, fr, top);
         return Heights {
             hp: h0 + rise,
             ht: h0 + ht,
@@ -136,14 +121,20 @@ pub fn gethp_read(htr: &[f32; 50], fnsq: &[f32; 50], exact: bool, rises: bool, f
             segment,
         };
     }
-    by_densities(htr, fnsq, rises, ht, fr, segment)
+    by_densities(p, ht, fr, segment)
 }
 
 // The heights of the vertical frequency `fxx`, densities read by a walk or by scans: `gethp` where `rises` is what the rising test says of the state's heights, for a caller that asks for many frequencies on one profile.
+// Stays: `s` and `fxx` are the Rust's parameters, and `rises` goes beside `s` where the test is made once.
 pub fn gethp_rising(s: IonoState, rises: bool, fxx: f32) -> Heights
     ensures { result ≡ gethp_read_of s.exact_virtual_height rises s.htr s.fnsq fxx }
 {
-    gethp_read(&s.htr, &s.fnsq, s.exact_virtual_height, rises, fxx)
+    let p = Profile {
+        htr: &s.htr,
+        fnsq: &s.fnsq,
+        rises,
+    };
+    gethp_read(p, s.exact_virtual_height, fxx)
 }
 
 // The virtual and the true height of the vertical frequency `fxx`. The heights are tested here: the state's rising mark is not read.
@@ -157,5 +148,5 @@ pub fn gethp(s: IonoState, fxx: f32) -> Heights
 pub fn gethp_scan(s: IonoState, fxx: f32) -> Heights
     ensures { result ≡ gethp_scan_of s fxx }
 {
-    gethp_read(&s.htr, &s.fnsq, s.exact_virtual_height, false, fxx)
+    gethp_rising(s, false, fxx)
 }

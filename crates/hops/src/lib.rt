@@ -8,7 +8,7 @@ ghost use Rattle.hops.specs.Rounds.{sph_of, round_of, settled_of, rounds_of};
 use constants::{D2R, PIO2, RZ};
 use refusal::Refusal;
 
-#[derive(Clone, Copy)]
+#[derive(Clone, Copy, Debug, PartialEq)]
 pub struct HopGeometry {
     pub secp: f32,
     pub sphe: f32,
@@ -23,7 +23,7 @@ pub struct HopGeometry {
 
 // What the rounds of one layer hold to: critical frequency, tangent frequency, heights, and the
 // geometry of the first pass.
-#[derive(Clone, Copy)]
+#[derive(Clone, Copy, Debug, PartialEq)]
 pub struct Ray {
     pub fc: f32,
     pub fx: f32,
@@ -35,7 +35,7 @@ pub struct Ray {
 }
 
 // What a round hands to the next.
-#[derive(Clone, Copy)]
+#[derive(Clone, Copy, Debug, PartialEq)]
 pub struct Round {
     pub sphe: f32,
     pub fob: f32,
@@ -70,6 +70,7 @@ pub fn hop_count(gcdkm: f32, amind: f32, h: f32) -> Result<f32, Refusal>
 }
 
 // Divided in two steps for E and F1 and in one for F2, as the Rust does: the last bits differ.
+// Stays: `split_first` is the Rust's own parameter, beside which a reader holds ours.
 fn half_angle(gcdkm: f32, xhops: f32, split_first: bool) -> f32
     ensures { result ≡ psi_of gcdkm xhops split_first }
 {
@@ -124,6 +125,7 @@ fn hop_angles(gcdkm: f32, xhops: f32, hp: f32, ht: f32, split_first: bool) -> Ho
     }
 }
 
+// Stays: gcdkm, amind, hp, ht and split_first are the Rust's own parameters, in its order.
 pub fn hop_geometry(
     gcdkm: f32,
     amind: f32,
@@ -165,6 +167,8 @@ fn settled(fob2: f32, fob1: f32) -> bool
 }
 
 // At least one round; no more after a change of at most 0.1 MHz, nor after the fifth.
+// Stays: the loop whose `break` hands out the frequency is the Rust's form, kept by a rule of the
+// project.
 pub fn rounds(p: Ray, start: Round) -> Round
     ensures { result ≡ rounds_of p 5 start }
 {

@@ -1,4 +1,6 @@
 // A MUF's answer as words: the hour, and the word of an Es row that is rewritten.
+// Stays: out with from, and out of 54 words, are the words that callers in C lend; the exports test
+// their lengths once, before all else.
 #![tactic(auto)]
 
 ghost use Rattle.std.specs.Prelude.{◌≡◌, ◌+◌, ◌≤◌, length};

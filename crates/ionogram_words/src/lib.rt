@@ -10,6 +10,8 @@ use reflectrix::Ionogram;
 use refusal::Refusal;
 use shapes::Mark;
 
+// Stays: apart from the exports that write a `u32` as it is answered: a count is a `usize`, and fits a word
+// because it is at most 40.
 fn scan_into(a: Result<usize, Refusal>, out: &mut [u32]) -> u32
     requires { (1 ≤ length out.old) × (scan_value a ≤ 40) }
     ensures { (result ≡ (scan_into a out.old).number) × (out.new ≡ (scan_into a out.old).words) }
@@ -23,7 +25,7 @@ fn scan_into(a: Result<usize, Refusal>, out: &mut [u32]) -> u32
     }
 }
 
-// out: the angle count
+// out: the angle count. Stays: gcdkm and amind are the Rust's, and out is lent by a caller in C.
 pub fn sang(gcdkm: u32, amind: u32, out: &mut [u32]) -> u32
     ensures { (result ≡ (sang_words gcdkm amind out.old).number) × (out.new ≡ (sang_words gcdkm amind out.old).words) }
 {

@@ -15,7 +15,7 @@ use tangents::Tangents;
 
 // The numbers of a circuit: path length in radians and in kilometres, least takeoff angle in
 // degrees, sunspot number.
-#[derive(Clone, Copy)]
+#[derive(Clone, Copy, Debug, PartialEq)]
 pub struct PathNumbers {
     pub gcd: f32,
     pub gcdkm: f32,
@@ -24,7 +24,7 @@ pub struct PathNumbers {
 }
 
 // How far the F2 MUF spreads below its median, and above.
-#[derive(Clone, Copy)]
+#[derive(Clone, Copy, Debug, PartialEq)]
 pub struct Deviations {
     pub lower: f32,
     pub upper: f32,
@@ -48,12 +48,10 @@ fn f2_heights(t: IonoState, l: Slot, x: Tangents) -> HeightPair
     ensures { result ≡ f2_heights_with gethp_of t l x }
 {
     if layers::profile_only(t) {
-        let h = heights::gethp(t, x.fx2);
-        return HeightPair { hp: h.hp, ht: h.ht };
+        return HeightPair::from(heights::gethp(t, x.fx2));
     }
     if l.fi1 > 0.0 {
-        let h = heights::gethp(t, x.fx2);
-        return HeightPair { hp: h.hp, ht: h.ht };
+        return HeightPair::from(heights::gethp(t, x.fx2));
     }
     parabolic(l, x)
 }
@@ -80,6 +78,8 @@ fn bent(fc: f32, fx: f32, h: HeightPair, g: HopGeometry) -> Round
     hops::rounds(p, start)
 }
 
+// Stays: f2d, clat and clck, with ssn, are the Rust's own parameters. In a struct that borrows the
+// table each clause of those that hand them on would read `d.entry.f2d.now`, which is no plainer.
 fn both_deviations(
     f2d: &[f32],
     f2muf: f32,
@@ -116,6 +116,8 @@ fn f2_bent(
     Ok(e_lines::line(sig.lower, sig.upper, b.del, b.hp, ht2, fx2, xhops, f2muf))
 }
 
+// Stays: t, l, x, f2d, clat, clck and c are no one thing: the profile, its slot, the tangents worked
+// out of it, the decile table, the point's latitude and clock, the circuit.
 pub fn f2_line(
     t: IonoState,
     l: Slot,
@@ -143,15 +145,11 @@ fn f1_found(g: HopGeometry, h: HeightPair, fc: f32, fx1: f32) -> LayerMuf
 }
 
 // Where there is an F1 layer.
-fn f1_own(t: IonoState, fc: f32, fx1: f32, gcdkm: f32, amind: f32) -> Result<LayerMuf, Refusal>
-    ensures { result ≡ f1_own_with gethp_of t fc fx1 gcdkm amind }
+fn f1_own(t: IonoState, fc: f32, fx1: f32, c: PathNumbers) -> Result<LayerMuf, Refusal>
+    ensures { result ≡ f1_own_with gethp_of t fc fx1 c.gcdkm c.amind }
 {
-    let at = heights::gethp(t, fx1);
-    let h = HeightPair {
-        hp: at.hp,
-        ht: at.ht,
-    };
-    let g = hops::hop_geometry(gcdkm, amind, h.hp, h.ht, true)?;
+    let h = HeightPair::from(heights::gethp(t, fx1));
+    let g = hops::hop_geometry(c.gcdkm, c.amind, h.hp, h.ht, true)?;
     Ok(f1_found(g, h, fc, fx1))
 }
 
@@ -161,14 +159,13 @@ pub fn f1_line(
     l: Slot,
     fx1: f32,
     e: LayerMuf,
-    gcdkm: f32,
-    amind: f32,
+    c: PathNumbers,
 ) -> Result<LayerMuf, Refusal>
-    ensures value { result ≡ f1_line_of t l fx1 e gcdkm amind }
-    ensures f1_says { F1Says result t l fx1 e gcdkm amind }
+    ensures value { result ≡ f1_line_of t l fx1 e c.gcdkm c.amind }
+    ensures f1_says { F1Says result t l fx1 e c.gcdkm c.amind }
 {
     if l.fi1 <= 0.0 {
         return Ok(e);
     }
-    f1_own(t, l.fi1, fx1, gcdkm, amind)
+    f1_own(t, l.fi1, fx1, c)
 }

@@ -9,7 +9,7 @@ ghost use Rattle.layers.specs.State.{profile_only, zero_state, with_iedp, with_i
 pub mod owners;
 
 // The regular layers over a control point: in each list E first, then F1, then F2.
-#[derive(Clone, Copy)]
+#[derive(Clone, Copy, Debug, PartialEq)]
 pub struct LayerParams {
     // critical frequency in MHz; an F1 of 0 is no F1
     pub fi: [f32; 3],
@@ -20,7 +20,7 @@ pub struct LayerParams {
 }
 
 // Sporadic E over a control point.
-#[derive(Clone, Copy)]
+#[derive(Clone, Copy, Debug, PartialEq)]
 pub struct EsParams {
     // its critical frequency in MHz: the median `fs[1]`, and the deciles below and above it
     pub fs: [f32; 3],
@@ -37,7 +37,7 @@ pub enum Owner {
 }
 
 // The tables are flat: `fi[3 * k + i]`, layer i of point or slot k, is the Rust's `fi[k][i]`.
-#[derive(Clone, Copy)]
+#[derive(Clone, Copy, Debug, PartialEq)]
 pub struct IonoState {
     pub fi: [f32; 15],
     pub yi: [f32; 15],
@@ -65,7 +65,7 @@ pub struct IonoState {
 }
 
 // A layer's MUF line.
-#[derive(Clone, Copy)]
+#[derive(Clone, Copy, Debug, PartialEq)]
 pub struct LayerMuf {
     pub sigl: f32,
     pub sigu: f32,
@@ -108,6 +108,7 @@ pub fn zero_state() -> IonoState
 }
 
 // The shape that a circuit file asks for, or an INTEGRATE card.
+// Stays: three setters, here and below, of one line each; one for all would have to be told the field.
 pub fn with_iedp(mut s: IonoState, iedp: i32) -> IonoState
     ensures { result ≡ with_iedp s iedp }
 {

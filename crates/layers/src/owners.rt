@@ -9,6 +9,7 @@ impl From<Owner> for u32 {
     // 0 for nobody, 1 for a slot, 2 for a supplied profile
     ghost from_gives = { λ o n. n ≡ owner_number o };
 
+    // Stays: a case holds a value, so no number stands beside the cases to be read by `as`.
     fn from(o: Owner) -> u32 {
         match o {
             Owner::None => 0,

@@ -13,7 +13,8 @@ pub fn text_into(text: Result<&[u8], Refusal>, out: &mut [u8], words: &mut [u32]
 {
     match text {
         Ok(text) => {
-            words[0] = lines::put_word(out, 0, text) as u32;
+            out[..text.len()].copy_from_slice(text);
+            words[0] = text.len() as u32;
             0
         }
         Err(r) => u32::from(r),

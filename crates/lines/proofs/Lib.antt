@@ -1,4 +1,4 @@
--- Text placed in lent bytes: places, decimals, sizes.
+-- Text put on a page: places, decimals, sizes.
 pub mod Placing
 pub mod Decimals
 pub mod Sizes

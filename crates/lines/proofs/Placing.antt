@@ -1,81 +1,75 @@
--- Texts put one after the other, clipped or not, are their concatenation put at once; a text that fits is put whole.
-use mathlib.Core.Path.{◌≡◌, refl, ap, sym, ◌∙◌}
-use mathlib.Core.Bool.{Bool, true, false}
-use mathlib.Core.List.{List, [], ◌∷◌, ◌++◌}
-use Prim.Native.Nat.{ℕ, suc, ◌+◌, ◌≤◌, ◌<◌}
+-- Texts put one after the other are their concatenation put at once; a text that fits is put whole.
+use Rattle.std.proofs.Common.{ℕ, zero, suc, ◌+◌, ◌-◌, ◌≤◌, ◌<◌, ◌≡◌, List, [], ◌∷◌, ◌++◌, length, take, get_or, append_assoc}
+use mathlib.Core.Path.{refl, ap, sym, ◌∙◌}
 use native.Mathlib.Numerals.{add-one}
 use native.Mathlib.Omega.{arith}
-use borrow.Author.Tests.{ltb-true, ltb-false}
-use lib.Dec.{ltb}
-use lib.ListN.{length, take, get_or, set, length-append}
-use lib.Seq.{sets, sets-eq, set_out, take-suc, take_at, length-take-le, length-sets}
-use Rattle.io.specs.Counts.{IsPrefixLen}
-use Rattle.lines.specs.Text.{joined, Clipped, Put}
+use lib.ListN.{set, length-append}
+use Rattle.std.proofs.lemmas.List.{append-nil, take_all, take_more_set, length-take-le}
+use lib.Seq.{take-suc}
+use Rattle.lines.specs.Text.{joined, with_text}
 
-sets-append : {A : Type 0} (l : List A) (i : ℕ) (t u : List A) → sets l i (t ++ u) ≡ sets (sets l i t) (i + length t) u
-sets-append l i [] u = ap (λ (k : ℕ). sets l k u) (omega arith)
-sets-append l i (a ∷ t) u = sets-append (set l i a) (suc i) t u ∙ ap (λ (k : ℕ). sets (sets l i (a ∷ t)) k u) (omega arith)
-
--- nothing is put past the end
-sets-out : {A : Type 0} (l : List A) (i : ℕ) (t : List A) → length l ≤ i → sets l i t ≡ l
-sets-out l i [] h = refl
-sets-out {A = A} l i (a ∷ t) h = ap (λ (x : List A). sets x (suc i) t) (set_out l i a h) ∙ sets-out l (suc i) t (omega arith)
-
-pub clip-length : {t l l' : List ℕ} {at r : ℕ} → Clipped t l at l' r → length l' ≡ length l
-clip-length {t} {l} {l'} {at} {r} p = ap length p.cells ∙ length-sets l at t
-
--- no text
-pub clip-none : {l : List ℕ} {at : ℕ} → Clipped [] l at l at
-clip-none = record { next = omega arith; cells = refl }
-
--- what is put from the place that a text reached is what would be put from its end
-from-there : {t l l' : List ℕ} {at r : ℕ} (u : List ℕ) → Clipped t l at l' r → sets l' r u ≡ sets l' (at + length t) u
-from-there {t} {l} {l'} {at} {r} u p = by (ltb (length l) (at + length t)) refl
-  where
-    by : (b : Bool) → ltb (length l) (at + length t) ≡ b → sets l' r u ≡ sets l' (at + length t) u
-    by true e =
-        let past = ltb-true (length l) (at + length t) e in
-        sets-out l' r u (omega (arith, past, p.next, clip-length p)) ∙ sym (sets-out l' (at + length t) u (omega (arith, past, clip-length p)))
-    by false e = let room = ltb-false (length l) (at + length t) e in ap (λ (k : ℕ). sets l' k u) (omega (arith, room, p.next))
+-- what there is room for of two texts is what there is room for of the first, and of the second after that
+room_then : (n : ℕ) (t u : List ℕ) → take n t ++ take (n - length (take n t)) u ≡ take n (t ++ u)
+room_then zero t u = refl
+room_then (suc n) [] u = let e : suc n - 0 ≡ suc n = omega arith in rw e refl
+room_then (suc n) (a ∷ t) u =
+    let e : suc n - suc (length (take n t)) ≡ n - length (take n t) = omega arith in
+    rw e (ap (λ (x : List ℕ). a ∷ x) (room_then n t u))
 
 -- a text put after another
-pub clip-then : {t u l l' l'' : List ℕ} {at r r' : ℕ} → Clipped t l at l' r → Clipped u l' r l'' r' → Clipped (t ++ u) l at l'' r'
-clip-then {t} {u} {l} {l'} {l''} {at} {r} {r'} p q =
-    record {
-      next = omega (arith, p.next, q.next, clip-length p, length-append t u);
-      cells =
-          q.cells
-          ∙ from-there u p
-          ∙ ap (λ (x : List ℕ). sets x (at + length t) u) p.cells
-          ∙ sym (sets-append l at t u);
-    }
+pub put_then : (n : ℕ) (page t u : List ℕ) {page' page'' : List ℕ} → page' ≡ with_text n page t → page'' ≡ with_text n page' u → page'' ≡ with_text n page (t ++ u)
+unfolding with_text
+put_then n page t u p q =
+    let m = n - length page in
+    let e : n - length (page ++ take m t) ≡ m - length (take m t) = omega (arith, length-append page (take m t)) in
+    q
+    ∙ rw (p, e, append_assoc page (take m t) (take (m - length (take m t)) u)) (ap (λ (x : List ℕ). page ++ x) (room_then m t u))
+
+-- the same, as a rule
+pub put_both : (n : ℕ) (page t u : List ℕ) → with_text n (with_text n page t) u ≡ with_text n page (t ++ u)
+put_both n page t u = put_then n page t u refl refl
+
+take_none : (n : ℕ) → take {A = ℕ} n [] ≡ []
+take_none zero = refl
+take_none (suc n) = refl
+
+-- no text
+pub put_none : (n : ℕ) (page : List ℕ) → with_text n page [] ≡ page
+unfolding with_text
+put_none n page = rw (take_none (n - length page)) (append-nil page)
+
+-- a byte that has room, and one that has none, where the page is the first `len` of the bytes
+pub put_room : (n len : ℕ) (bytes : List ℕ) (b : ℕ) → length bytes ≡ n → len < n → take (len + 1) (set bytes len b) ≡ with_text n (take len bytes) (b ∷ [])
+unfolding with_text
+put_room n len bytes b e h =
+    let k : length (take len bytes) ≡ len = length-take-le len bytes (omega arith) in
+    let m : n - length (take len bytes) ≡ suc (n - len - 1) = omega arith in
+    rw m (take_more_set bytes len b (omega arith) ∙ ap (λ (x : List ℕ). take len bytes ++ b ∷ x) (sym (take_none (n - len - 1))))
+
+pub put_full : (n len : ℕ) (bytes : List ℕ) (b : ℕ) → length bytes ≡ n → len ≤ n → n ≤ len → take len bytes ≡ with_text n (take len bytes) (b ∷ [])
+unfolding with_text
+put_full n len bytes b e h f =
+    let k : length (take len bytes) ≡ len = length-take-le len bytes (omega arith) in
+    let m : n - length (take len bytes) ≡ 0 = omega arith in
+    rw m (sym (append-nil (take len bytes)))
 
 -- none of many texts, and one more
-pub clip-start : (text : ℕ → List ℕ) {l : List ℕ} {at : ℕ} → Clipped (joined text 0) l at l at
+pub joined_none : (text : ℕ → List ℕ) → joined text 0 ≡ []
 unfolding joined
-clip-start text = clip-none
+joined_none text = refl
 
-pub clip-next : (text : ℕ → List ℕ) (i : ℕ) {l l' l'' : List ℕ} {at r r' : ℕ} → Clipped (joined text i) l at l' r → Clipped (text i) l' r l'' r' → Clipped (joined text (i + 1)) l at l'' r'
+pub joined_more : (text : ℕ → List ℕ) (i : ℕ) → joined text (i + 1) ≡ joined text i ++ text i
 unfolding joined
-clip-next text i p q = rw (add-one i) (clip-then p q)
+joined_more text i = rw (add-one i) refl
 
 -- one more byte of a word
-pub clip-byte : (w : List ℕ) (i : ℕ) {l l' l'' : List ℕ} {at r r' : ℕ} → i < length w → Clipped (take i w) l at l' r → Clipped (get_or w i 0 ∷ []) l' r l'' r' → Clipped (take (i + 1) w) l at l'' r'
-clip-byte w i h p q = rw (add-one i, take-suc w i 0 h) (clip-then p q)
+pub put_more : (w : List ℕ) (i n : ℕ) (page : List ℕ) {page' page'' : List ℕ} → i < length w → page' ≡ with_text n page (take i w) → page'' ≡ with_text n page' (get_or w i 0 ∷ []) → page'' ≡ with_text n page (take (i + 1) w)
+put_more w i n page h p q = rw (add-one i, take-suc w i 0 h) (put_then n page (take i w) (get_or w i 0 ∷ []) p q)
 
--- a text that has room
-pub whole : {t l l' : List ℕ} {at r : ℕ} → Clipped t l at l' r → at + length t ≤ length l → Put t l at l' r
-whole p h = record { next = omega (arith, p.next); cells = p.cells }
+-- a text that has room, on an empty page
+pub fits : (n : ℕ) (t : List ℕ) → length t ≤ n → with_text n [] t ≡ t
+unfolding with_text
+fits n t h = take_all (n - 0) t (omega arith)
 
--- a text that has room, from the start
-pub fits : {t l l' : List ℕ} {r : ℕ} → Clipped t l 0 l' r → length t ≤ length l → Put t l 0 l' r × IsPrefixLen r l'
-fits {t} {l} {l'} {r} p h =
-    let w = whole p (omega arith) in
-    let n : r ≤ length l' = omega (arith, w.next, clip-length p) in
-    (w, (n, sym (length-take-le _ _ n)))
-
--- a text that was put is read back
-pub put-taken : {t l l' : List ℕ} {r : ℕ} → Put t l 0 l' r → r ≤ length l' → take r l' ≡ t
-put-taken {t} {l} {l'} {r} p h =
-    let e : length l' ≡ length l = ap length p.cells ∙ length-sets l 0 t in
-    rw (p.cells, sets-eq t l 0 (omega (arith, p.next))) (take_at t _ r (omega (arith, p.next)))
+-- what puts a text together from those of the calls
+pub ruleset putting = (put_both, put_none, joined_none, joined_more)

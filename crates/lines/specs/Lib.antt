@@ -1,2 +1,2 @@
--- Text in lent bytes.
+-- Text on a page.
 pub mod Text

@@ -1,6 +1,5 @@
--- The programs' text as lists of bytes, and what it is to put a text into lent bytes.
-use Rattle.std.specs.Prelude.{ℕ, zero, suc, ◌+◌, ◌-◌, ◌/◌, ◌%◌, min, ◌≡◌, Bool, true, false, List, [], ◌∷◌, ◌++◌, ltb, length}
-use Rattle.std.proofs.lemmas.List.Edits.{sets}
+-- The programs' text as lists of bytes, and what it is to put a text on a page.
+use Rattle.std.specs.Prelude.{ℕ, zero, suc, ◌-◌, ◌/◌, ◌%◌, Bool, true, false, List, [], ◌∷◌, ◌++◌, take, ltb, length}
 use Rattle.io.specs.Digits.{hex_digit_ascii, last_digits}
 use Rattle.refusal.specs.declared.Refusal.{Refusal}
 use Rattle.refusal.specs.Number.{number_of}
@@ -47,12 +46,6 @@ unfoldable pub joined : (ℕ → List ℕ) → ℕ → List ℕ
 joined text zero = []
 joined text (suc n) = joined text n ++ text n
 
--- The text was put into the bytes l from the place `at`: l' is what they hold then, every other byte as it was, and r the place after the text.
-pub record Put (text l : List ℕ) (at : ℕ) (l' : List ℕ) (r : ℕ) : Type 0 where
-  pub next : r ≡ at + length text
-  pub cells : l' ≡ sets l at text
-
--- As much of the text was put there as there is room for (`sets` changes nothing past the end), and r is the place after what was put.
-pub record Clipped (text l : List ℕ) (at : ℕ) (l' : List ℕ) (r : ℕ) : Type 0 where
-  pub next : r ≡ at + min (length text) (length l - at)
-  pub cells : l' ≡ sets l at text
+-- what stands on a page of n bytes where a text is put after what stood there: as much of it as there is room for
+unfoldable pub with_text : ℕ → List ℕ → List ℕ → List ℕ
+with_text n page text = page ++ take (n - length page) text

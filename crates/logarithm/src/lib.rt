@@ -41,6 +41,7 @@ fn excess(s: u64) -> u64
     u / 3 + u * u / 0x4_0000_0000 / 5
 }
 
+// Stays: n and d are the two numbers of a quotient, and no pair that is kept.
 // ln ((d + n) / (d - n)) in units of 2^-56. The quotient n / d has as many places as fit: it is in units of 2^-l.
 fn twice(n: u64, d: u64) -> u64
     requires { (n ≤ 2 ^ 19) × (2 ^ 24 ≤ d) }
@@ -66,6 +67,8 @@ fn distance(m: u64, c: u64) -> u64
 }
 
 // ln (m / 2^23) in units of 2^-56
+// Stays: that m has 24 digits is asked of three functions of this file, each of which reads it as a number; a type for it would
+// be made at three calls and opened at as many.
 fn rest(m: u64) -> u64
     requires { (2 ^ 23 ≤ m) × (m < 2 ^ 24) }
     ensures { result ≡ rest_of m }

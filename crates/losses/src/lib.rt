@@ -1,6 +1,9 @@
 // `alosfv`: a factor of deviative loss for each of an ionogram's thirty rows. A layer's own rows
 // have zero up to the true height at its MUF; the two rows of a cusp between layers have one at any
 // height.
+// Stays: names, order and grouping of the numbers are the Rust's, and a row is two heights lent apart,
+// since an ionogram handed down for each would be copied each time. A loop over rows reads two columns
+// at a row and writes a third.
 #![tactic(auto)]
 
 ghost use Rattle.std.specs.Prelude.{◌≡◌, ◌+◌, ◌<◌, ◌≤◌};
@@ -11,21 +14,21 @@ use reflectrix::Ionogram;
 use refusal::Refusal;
 
 // The factors so far, and the last constant worked out.
-#[derive(Clone, Copy)]
+#[derive(Clone, Copy, Debug, PartialEq)]
 pub struct Factors {
     pub cf: f32,
     pub afac: [f32; 30],
 }
 
 // One row's factor, and the last constant worked out up to it.
-#[derive(Clone, Copy)]
+#[derive(Clone, Copy, Debug, PartialEq)]
 pub struct Loss {
     pub cf: f32,
     pub a: f32,
 }
 
 // How the constant falls with the height: from the height hz, by the semi-thickness y.
-#[derive(Clone, Copy)]
+#[derive(Clone, Copy, Debug, PartialEq)]
 pub struct Decay {
     pub hz: f32,
     pub y: f32,
@@ -44,8 +47,8 @@ fn factor(c: f32, htrue: f32, hprim: f32, hm: f32) -> f32
     c * (hprim - htrue - hm)
 }
 
-// Of a row's two heights. By numbers, as every row's below: an ionogram handed down for each row would
-// be copied each time.
+// Of a row's two heights. Stays: apart from `tail_loss`, as in the Rust, since E's constant has no floor,
+// and by no floor that could be handed in would a NaN stay one.
 fn e_loss(cf: f32, htrue: f32, hprim: f32, htmuf: f32, hm: f32, d: Decay) -> Loss
     ensures { result ≡ e_loss cf htrue hprim htmuf hm d }
 {
@@ -186,15 +189,13 @@ fn not_below_zero(a: f32) -> f32
     if a < 0.0 { 0.0 } else { a }
 }
 
-fn not_below_zeros(l: [f32; 30]) -> [f32; 30]
+fn not_below_zeros(mut l: [f32; 30]) -> [f32; 30]
     ensures { result ≡ not_below_zeros l 30 }
 {
-    let mut g = l;
-    for i in 0..30 {
-        let a = not_below_zero(g[i]);
-        g[i] = a;
+    for a in &mut l {
+        *a = not_below_zero(*a);
     }
-    g
+    l
 }
 
 fn with_afac(mut ion: Ionogram, afac: [f32; 30]) -> Ionogram

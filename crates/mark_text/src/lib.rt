@@ -1,11 +1,13 @@
-// What `sheet` prints of a slot's marks, put into lent bytes as the crate `lines` puts text.
-#![tactic(auto)]
+// What `sheet` prints of a slot's marks, put on a page.
+// Stays: functions of our own and no `Display`, for the reason in crate `lines`.
+#![tactic(auto, using(lines::proofs::Placing::putting))]
 
 ghost use Rattle.std.specs.Prelude.{◌≡◌, ◌<◌};
-ghost use Rattle.lines.specs.Text.{Clipped};
+ghost use Rattle.lines.specs.Text.{with_text};
 ghost use Rattle.shapes.specs.Mark.{name_of};
 ghost use Rattle.mark_text.specs.MarkText.{mark_line, marks_text};
 
+use lines::Page;
 use shapes::Mark;
 
 #[tactic(auto, unfolding(shapes::specs::Mark::name_of))]
@@ -24,30 +26,30 @@ fn name(m: Mark) -> &'static [u8]
 }
 
 // The name of the shape that made a density.
-pub fn put_name(out: &mut [u8], at: usize, m: Mark) -> usize
-    ensures { Clipped (name_of m) out.old at out.new result }
+pub fn put_name<const N: usize>(page: &mut Page<N>, m: Mark)
+    ensures { page.new ≡ with_text N page.old (name_of m) }
 {
-    lines::put_word(out, at, name(m))
+    page.put_word(name(m));
 }
 
-fn put_mark(out: &mut [u8], at: usize, i: usize, m: Mark) -> usize
+#[tactic(auto, using(lines::proofs::Placing::putting), unfolding(crate::specs::MarkText::mark_line))]
+fn put_mark<const N: usize>(page: &mut Page<N>, i: usize, m: Mark)
     requires { i < 50 }
-    ensures { Clipped (mark_line i m) out.old at out.new result }
+    ensures { page.new ≡ with_text N page.old (mark_line i m) }
 {
     let n = i + 1;
-    let a = lines::put_decimal(out, at, n as u64);
-    let b = lines::put_byte(out, a, b' ');
-    let c = put_name(out, b, m);
-    lines::put_byte(out, c, b'\n')
+    page.put_decimal(n as u64);
+    page.put_byte(b' ');
+    put_name(page, m);
+    page.put_byte(b'\n');
 }
 
 // Fifty lines, from the lowest height up.
-pub fn put_marks(out: &mut [u8], at: usize, marks: [Mark; 50]) -> usize
-    ensures { Clipped (marks_text marks) out.old at out.new result }
+#[tactic(auto, using(lines::proofs::Placing::putting), unfolding(crate::specs::MarkText::marks_text))]
+pub fn put_marks<const N: usize>(page: &mut Page<N>, marks: &[Mark; 50])
+    ensures { page.new ≡ with_text N page.old (marks_text marks.now) }
 {
-    let mut e = at;
     for (i, m) in marks.iter().enumerate() {
-        e = put_mark(out, e, i, *m);
+        put_mark(page, i, *m);
     }
-    e
 }

@@ -1,10 +1,12 @@
 // What `mark` prints of inputs that are too short or refused, of our own sheet, and of sheets that differ from it in one place. The
 // stored output has the paper's answers: the sheet of this circuit has a line of `muf`, one of `call`, one of `slot`, thirty rows and
 // fifty marks.
+// Stays: texts side by side, as a trial's name and its input, are each of their own length.
 #![tactic(auto)]
 
 ghost use Rattle.std.specs.Prelude.{◌≤◌, length};
-ghost use Rattle.io.specs.Counts.{IsPrefixLen};
+
+use lines::Page;
 
 // A circuit of one point on a path of 3185 km.
 const FILE: [u8; 128] = [
@@ -21,29 +23,19 @@ const LAST: usize = 83;
 // Room for the longest input that decides, and some bytes more.
 const MOST: usize = 53300;
 
-// n, or all of the bytes where n is more.
-fn within(n: usize, s: &[u8]) -> usize
-    ensures { IsPrefixLen result s.now }
-{
-    n.min(s.len())
-}
-
 // What is printed of an input, after its name.
 fn print(name: &[u8], input: &[u8]) {
     io::write_all(1, name);
-    let mut text = [0u8; marking::ROOM];
-    let len = marking::marking_text(input, &mut text);
-    io::write_all(1, &text[..len]);
+    io::write_all(1, marking::marking_text(input).text());
 }
 
 // The length, lowest byte first, then the file and the sheet.
 fn lengthy(name: &[u8], length: [u8; 4], file: &[u8], sheet: &[u8]) {
-    let mut input = [0u8; MOST];
-    let a = lines::put_word(&mut input, 0, &length);
-    let b = lines::put_word(&mut input, a, file);
-    let c = lines::put_word(&mut input, b, sheet);
-    let e = within(c, &input);
-    print(name, &input[..e]);
+    let mut input: Page<MOST> = Page::new();
+    input.put_word(&length);
+    input.put_word(file);
+    input.put_word(sheet);
+    print(name, input.text());
 }
 
 // A file of 128 bytes.
@@ -81,6 +73,7 @@ fn late() -> [u8; 3200] {
     f[66] = 2;
     f[126] = 64;
     f[127] = 192;
+    // Stays: n is the record's number, which gives its place and the next record's.
     for n in 2..50usize {
         f[64 * n] = 3;
         f[64 * n + 2] = (n % 49 + 1) as u8;
@@ -117,12 +110,11 @@ fn circuits() {
 
 // Our sheet, then zeros up to n bytes in all.
 fn sized(name: &[u8], file: [u8; 128], n: usize) {
-    let mut ours = [0u8; sheet_text::ROOM];
-    let len = sheet_text::sheet_text(&FILE, &mut ours);
-    let mut sheet = [0u8; MOST];
-    lines::put_word(&mut sheet, 0, &ours[..len]);
-    let e = within(n, &sheet);
-    trial(name, file, &sheet[..e]);
+    let ours = sheet_text::sheet_text(&FILE);
+    let mut sheet: Page<MOST> = Page::new();
+    sheet.put_word(ours.text());
+    aligned::put_repeated(&mut sheet, 0, n.saturating_sub(ours.text().len()));
+    trial(name, file, sheet.text());
 }
 
 fn sizes() {
@@ -149,69 +141,63 @@ fn lines_end(s: &[u8], n: usize) -> usize
     s.len()
 }
 
-// Puts the bytes of s from `from` to `to`.
-fn put_part(out: &mut [u8], at: usize, s: &[u8], from: usize, to: usize) -> usize {
-    let b = within(to, s);
-    let a = within(from, &s[..b]);
-    lines::put_word(out, at, &s[a..b])
-}
-
 // How many bytes the first n lines of our sheet have.
-fn start(n: usize) -> usize
+fn after(n: usize) -> usize
     ensures { result ≤ 8192 }
 {
-    let mut ours = [0u8; sheet_text::ROOM];
-    let len = sheet_text::sheet_text(&FILE, &mut ours);
-    lines_end(&ours[..len], n).min(sheet_text::ROOM)
+    lines_end(sheet_text::sheet_text(&FILE).text(), n).min(sheet_text::ROOM)
+}
+
+// Where the line feed of line n stands.
+fn feed(n: usize) -> usize {
+    after(n).saturating_sub(1)
 }
 
 // Our sheet up to a byte, then other bytes, then our sheet again without the next `cut`.
-fn replaced(name: &[u8], from: usize, by: &[u8], cut: u16)
-    requires { from ≤ 10000 }
-{
-    let mut ours = [0u8; sheet_text::ROOM];
-    let len = sheet_text::sheet_text(&FILE, &mut ours);
-    let mut sheet = [0u8; MOST];
-    let a = put_part(&mut sheet, 0, &ours[..len], 0, from);
-    let b = lines::put_word(&mut sheet, a, by);
-    let c = put_part(&mut sheet, b, &ours[..len], from + cut as usize, len);
-    let e = within(c, &sheet);
-    trial(name, FILE, &sheet[..e]);
+fn replaced(name: &[u8], from: usize, cut: usize, by: &[u8]) {
+    let page = sheet_text::sheet_text(&FILE);
+    let ours = page.text();
+    let start = from.min(ours.len());
+    let end = start + cut.min(ours.len() - start);
+    let mut sheet: Page<MOST> = Page::new();
+    sheet.put_word(&ours[..start]);
+    sheet.put_word(by);
+    sheet.put_word(&ours[end..]);
+    trial(name, FILE, sheet.text());
 }
 
-// The same from the end of `lines` lines and `skip` bytes on.
-fn changed(name: &[u8], lines: usize, skip: u8, by: &[u8], cut: u16) {
-    let from = start(lines) + skip as usize;
-    replaced(name, from, by, cut);
-}
-
-// The same from the line feed of a line on.
-fn at_feed(name: &[u8], line: usize, by: &[u8], cut: u16) {
-    let end = start(line);
-    if end > 0 {
-        replaced(name, end - 1, by, cut);
-    }
-}
+// All that is left of our sheet.
+const REST: usize = sheet_text::ROOM;
 
 fn sheets() {
-    changed(b"ours\n", 0, 0, b"", 0);
-    changed(b"no sheet\n", 0, 0, b"", 65535);
-    changed(b"the first line alone\n", 1, 0, b"", 65535);
-    changed(b"all but the last line\n", LAST - 1, 0, b"", 65535);
-    changed(b"three bytes of the last line\n", LAST - 1, 3, b"", 65535);
-    at_feed(b"the last line feed missing\n", LAST, b"", 1);
-    changed(b"an empty line too many\n", LAST, 0, b"\n", 0);
-    changed(b"a space too many, at the end\n", LAST, 0, b" ", 0);
-    at_feed(b"a space before the last line feed\n", LAST, b" ", 0);
-    at_feed(b"a carriage return in the first line\n", 1, b"\r", 0);
-    at_feed(b"a carriage return in the last line\n", LAST, b"\r", 0);
-    changed(b"an empty line in front\n", 0, 0, b"\n", 0);
-    at_feed(b"the first line feed missing\n", 1, b"", 1);
-    changed(b"line 2 missing\n", 1, 0, b"", 11);
-    changed(b"a line feed in line 2\n", 1, 4, b"\n", 0);
-    changed(b"-0 for +0 in line 4\n", 3, 29, b"8", 1);
-    changed(b"a capital letter in line 4\n", 3, 3, b"C", 1);
-    changed(b"another byte in the last line\n", LAST - 1, 0, b"x", 1);
+    replaced(b"ours\n", 0, 0, b"");
+    replaced(b"no sheet\n", 0, REST, b"");
+    replaced(b"the first line alone\n", after(1), REST, b"");
+    replaced(b"all but the last line\n", after(LAST - 1), REST, b"");
+    replaced(
+        b"three bytes of the last line\n",
+        after(LAST - 1) + 3,
+        REST,
+        b"",
+    );
+    replaced(b"the last line feed missing\n", feed(LAST), 1, b"");
+    replaced(b"an empty line too many\n", after(LAST), 0, b"\n");
+    replaced(b"a space too many, at the end\n", after(LAST), 0, b" ");
+    replaced(b"a space before the last line feed\n", feed(LAST), 0, b" ");
+    replaced(b"a carriage return in the first line\n", feed(1), 0, b"\r");
+    replaced(
+        b"a carriage return in the last line\n",
+        feed(LAST),
+        0,
+        b"\r",
+    );
+    replaced(b"an empty line in front\n", 0, 0, b"\n");
+    replaced(b"the first line feed missing\n", feed(1), 1, b"");
+    replaced(b"line 2 missing\n", after(1), 11, b"");
+    replaced(b"a line feed in line 2\n", after(1) + 4, 0, b"\n");
+    replaced(b"-0 for +0 in line 4\n", after(3) + 29, 1, b"8");
+    replaced(b"a capital letter in line 4\n", after(3) + 3, 1, b"C");
+    replaced(b"another byte in the last line\n", after(LAST - 1), 1, b"x");
 }
 
 fn main() {

@@ -3,26 +3,25 @@
 #![tactic(auto)]
 
 ghost use Rattle.std.specs.Prelude.{◌≡◌};
-ghost use Rattle.io.specs.Counts.{IsPrefixLen};
-ghost use Rattle.lines.specs.Text.{Put};
 ghost use Rattle.marking.specs.Marked.{sheet_marked, marked_of, marked_text};
 
+use lines::Page;
 use refusal::Refusal;
 
 // The bytes that a program reads: those of the length, the longest file, and one more than the longest sheet. What comes after
 // them decides nothing.
 pub const INPUT: usize = 53253;
 
-// The bytes that the line is put into.
+// The bytes of a page: every line has room.
 pub const ROOM: usize = 32;
 
 // A sheet beside the circuit file that it is said to be of: the number of its first line that is not ours, or None for the same.
+// Stays: `file` and `sheet` are two parts of an input, each of its own length.
 pub fn mark_sheet(file: &[u8], sheet: &[u8]) -> Result<Option<u64>, Refusal>
     ensures { result ≡ sheet_marked file.now sheet.now }
 {
-    let mut text = [0u8; sheet_text::ROOM];
-    let length = sheet_text::answer(file, &mut text)?;
-    marking_answer::marked(&text[..length], sheet)
+    let ours = sheet_text::answer(file)?;
+    marking_answer::marked(ours.text(), sheet)
 }
 
 // The whole input.
@@ -40,11 +39,11 @@ pub fn mark(input: &[u8]) -> Result<Option<u64>, Refusal>
     mark_sheet(&input[4..end], &input[end..])
 }
 
-// Puts at the start of out what `mark` prints of an input, and answers its length.
-pub fn marking_text(input: &[u8], out: &mut [u8; ROOM]) -> usize
-    ensures put { Put (marked_text input.now) out.old 0 out.new result }
-    ensures room { IsPrefixLen result out.new }
+// What `mark` prints of an input.
+pub fn marking_text(input: &[u8]) -> Page<ROOM>
+    ensures { result ≡ marked_text input.now }
 {
-    let m = mark(input);
-    marking_answer::put_marking(out, m)
+    let mut page = Page::new();
+    marking_answer::put_marking(&mut page, mark(input));
+    page
 }

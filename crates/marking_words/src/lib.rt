@@ -1,4 +1,5 @@
 // A marking as a word.
+// Stays: words lent and a number answered, as callers in C have them.
 #![tactic(auto)]
 
 ghost use Rattle.std.specs.Prelude.{◌≡◌, ◌≤◌, length};

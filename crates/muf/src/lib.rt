@@ -2,17 +2,21 @@
 // with the Es line.
 #![tactic(auto)]
 
-ghost use Rattle.std.specs.Prelude.{◌≡◌, ◌*◌, ◌<◌};
+ghost use Rattle.std.specs.Prelude.{◌≡◌, ◌+◌, ◌*◌, ◌^◌, ◌<◌, length};
 ghost use Rattle.heights.specs.Gethp.{gethp_of};
+ghost use Rattle.sporadic.specs.Sporadic.{row_at};
 ghost use Rattle.muf.specs.Hour.{mode_of, hour_of, zero_hour};
 ghost use Rattle.muf.specs.Curmuf.{regular_with, found_muf_of, muf_at_slot_of, muf_from_search_of, flat_of, es_after_of, curmuf_of};
 ghost use Rattle.muf.specs.Says.{RegularSays, SlotSays};
 
+pub mod lent;
+
+use crate::lent::Numbers;
 use layer_mufs::PathNumbers;
 use layers::{IonoState, LayerMuf};
 use refusal::Refusal;
 use slot_curves::Slot;
-use sporadic::{EsSearch, Rewrite};
+use sporadic::{EsRow, EsSearch, Rewrite};
 
 // The lines of the regular layers.
 #[derive(Clone, Copy)]
@@ -23,7 +27,7 @@ pub struct RegularLines {
 }
 
 // The layer whose MUF is the circuit's, 1 to 3 for E, F1 and F2, and the takeoff angle of its line.
-#[derive(Clone, Copy)]
+#[derive(Clone, Copy, Debug, PartialEq)]
 pub struct Mode {
     pub angmuf: f32,
     pub modmuf: i32,
@@ -140,7 +144,7 @@ fn regular_lines(
     let x = tangents::tangent_frequencies(l, c.gcdkm);
     let e = e_lines::e_line(t, x.fxe, c.gcdkm, c.amind)?;
     let f2 = layer_mufs::f2_line(t, l, x, f2d, clat, clck, c)?;
-    let f1 = layer_mufs::f1_line(t, l, x.fx1, e, c.gcdkm, c.amind)?;
+    let f1 = layer_mufs::f1_line(t, l, x.fx1, e, c)?;
     Ok(RegularLines { e, f1, f2 })
 }
 
@@ -186,44 +190,59 @@ pub fn muf_at_slot(
 
 // The whole call but for the Es rows, flat or records: their search is given, of whatever rows it
 // is, and the row to be rewritten is named. Where the call is refused before them it is not used.
-pub fn muf_from_search(
+pub fn muf_from_search<L: Numbers>(
     s: IonoState,
     step: Result<EsSearch, Refusal>,
     f2d: &[f32],
-    clat: &[f32],
-    clck: &[f32],
+    clat: L,
+    clck: L,
     c: PathNumbers,
 ) -> Result<AnswerAndRow, Refusal>
-    ensures { result ≡ muf_from_search_of s step f2d.now clat.now clck.now c }
+    ensures { result ≡ muf_from_search_of s step f2d.now (L.floats clat) (L.floats clck) c }
 {
     if !muf_domain::in_domain(c) {
         return Err(Refusal::MufInput);
     }
     let ks = controlling_slot::controlling(s);
-    if !muf_domain::lists_reach(ks, f2d.len(), clat.len(), clck.len()) {
+    if !muf_domain::lists_reach(ks, f2d.len(), clat.count(), clck.count()) {
         return Err(Refusal::MufLists);
     }
-    muf_at_slot(s, ks, step, f2d, clat[ks], clck[ks], c)
+    muf_at_slot(s, ks, step, f2d, clat.number(ks), clck.number(ks), c)
 }
 
-// The whole call but for the row that it rewrites.
-fn flat(
+// Row k of numbers that stand four a row.
+fn flat_row<L: Numbers>(es: L, k: usize) -> EsRow
+    requires there { 4 * k + 3 < length (L.floats es) }
+    requires fits { 4 * k + 3 < 2 ^ 64 }
+    ensures { result ≡ row_at (L.floats es) k }
+{
+    EsRow {
+        fs0: es.number(4 * k),
+        fs1: es.number(4 * k + 1),
+        fs2: es.number(4 * k + 2),
+        hs: es.number(4 * k + 3),
+    }
+}
+
+// The whole call but for the row that it rewrites; `es` holds four numbers a row.
+pub fn flat<L: Numbers>(
     s: IonoState,
-    es: &[f32],
+    es: L,
     f2d: &[f32],
-    clat: &[f32],
-    clck: &[f32],
+    clat: L,
+    clck: L,
     c: PathNumbers,
 ) -> Result<AnswerAndRow, Refusal>
-    ensures { result ≡ flat_of s es.now f2d.now clat.now clck.now c }
+    ensures { result ≡ flat_of s (L.floats es) f2d.now (L.floats clat) (L.floats clck) c }
 {
-    let n = muf_domain::row_count(es.len(), s.km);
-    let step = sporadic::es_rows(es, n, c);
+    let n = muf_domain::row_count(es.count(), s.km);
+    let step = sporadic::search(|k| flat_row(es, k), n, c);
     muf_from_search(s, step, f2d, clat, clck, c)
 }
 
 // The MUF hour; `es` holds four numbers a row: three of `fs`, then `hs`. Only the controlling row's
 // lower decile is rewritten.
+// Stays: s, es, f2d, clat and clck are the Rust's own parameters, in its order; c is its last four.
 pub fn curmuf(
     s: IonoState,
     es: &mut [f32],
@@ -235,7 +254,7 @@ pub fn curmuf(
     ensures value { result ≡ curmuf_of s es.old f2d.now clat.now clck.now c }
     ensures es_after { es.new ≡ es_after_of s es.old f2d.now clat.now clck.now c }
 {
-    let d = flat(s, es, f2d, clat, clck, c)?;
+    let d = flat(s, &*es, f2d, clat, clck, c)?;
     if let Some(w) = d.rewrite {
         es[4 * w.ksx] = w.lower;
     }

@@ -9,49 +9,30 @@ use layer_mufs::PathNumbers;
 fn within(x: f32, top: f32) -> bool
     ensures { result ≡ within_of x top }
 {
-    if 0.0 <= x {
-        return x <= top;
-    }
-    false
+    0.0 <= x && x <= top
 }
 
 // gcdkm 0 to 40,100, gcd 0 to 6.3, amind not above 90.
+#[tactic(auto, unfolding(crate::specs::Domain::in_domain))]
 pub fn in_domain(c: PathNumbers) -> bool
     ensures { result ≡ in_domain c }
 {
-    if within(c.gcdkm, 40100.0) {
-        if within(c.gcd, 6.3) {
-            if c.amind > 90.0 {
-                return false;
-            }
-            return true;
-        }
-        return false;
-    }
-    false
+    within(c.gcdkm, 40100.0) && within(c.gcd, 6.3) && !(c.amind > 90.0)
 }
 
 // Whether the deciles are 576, and clat and clck reach to slot ks; the lists by their lengths.
+#[tactic(auto, unfolding(crate::specs::Domain::lists_reach))]
 pub fn lists_reach(ks: usize, deciles: usize, lats: usize, clocks: usize) -> bool
     ensures { result ≡ lists_reach ks deciles lats clocks }
 {
-    if deciles != 576 {
-        return false;
-    }
-    if lats <= ks {
-        return false;
-    }
-    ks < clocks
+    deciles == 576 && ks < lats && ks < clocks
 }
 
 // The rows that there are, at most km.
 pub fn rows_taken(there: usize, km: usize) -> usize
     ensures { result ≡ taken_rows there km }
 {
-    if there < km {
-        return there;
-    }
-    km
+    there.min(km)
 }
 
 // The same of flat rows, by how many numbers there are.

@@ -1,7 +1,6 @@
 -- The circuit MUF over a lent list of Es records: what it answers, and the records after.
 use Rattle.refusal.specs.declared.Refusal.{Refusal}
 use Rattle.std.specs.Prelude.{List, ℕ, length, get_or, Float, Result}
-use Rattle.scalar.specs.F32.{at}
 use Rattle.layers.specs.declared.IonoState.{IonoState}
 use Rattle.layers.specs.declared.EsParams.{EsParams}
 use Rattle.heights.specs.Gethp.{Finder, gethp_of}
@@ -10,10 +9,8 @@ use Rattle.muf.specs.Curmuf.{taken_rows, muf_of_rows_with, answer_by, rewrite_by
 use Rattle.sporadic.specs.declared.EsRow.{EsRow}
 use Rattle.muf.specs.declared.MufAnswer.{MufAnswer}
 use Rattle.muf.specs.declared.AnswerAndRow.{AnswerAndRow}
+pub use Rattle.sporadic.specs.Sporadic.{as_es_row}
 pub use Rattle.es_records.specs.Records.{no_es, lower_rewritten, records_by}
-
-abbrev pub as_es_row : EsParams → EsRow
-as_es_row e = record { fs0 = at e.fs 0; fs1 = at e.fs 1; fs2 = at e.fs 2; hs = e.hs }
 
 abbrev pub es_row_at : List EsParams → ℕ → EsRow
 es_row_at es k = as_es_row (get_or es k no_es)

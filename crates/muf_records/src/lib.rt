@@ -4,7 +4,7 @@
 ghost use Rattle.std.specs.Prelude.{◌≡◌, length};
 ghost use Rattle.sporadic.specs.Sporadic.{start_of, es_from};
 ghost use Rattle.muf_domain.specs.Domain.{taken_rows};
-ghost use Rattle.muf_records.specs.Records.{as_es_row, es_row_at, records_muf_of, records_after_of};
+ghost use Rattle.muf_records.specs.Records.{es_row_at, records_muf_of, records_after_of};
 
 use layer_mufs::PathNumbers;
 use layers::{EsParams, IonoState};
@@ -12,34 +12,18 @@ use muf::MufAnswer;
 use refusal::Refusal;
 use sporadic::{EsRow, EsSearch};
 
-// A record as a row of numbers.
-fn row(e: EsParams) -> EsRow
-    ensures { result ≡ as_es_row e }
-{
-    let fs = e.fs;
-    EsRow {
-        fs0: fs[0],
-        fs1: fs[1],
-        fs2: fs[2],
-        hs: e.hs,
-    }
-}
-
 // The rows in order, at most km of them.
 fn search(es: &[EsParams], km: usize, c: PathNumbers) -> Result<EsSearch, Refusal>
     ensures { result ≡ es_from (es_row_at es.now) c (taken_rows (length es.now) km) 0 start_of }
 {
     let n = muf_domain::rows_taken(es.len(), km);
-    let mut a = sporadic::es_start();
-    for k in 0..n {
-        a = sporadic::es_row(a, k, row(es[k]), c)?;
-    }
-    Ok(a)
+    sporadic::search(|k| EsRow::from(es[k]), n, c)
 }
 
 // The MUF hour; records past km are not read. Only the controlling record's lower decile is
 // rewritten, and a call that is refused leaves all as they came. The search is the last part that
 // can be refused, so it may come first: it reads nothing that the others work out.
+// Stays: s, es, f2d, clat and clck are the Rust's own parameters, in its order; c is its last four.
 pub fn curmuf_records(
     s: IonoState,
     es: &mut [EsParams],

@@ -45,6 +45,7 @@ fn print(answer: Result<MufAnswer, Refusal>) {
 }
 
 // The records are lent, and come back.
+// Stays: f2d, clat and clck are the Rust's own parameters, side by side.
 fn lend(
     s: IonoState,
     mut es: [EsParams; 5],

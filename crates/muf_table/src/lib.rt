@@ -1,54 +1,60 @@
 // The MUFs for the eye: a line for each layer, and the circuit's with what sets it.
-#![tactic(auto)]
+// Stays: functions of our own and no `Display`, for the reason in crate `lines`.
+#![tactic(auto, using(lines::proofs::Placing::putting))]
 
-ghost use Rattle.lines.specs.Text.{Clipped};
+ghost use Rattle.std.specs.Prelude.{◌≡◌};
+ghost use Rattle.lines.specs.Text.{with_text};
 ghost use Rattle.muf_table.specs.MufTable.{muf_table_line, layer_of, circuit_line, mufs_text};
 
+use lines::Page;
 use muf::MufHour;
 
 // A name and a MUF in MHz.
-fn put_muf(out: &mut [u8], at: usize, name: &[u8], x: f32) -> usize
-    ensures { Clipped (muf_table_line name.now x) out.old at out.new result }
+#[tactic(auto, using(lines::proofs::Placing::putting), unfolding(crate::specs::MufTable::muf_table_line))]
+fn put_muf<const N: usize>(page: &mut Page<N>, name: &[u8], x: f32)
+    ensures { page.new ≡ with_text N page.old (muf_table_line name.now x) }
 {
-    let a = lines::put_word(out, at, name);
-    let b = decimal_text::put_number(out, a, 10, 1, x);
-    lines::put_byte(out, b, b'\n')
+    page.put_word(name);
+    decimal_text::put_number(page, 10, 1, x);
+    page.put_byte(b'\n');
 }
 
-// The layer that sets the circuit MUF.
-fn put_layer(out: &mut [u8], at: usize, h: MufHour) -> usize
-    ensures { Clipped (layer_of h.modmuf) out.old at out.new result }
+// The layer that sets the circuit MUF, by its mode.
+#[tactic(auto, unfolding(crate::specs::MufTable::layer_of))]
+fn layer(mode: i32) -> &'static [u8]
+    ensures { result.now ≡ layer_of mode }
 {
-    let m = h.modmuf;
-    if m < 2 {
-        return lines::put_word(out, at, b"E");
+    if mode < 2 {
+        return b"E";
     }
-    if m < 3 {
-        return lines::put_word(out, at, b"F1");
+    if mode < 3 {
+        return b"F1";
     }
-    lines::put_word(out, at, b"F2")
+    b"F2"
 }
 
-fn put_circuit(out: &mut [u8], at: usize, h: MufHour) -> usize
-    ensures { Clipped (circuit_line h) out.old at out.new result }
+#[tactic(auto, using(lines::proofs::Placing::putting), unfolding(crate::specs::MufTable::circuit_line))]
+fn put_circuit<const N: usize>(page: &mut Page<N>, h: &MufHour)
+    ensures { page.new ≡ with_text N page.old (circuit_line h.now) }
 {
-    let a = lines::put_word(out, at, b"circuit      ");
-    let b = decimal_text::put_number(out, a, 10, 1, h.allmuf);
-    let c = lines::put_word(out, b, b"   by the ");
-    let d = put_layer(out, c, h);
-    let e = lines::put_word(out, d, b" layer, controlling slot ");
-    let f = lines::put_decimal(out, e, h.ks as u64);
-    lines::put_byte(out, f, b'\n')
+    page.put_word(b"circuit      ");
+    decimal_text::put_number(page, 10, 1, h.allmuf);
+    page.put_word(b"   by the ");
+    page.put_word(layer(h.modmuf));
+    page.put_word(b" layer, controlling slot ");
+    page.put_decimal(h.ks as u64);
+    page.put_byte(b'\n');
 }
 
 // The MUF of each layer and of the circuit.
-pub fn put_mufs(out: &mut [u8], at: usize, h: MufHour) -> usize
-    ensures { Clipped (mufs_text h) out.old at out.new result }
+#[tactic(auto, using(lines::proofs::Placing::putting), unfolding(crate::specs::MufTable::mufs_text))]
+pub fn put_mufs<const N: usize>(page: &mut Page<N>, h: &MufHour)
+    ensures { page.new ≡ with_text N page.old (mufs_text h.now) }
 {
-    let a = lines::put_word(out, at, b"MUF                 MHz\n");
-    let b = put_muf(out, a, b"E            ", h.emuf);
-    let c = put_muf(out, b, b"F1           ", h.f1muf);
-    let d = put_muf(out, c, b"F2           ", h.f2muf);
-    let e = put_muf(out, d, b"sporadic E   ", h.esmuf);
-    put_circuit(out, e, h)
+    page.put_word(b"MUF                 MHz\n");
+    put_muf(page, b"E            ", h.emuf);
+    put_muf(page, b"F1           ", h.f1muf);
+    put_muf(page, b"F2           ", h.f2muf);
+    put_muf(page, b"sporadic E   ", h.esmuf);
+    put_circuit(page, h);
 }

@@ -2,9 +2,5 @@
 #![tactic(auto)]
 
 fn main() {
-    let mut file = [0u8; circuit_turn::NEW_INPUT];
-    let n = io::read_full(0, &mut file);
-    let mut out = [0u8; circuit_turn::OLD_ROOM];
-    let len = circuit_turn::narrow(&file[..n], &mut out);
-    output::write_text(&out[..len]);
+    output::answer(&mut [0u8; circuit_turn::NEW_INPUT], circuit_turn::narrow);
 }

@@ -4,9 +4,11 @@ use Rattle.sporadic.specs.declared.Rewrite.{Rewrite}
 use Rattle.std.specs.Prelude.{Option, Some, None}
 use mathlib.Core.List.{List, [], ◌∷◌}
 use mathlib.Core.Path.{◌≡◌, refl, ap, ap₂, ◌∙◌}
-use Prim.Native.Nat.{ℕ, zero, suc}
+use Prim.Native.Nat.{ℕ, zero, suc, ◌≤◌}
 use native.Mathlib.Omega.{arith}
-use lib.ListN.{get_or, set}
+use lib.ListN.{get_or, set, take, length}
+use Rattle.std.proofs.lemmas.List.{get_or-take, length-take-le}
+use Rattle.layers.specs.State.{no_layers}
 use lib.Ieee.{Float}
 use Rattle.scalar.specs.F32.{at}
 use Rattle.layers.specs.declared.LayerParams.{LayerParams}
@@ -40,6 +42,14 @@ es-same (suc km) d e gcd gcdkm h =
 pub reads_only : ReadsOnly
 unfolding nommuf_of nominal_of
 reads_only km p q f2m3 d e gcd gcdkm hp he = rw (ec-same km p q hp, f2-same km p q f2m3 _ hp, es-same km d e gcd gcdkm he)
+
+-- the lists cut at the count, as the code lends them
+pub front : (km : ℕ) (p : List LayerParams) (f2m3 : List Float) (d : List EsParams) (gcd gcdkm : Float) → km ≤ length p → nominal_of (take km p) f2m3 (take km d) (length (take km p)) gcd gcdkm ≡ nominal_of p f2m3 d km gcd gcdkm
+unfolding nominal_of
+front km p f2m3 d gcd gcdkm h =
+    let points : PointsAgree km (take km p) p = λ k l. let e = get_or-take km p k no_layers l in (ap (λ (z : LayerParams). at z.fi 0) e, ap (λ (z : LayerParams). at z.fi 2) e) in
+    let rows : EsAgree km (take km d) d = λ k l. let e = get_or-take km d k no_es l in (ap (λ (z : EsParams). at z.fs 1) e, ap (λ (z : EsParams). z.hs) e) in
+    rw (length-take-le km p h, ec-same km (take km p) p points, f2-same km (take km p) p f2m3 _ points, es-same km (take km d) d gcd gcdkm rows)
 
 -- ---- a lower decile rewritten
 

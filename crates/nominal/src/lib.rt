@@ -11,29 +11,24 @@ use muf::MufHour;
 use refusal::Refusal;
 
 // The lowest critical frequency of E over the points.
-fn lowest_e(points: [LayerParams; 5], km: usize) -> f32
-    requires { km ≤ 5 }
-    ensures { result ≡ ec_of points km }
+fn lowest_e(points: &[LayerParams]) -> f32
+    ensures { result ≡ ec_of points.now (length points.now) }
 {
     let mut ec = 1000.0;
-    for k in 0..km {
-        let p = points[k];
-        let fi = p.fi;
-        ec = nominal_factors::lower_e(ec, fi[0]);
+    for p in points {
+        ec = nominal_factors::lower_e(ec, p.fi[0]);
     }
     ec
 }
 
 // The lowest MUF of F2 over the points.
-fn lowest_f2(points: [LayerParams; 5], f2m3: &[f32], flfc: f32, km: usize) -> f32
-    requires { (km ≤ 5) × (km ≤ length f2m3.now) }
-    ensures { result ≡ f2muf_of points f2m3.now flfc km }
+fn lowest_f2(points: &[LayerParams], f2m3: &[f32], flfc: f32) -> f32
+    requires { length points.now ≤ length f2m3.now }
+    ensures { result ≡ f2muf_of points.now f2m3.now flfc (length points.now) }
 {
     let mut f2muf = 1000.0;
-    for k in 0..km {
-        let p = points[k];
-        let fi = p.fi;
-        let fmuf = nominal_factors::f2_at(fi[2], f2m3[k], flfc);
+    for (k, p) in points.iter().enumerate() {
+        let fmuf = nominal_factors::f2_at(p.fi[2], f2m3[k], flfc);
         f2muf = nominal_factors::lower_f2(f2muf, fmuf);
     }
     f2muf
@@ -65,40 +60,32 @@ fn lower_es(esmuf: f32, row: EsParams, gcd: f32, gcdkm: f32) -> f32
 }
 
 // The lowest MUF of Es over the rows, 1000 where none reflects.
-fn lowest_es(es: [EsParams; 5], gcd: f32, gcdkm: f32, km: usize) -> f32
-    requires { km ≤ 5 }
-    ensures { result ≡ esmuf_of es gcd gcdkm km }
+fn lowest_es(es: &[EsParams], gcd: f32, gcdkm: f32) -> f32
+    ensures { result ≡ esmuf_of es.now gcd gcdkm (length es.now) }
 {
     let mut esmuf = 1000.0;
-    for k in 0..km {
-        let row = es[k];
-        esmuf = lower_es(esmuf, row, gcd, gcdkm);
+    for row in es {
+        esmuf = lower_es(esmuf, *row, gcd, gcdkm);
     }
     esmuf
 }
 
-// The hour of an accepted call.
-fn nominal(
-    points: [LayerParams; 5],
-    f2m3: &[f32],
-    es: [EsParams; 5],
-    km: usize,
-    gcd: f32,
-    gcdkm: f32,
-) -> MufHour
-    requires { (km ≤ 5) × (km ≤ length f2m3.now) }
-    ensures { result ≡ nominal_of points f2m3.now es km gcd gcdkm }
+// The hour of an accepted call: as many Es rows as points.
+fn nominal(points: &[LayerParams], f2m3: &[f32], es: &[EsParams], gcd: f32, gcdkm: f32) -> MufHour
+    requires f2m3s { length points.now ≤ length f2m3.now }
+    requires rows { length es.now ≡ length points.now }
+    ensures { result ≡ nominal_of points.now f2m3.now es.now (length points.now) gcd gcdkm }
 {
     let arc = gcdkm * 0.0062137;
     let elfc = nominal_factors::e_factor(arc);
     let flfc = nominal_factors::f2_factor(arc);
-    let ec = lowest_e(points, km);
+    let ec = lowest_e(points);
     let emuf = 4.871 * ec * elfc;
-    let f2muf = lowest_f2(points, f2m3, flfc, km);
+    let f2muf = lowest_f2(points, f2m3, flfc);
     let allmuf = nominal_factors::greater(emuf, f2muf);
     let fot = scalar::max(0.85 * f2muf, emuf);
     let hpf = scalar::max(1.15 * f2muf, emuf);
-    let esmuf = lowest_es(es, gcd, gcdkm, km);
+    let esmuf = lowest_es(es, gcd, gcdkm);
     let z = e_lines::zero_line();
     let layers = [z, z, z, z];
     MufHour {
@@ -131,6 +118,7 @@ fn path_taken(gcd: f32, gcdkm: f32) -> bool
 
 // The nominal hour of the first `count` points, their F2M3s and their Es rows; what stands past the
 // count is not read.
+// Stays: points, f2m3, es, gcd and gcdkm are the Rust's own parameters, in its order, with its count.
 pub fn nommuf(
     points: [LayerParams; 5],
     f2m3: &[f32],
@@ -147,5 +135,5 @@ pub fn nommuf(
     if !path_taken(gcd, gcdkm) {
         return Err(Refusal::MufInput);
     }
-    Ok(nominal(points, f2m3, es, count, gcd, gcdkm))
+    Ok(nominal(&points[..count], f2m3, &es[..count], gcd, gcdkm))
 }

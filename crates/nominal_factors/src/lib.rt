@@ -28,16 +28,12 @@ const AF: [f32; 7] = [
     -0.000000006712654756,
 ];
 
+#[tactic(auto, unfolding(crate::specs::Factors::horner_of))]
 fn horner(a: [f32; 7], arc: f32) -> f32
     ensures { result ≡ horner_of a arc 6 (at a 6) }
 {
-    let mut v = a[6];
-    let mut n: usize = 6;
-    while 0 < n {
-        n = n - 1;
-        v = v * arc + a[n];
-    }
-    v
+    let [a0, a1, a2, a3, a4, a5, a6] = a;
+    (((((a6 * arc + a5) * arc + a4) * arc + a3) * arc + a2) * arc + a1) * arc + a0
 }
 
 // The E layer's distance factor, at arc hundreds of miles.

@@ -21,7 +21,7 @@ unfoldable pub pen_of : IonoState → ℕ → ℕ → Float → Float
 pen_of s i k f = pen_at (at s.fi (3 * k + i)) (at s.yi (3 * k + i)) f
 
 -- a layer or a slot number above 2 is refused
-abbrev pub layer_answer_by : Bool → Bool → Float → Result Float Refusal
+abbrev pub layer_answer_by : {A : Type 0} → Bool → Bool → A → Result A Refusal
 layer_answer_by true b v = Err Refusal.SlotNumber
 layer_answer_by false true v = Err Refusal.SlotNumber
 layer_answer_by false false v = Ok v

@@ -1,8 +1,8 @@
 // What bending and delay in a parabolic layer come to.
 #![tactic(auto)]
 
-ghost use Rattle.std.specs.Prelude.{◌≡◌};
-ghost use Rattle.parabolas.specs.Bendy.{bendy_at, pen_at, bendy_answer, pen_answer};
+ghost use Rattle.std.specs.Prelude.{◌≡◌, ℕ, ◌+◌, ◌*◌, ◌<◌, ltb, IfOk};
+ghost use Rattle.parabolas.specs.Bendy.{bendy_at, pen_at, layer_answer_by, bendy_answer, pen_answer};
 
 use layers::IonoState;
 use refusal::Refusal;
@@ -24,18 +24,24 @@ pub fn pen_at(fi: f32, yi: f32, f: f32) -> f32
     yi * l * x
 }
 
+// The place of layer i of slot k in the tables, where there is one.
+fn place(i: usize, k: usize) -> Result<usize, Refusal>
+    ensures value { result ≡ layer_answer_by (ltb 2 i) (ltb 2 k) (3 * k + i) }
+    ensures within { IfOk result (λ (n : ℕ). n < 15) }
+{
+    if i > 2 || k > 2 {
+        return Err(Refusal::SlotNumber);
+    }
+    Ok(3 * k + i)
+}
+
 // How much the virtual height of a frequency is raised by the parabolic layer `i` of slot `k` that
 // reflects it.
+// Stays: `bendy` and `pen` are two names of the Rust, and `s`, `i`, `k` and `f` its parameters.
 pub fn bendy(s: IonoState, i: usize, k: usize, f: f32) -> Result<f32, Refusal>
     ensures { result ≡ bendy_answer s i k f }
 {
-    if i > 2 {
-        return Err(Refusal::SlotNumber);
-    }
-    if k > 2 {
-        return Err(Refusal::SlotNumber);
-    }
-    let n = 3 * k + i;
+    let n = place(i, k)?;
     Ok(bendy_at(s.fi[n], s.yi[n], f))
 }
 
@@ -43,12 +49,6 @@ pub fn bendy(s: IonoState, i: usize, k: usize, f: f32) -> Result<f32, Refusal>
 pub fn pen(s: IonoState, i: usize, k: usize, f: f32) -> Result<f32, Refusal>
     ensures { result ≡ pen_answer s i k f }
 {
-    if i > 2 {
-        return Err(Refusal::SlotNumber);
-    }
-    if k > 2 {
-        return Err(Refusal::SlotNumber);
-    }
-    let n = 3 * k + i;
+    let n = place(i, k)?;
     Ok(pen_at(s.fi[n], s.yi[n], f))
 }

@@ -2,9 +2,5 @@
 #![tactic(auto)]
 
 fn main() {
-    let mut file = [0u8; sheet_text::INPUT];
-    let n = io::read_full(0, &mut file);
-    let mut text = [0u8; plot_text::ROOM];
-    let len = plot_text::plot_text(&file[..n], &mut text);
-    output::write_text(&text[..len]);
+    output::answer(&mut [0u8; sheet_text::INPUT], plot_text::plot_text);
 }

@@ -1,123 +1,107 @@
-// The picture of a circuit's slots, in SVG, with a panel for each.
-#![tactic(auto)]
+// The picture of a circuit's slots, in SVG, with a panel for each, put on a page.
+// Stays: functions of our own and no `Display`, for the reason in crate `lines`.
+#![tactic(auto, using(lines::proofs::Placing::putting))]
 
-ghost use Rattle.std.specs.Prelude.{◌≤◌, ◌<◌};
-ghost use Rattle.lines.specs.Text.{joined, Clipped};
+ghost use Rattle.std.specs.Prelude.{◌≡◌, ◌≤◌, ◌<◌};
+ghost use Rattle.lines.specs.Text.{joined, with_text};
 ghost use Rattle.plot_panels.specs.Panels.{named_text, top_text, ionogram_paths, height_text, profile_text, panel_text, panel_at, picture_text};
 
 use circuit_plot::{Plot, Profile};
 use circuit_sheet::SlotRows;
+use lines::Page;
 use muf::MufHour;
 use reflectrix::Ionogram;
 use shapes::Mark;
 
-fn put_named(out: &mut [u8], at: usize, k: usize, ks: usize) -> usize
-    ensures { Clipped (named_text k ks) out.old at out.new result }
+#[tactic(auto, using(lines::proofs::Placing::putting), unfolding(crate::specs::Panels::named_text))]
+fn put_named<const N: usize>(page: &mut Page<N>, k: usize, ks: usize)
+    ensures { page.new ≡ with_text N page.old (named_text k ks) }
 {
     if k == ks {
-        return lines::put_word(out, at, b", controlling");
+        page.put_word(b", controlling");
     }
-    at
 }
 
 // A panel's name, and its frame and axes; all that follows in it is measured from its own corner.
-fn put_top(out: &mut [u8], at: usize, k: usize, ks: usize) -> usize
+fn put_top<const N: usize>(page: &mut Page<N>, k: usize, ks: usize)
     requires { k < 3 }
-    ensures { Clipped (top_text k ks) out.old at out.new result }
+    ensures { page.new ≡ with_text N page.old (top_text k ks) }
 {
     let y = 800 + 4000 * k;
-    let a = lines::put_word(out, at, b"<g transform='translate(0 ");
-    let b = lines::put_decimal(out, a, y as u64);
-    let c = lines::put_word(out, b, b")'>\n<text class='b' x='700' y='200'>slot ");
-    let d = lines::put_decimal(out, c, k as u64);
-    let e = put_named(out, d, k, ks);
-    lines::put_word(out, e, b"</text>\n<use href='#axes'/>\n")
+    page.put_word(b"<g transform='translate(0 ");
+    page.put_decimal(y as u64);
+    page.put_word(b")'>\n<text class='b' x='700' y='200'>slot ");
+    page.put_decimal(k as u64);
+    put_named(page, k, ks);
+    page.put_word(b"</text>\n<use href='#axes'/>\n");
 }
 
 // The virtual heights and the true ones, against the sounding frequency.
-fn put_rows(out: &mut [u8], at: usize, ion: Ionogram) -> usize
-    ensures { Clipped (ionogram_paths ion) out.old at out.new result }
+#[tactic(auto, using(lines::proofs::Placing::putting), unfolding(crate::specs::Panels::ionogram_paths))]
+fn put_rows<const N: usize>(page: &mut Page<N>, ion: &Ionogram)
+    ensures { page.new ≡ with_text N page.old (ionogram_paths ion.now) }
 {
-    let fvert = ion.fvert;
-    let hprim = ion.hprim;
-    let htrue = ion.htrue;
-    let a = lines::put_word(out, at, b"<path class='virtual' d='");
-    let b = svg_trace::put_trace(out, a, fvert, hprim);
-    let c = lines::put_word(out, b, b"'/>\n<path class='true' d='");
-    let d = svg_trace::put_trace(out, c, fvert, htrue);
-    lines::put_word(out, d, b"'/>\n")
+    page.put_word(b"<path class='virtual' d='");
+    svg_trace::put_trace(page, &ion.fvert, &ion.hprim);
+    page.put_word(b"'/>\n<path class='true' d='");
+    svg_trace::put_trace(page, &ion.fvert, &ion.htrue);
+    page.put_word(b"'/>\n");
 }
 
 // A height of the profile, against the plasma frequency.
-fn put_height(out: &mut [u8], at: usize, m: Mark, density: f32, h: f32) -> usize
-    ensures { Clipped (height_text m density h) out.old at out.new result }
+#[tactic(auto, unfolding(crate::specs::Panels::height_text))]
+fn put_height<const N: usize>(page: &mut Page<N>, m: Mark, density: f32, h: f32)
+    ensures { page.new ≡ with_text N page.old (height_text m density h) }
 {
-    svg_text::put_mark(out, at, m, scalar::sqrt(density), h)
+    svg_text::put_mark(page, m, scalar::sqrt(density), h);
 }
 
-fn put_profile(out: &mut [u8], at: usize, p: Profile, marks: [Mark; 50]) -> usize
-    ensures { Clipped (profile_text p marks) out.old at out.new result }
+#[tactic(auto, using(lines::proofs::Placing::putting), unfolding(crate::specs::Panels::profile_text))]
+fn put_profile<const N: usize>(page: &mut Page<N>, p: &Profile, marks: &[Mark; 50])
+    ensures { page.new ≡ with_text N page.old (profile_text p.now marks.now) }
 {
-    let mut e = at;
     // Stays: three lists are read at one index, and two zips inside each other are no plainer.
     for i in 0..50 {
-        e = put_height(out, e, marks[i], p.fnsq[i], p.htr[i]);
+        put_height(page, marks[i], p.fnsq[i], p.htr[i]);
     }
-    e
 }
 
-fn put_panel(
-    out: &mut [u8],
-    at: usize,
-    rows: SlotRows,
-    p: Profile,
-    muf: f32,
-    ks: usize,
+#[tactic(auto, using(lines::proofs::Placing::putting), unfolding(crate::specs::Panels::panel_text))]
+fn put_panel<const N: usize>(
+    page: &mut Page<N>,
+    rows: &SlotRows,
+    p: &Profile,
+    hour: &MufHour,
     k: usize,
-) -> usize
+)
     requires { k < 3 }
-    ensures { Clipped (panel_text rows p muf ks k) out.old at out.new result }
+    ensures { page.new ≡ with_text N page.old (panel_text rows.now p.now hour.now.allmuf hour.now.ks k) }
 {
-    let ion = rows.ion;
-    let marks = rows.marks;
-    let a = put_top(out, at, k, ks);
-    let b = svg_text::put_muf(out, a, muf);
-    let c = put_rows(out, b, ion);
-    let d = put_profile(out, c, p, marks);
-    lines::put_word(out, d, b"</g>\n")
+    put_top(page, k, hour.ks);
+    svg_text::put_muf(page, hour.allmuf);
+    put_rows(page, &rows.ion);
+    put_profile(page, p, &rows.marks);
+    page.put_word(b"</g>\n");
 }
 
-fn put_panels(
-    out: &mut [u8],
-    at: usize,
-    rows: [SlotRows; 3],
-    profiles: [Profile; 3],
-    hour: MufHour,
-    slots: usize,
-) -> usize
-    requires { slots ≤ 3 }
-    ensures { Clipped (joined (panel_at rows profiles hour) slots) out.old at out.new result }
+fn put_panels<const N: usize>(page: &mut Page<N>, p: &Plot)
+    requires { p.now.sheet.slots ≤ 3 }
+    ensures { page.new ≡ with_text N page.old (joined (panel_at p.now.sheet.rows p.now.profiles p.now.sheet.hour) p.now.sheet.slots) }
 {
-    let mut e = at;
-    for k in 0..slots {
-        let slot = rows[k];
-        let profile = profiles[k];
-        e = put_panel(out, e, slot, profile, hour.allmuf, hour.ks, k);
+    let sheet = &p.sheet;
+    // Stays: k is the slot's number too, and a zip of rows and profiles inside `enumerate` is no plainer.
+    for k in 0..sheet.slots {
+        put_panel(page, &sheet.rows[k], &p.profiles[k], &sheet.hour, k);
     }
-    e
 }
 
 // The picture of at most three slots.
-pub fn put_plot(out: &mut [u8], p: Plot) -> usize
-    requires { p.sheet.slots ≤ 3 }
-    ensures { Clipped (picture_text p) out.old 0 out.new result }
+#[tactic(auto, using(lines::proofs::Placing::putting), unfolding(crate::specs::Panels::picture_text))]
+pub fn put_plot<const N: usize>(page: &mut Page<N>, p: &Plot)
+    requires { p.now.sheet.slots ≤ 3 }
+    ensures { page.new ≡ with_text N page.old (picture_text p.now) }
 {
-    let sheet = p.sheet;
-    let hour = sheet.hour;
-    let rows = sheet.rows;
-    let slots = sheet.slots;
-    let profiles = p.profiles;
-    let a = svg_frame::put_head(out, 0, slots as u64, hour.allmuf);
-    let b = put_panels(out, a, rows, profiles, hour, slots);
-    lines::put_word(out, b, b"</svg>\n")
+    svg_frame::put_head(page, p.sheet.slots as u64, p.sheet.hour.allmuf);
+    put_panels(page, p);
+    page.put_word(b"</svg>\n");
 }

@@ -3,19 +3,7 @@
 // length, two bytes, the lower first. The stored output is what the description and the Rust say.
 #![tactic(auto)]
 
-ghost use Rattle.std.specs.Prelude.{◌≤◌};
-
-use plot_text::ROOM;
 use sheet_text::INPUT;
-
-// The picture of the first n bytes.
-fn print(file: [u8; INPUT], n: usize)
-    requires { n ≤ 4160 }
-{
-    let mut text = [0u8; ROOM];
-    let len = plot_text::plot_text(&file[..n], &mut text);
-    io::write_all(1, &text[..len]);
-}
 
 // The picture of the next n bytes of the input.
 fn plot(n: usize) {
@@ -27,7 +15,8 @@ fn plot(n: usize) {
     if got < n {
         return;
     }
-    print(file, n);
+    let picture = plot_text::plot_text(&file[..n]);
+    io::write_all(1, picture.text());
 }
 
 fn next() {
@@ -39,6 +28,7 @@ fn next() {
     plot(usize::from(u16::from_le_bytes(head)));
 }
 
+// Stays: turns are counted, and no list is read.
 fn main() {
     for _ in 0..8 {
         next();

@@ -1,9 +1,10 @@
 // The circuit file for callers in any language: words in, words out. Each function answers 0, or the number of its refusal, and then
 // leaves every lent word or byte as it was.
+// Stays: words and bytes lent side by side, read and written from a place on, and numbers answered, as callers in C have them.
 #![tactic(auto)]
 
 ghost use Rattle.std.specs.Prelude.{◌≡◌, ◌+◌, ◌≤◌, length};
-ghost use Rattle.port_circuit.specs.Words.{words_from, words_into, circuit_of_words, head_words, circuit_into};
+ghost use Rattle.port_circuit.specs.Words.{words_from, words_into, circuit_of_words, circuit_into};
 ghost use Rattle.refusal.specs.Number.{answer_number};
 ghost use Rattle.circuit_write.specs.Written.{length_in};
 ghost use Rattle.port_circuit.specs.Exports.{length_into, port_read, port_write};
@@ -54,27 +55,17 @@ pub fn words_into(x: &[u32], w: &mut [u32], from: usize)
     w[from..from + x.len()].copy_from_slice(x);
 }
 
-fn numbers_into(c: Circuit, w: &mut [u32])
-    requires { (657 ≤ length w.old) × (c.km ≤ 5) × (c.shape ≤ 1) }
-    ensures { w.new ≡ words_into w.old 0 (head_words c) }
-{
-    let km = c.km;
-    let shape = c.shape;
-    let x = [km as u32, shape as u32, c.gcd, c.gcdkm, c.amind, c.ssn];
-    words_into(&x, w, 0);
-}
-
 pub fn circuit_into(c: Circuit, w: &mut [u32])
     requires { (657 ≤ length w.old) × (c.km ≤ 5) × (c.shape ≤ 1) }
     ensures { w.new ≡ circuit_into c w.old }
 {
-    numbers_into(c, w);
+    let x = [c.km as u32, c.shape as u32, c.gcd, c.gcdkm, c.amind, c.ssn];
+    words_into(&x, w, 0);
     words_into(&c.points, w, 6);
     words_into(&c.deciles, w, 81);
 }
 
 // The circuit of a file, into 657 words.
-// Stays: words lent and a number answered, as callers in C have them; so in the other exports.
 pub fn port_read(file: &[u8], out: &mut [u32]) -> u32
     ensures value { result ≡ (port_read file.now out.old).number }
     ensures out_after { out.new ≡ (port_read file.now out.old).cells }
@@ -92,6 +83,7 @@ pub fn port_read(file: &[u8], out: &mut [u32]) -> u32
 }
 
 // What the writer answered, as its number; how many bytes it wrote, into the word lent, which stays at a refusal.
+// Stays: a length is a usize, which the writer bounds; the numbers of other exports are words.
 pub fn length_into(a: Result<usize, Refusal>, out: &mut [u32]) -> u32
     requires { (1 ≤ length out.old) × (length_in a ≤ 6912) }
     ensures { (result ≡ answer_number a) × (out.new ≡ length_into a out.old) }

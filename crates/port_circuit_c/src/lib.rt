@@ -1,4 +1,5 @@
 // The functions of port_circuit for callers in C, with the same contracts.
+// Stays: words and bytes lent side by side and a number answered, as C has them.
 #![tactic(auto)]
 
 ghost use Rattle.std.specs.Prelude.{◌≡◌};

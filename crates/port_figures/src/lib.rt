@@ -1,10 +1,12 @@
 // The printed figure for callers in any language: the bits of a MUF in, five bytes out. 1 where fewer
 // bytes are lent, and then they stay as they were.
+// Stays: bytes lent for the figure, for callers in C.
 #![tactic(auto)]
 
 ghost use Rattle.std.specs.Prelude.{◌≡◌};
 ghost use Rattle.port_figures.specs.Exports.{figure_answer, figure_left};
 
+use lines::Page;
 use refusal::Refusal;
 
 pub fn port_figure(muf: u32, out: &mut [u8]) -> u32
@@ -14,6 +16,8 @@ pub fn port_figure(muf: u32, out: &mut [u8]) -> u32
         return u32::from(Refusal::Length);
     }
     let v = scalar::number(muf);
-    figure_text::put_figure(out, 0, v);
+    let mut page: Page<5> = Page::new();
+    figure_text::put_figure(&mut page, v);
+    out[..5].copy_from_slice(page.text());
     0
 }

@@ -1,4 +1,5 @@
 // Heights for callers in any language: words in, words out. Each function answers 0, or the number of its refusal, and then leaves every lent word as it was.
+// Stays: lists of words lent side by side, and a pair for each rule (`port_gethp` and `port_gethp_scan`, `port_bendy` and `port_pen`), as callers in C have and name them. What the exports share is `state_with_room` and the words of the answer.
 #![tactic(auto)]
 
 ghost use Rattle.std.specs.Prelude.{◌≡◌};
@@ -6,6 +7,7 @@ ghost use Rattle.port_heights.specs.Exports.{state_with_room, gethp_left, gethp_
 
 use layers::IonoState;
 use port_state::STATE_WORDS;
+use readings::Profile;
 use refusal::Refusal;
 
 // The state, where it has its words and there is room for n of the answer.
@@ -52,8 +54,12 @@ pub fn port_reading(state: &[u32], zi: u32, out: &mut [u32]) -> u32
 {
     match state_with_room(state, out, 3) {
         Ok(s) => {
-            let r = readings::read_by_scan(&s.htr, &s.fnsq, scalar::number(zi));
-            height_words::reading_into(r, out);
+            let p = Profile {
+                htr: &s.htr,
+                fnsq: &s.fnsq,
+                rises: s.htr_rises,
+            };
+            height_words::reading_into(p.read_by_scan(scalar::number(zi)), out);
             0
         }
         Err(r) => u32::from(r),

@@ -1,4 +1,5 @@
 // The functions of port_heights for callers in C, with the same contracts.
+// Stays: lists of words lent side by side, as callers in C have them.
 #![tactic(auto)]
 
 ghost use Rattle.std.specs.Prelude.{◌≡◌};

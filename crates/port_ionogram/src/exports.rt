@@ -1,4 +1,6 @@
 // The exported calls. Lengths are checked first; a refused call leaves every word.
+// Stays: each call has its own lists, lent by a caller in C, with the tests of their lengths in the order
+// of the layout; `rows_into` writes an ionogram where other exports write numbers of theirs.
 ghost use Rattle.std.specs.Prelude.{◌≡◌, ◌≤◌, length};
 ghost use Rattle.ionogram_words.specs.Sang.{sang_words};
 ghost use Rattle.port_ionogram.specs.Exports.{rows_into, port_selmod, port_genion, port_fobby, port_alosfv, port_sheet};

@@ -1,4 +1,5 @@
 // The functions of port_ionogram for callers in C, with the same contracts.
+// Stays: names, parameters and their order are the C interface.
 #![tactic(auto)]
 
 ghost use Rattle.std.specs.Prelude.{◌≡◌};

@@ -1,1 +1,2 @@
--- Rows and marks as words: nothing that another crate cites.
+-- An array's `map`.
+mod Maps

@@ -1,4 +1,5 @@
 // Rows and marks as words.
+// Stays: a list and a place in it, since callers in C lend one list of words for all that is written.
 #![tactic(auto)]
 
 ghost use Rattle.std.specs.Prelude.{◌≡◌, map, ◌+◌, ◌≤◌, length};
@@ -35,12 +36,7 @@ pub fn ionogram_into(ion: Ionogram, w: &mut [u32])
 fn mark_numbers(marks: [Mark; 50]) -> [u32; 50]
     ensures { result ≡ map mark_number_of marks }
 {
-    let mut n = [0u32; 50];
-    for i in 0..50 {
-        let v = u32::from(marks[i]);
-        n[i] = v;
-    }
-    n
+    marks.map(|m| u32::from(m))
 }
 
 // The numbers of the marks, from word `from` on.

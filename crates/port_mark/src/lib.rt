@@ -1,4 +1,5 @@
 // The marking of a sheet for callers in any language: bytes in, a word out. The function answers 0, or the number of its refusal, and then leaves every lent word as it was.
+// Stays: words lent and a number answered, as callers in C have them.
 #![tactic(auto)]
 
 ghost use Rattle.std.specs.Prelude.{◌≡◌};

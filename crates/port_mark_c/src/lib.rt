@@ -1,4 +1,5 @@
 // The function of port_mark for callers in C, with the same contract.
+// Stays: words lent and a number answered, as callers in C have them.
 #![tactic(auto)]
 
 ghost use Rattle.std.specs.Prelude.{◌≡◌};

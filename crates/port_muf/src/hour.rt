@@ -1,6 +1,6 @@
 // The circuit MUF on words. Es rows may be any number: each is read when its turn comes.
-ghost use Rattle.std.specs.Prelude.{◌≡◌, ◌+◌, ◌*◌, ◌<◌, ◌≤◌, length};
-ghost use Rattle.sporadic.specs.Sporadic.{row_at, es_from, start_of};
+// Stays: the lists of words, state, es, clat, clck, numbers and out, are what callers in C lend, side by side.
+ghost use Rattle.std.specs.Prelude.{◌≡◌, ◌≤◌, length};
 ghost use Rattle.muf.specs.Curmuf.{rewrite_by, flat_of};
 ghost use Rattle.hour_words.specs.HourWords.{WordThere};
 ghost use Rattle.deviation_words.specs.Floats.{floats};
@@ -10,35 +10,24 @@ ghost use Rattle.port_state.specs.State.{state_words};
 use layer_mufs::PathNumbers;
 use layers::IonoState;
 use muf::AnswerAndRow;
+use muf::lent::Numbers;
 use port_state::STATE_WORDS;
 use refusal::Refusal;
-use sporadic::{EsRow, EsSearch};
 
-fn word_row(es: &[u32], k: usize) -> EsRow
-    requires { 4 * k + 3 < length es.now }
-    ensures { result ≡ row_at (floats es.now) k }
-{
-    let lower = 4 * k;
-    let median = 4 * k + 1;
-    let upper = 4 * k + 2;
-    let height = 4 * k + 3;
-    let fs0 = scalar::number(es[lower]);
-    let fs1 = scalar::number(es[median]);
-    let fs2 = scalar::number(es[upper]);
-    let hs = scalar::number(es[height]);
-    EsRow { fs0, fs1, fs2, hs }
-}
+// Lent words, read as floats.
+#[derive(Clone, Copy)]
+pub struct Words<'a>(&'a [u32]);
 
-// The first n rows, in order.
-fn word_rows(es: &[u32], n: usize, c: PathNumbers) -> Result<EsSearch, Refusal>
-    requires { 4 * n ≤ length es.now }
-    ensures { result ≡ es_from (row_at (floats es.now)) c n 0 start_of }
-{
-    let mut a = sporadic::es_start();
-    for k in 0..n {
-        a = sporadic::es_row(a, k, word_row(es, k), c)?;
+impl<'a> Numbers for Words<'a> {
+    ghost floats = { λ w. floats w.0.now };
+
+    fn count(self) -> usize {
+        self.0.len()
     }
-    Ok(a)
+
+    fn number(self, k: usize) -> f32 {
+        scalar::number(self.0[k])
+    }
 }
 
 // The whole call but for what it writes.
@@ -52,18 +41,7 @@ fn called(
 ) -> Result<AnswerAndRow, Refusal>
     ensures { result ≡ flat_of s (floats es.now) deciles.now (floats clat.now) (floats clck.now) c }
 {
-    if !muf_domain::in_domain(c) {
-        return Err(Refusal::MufInput);
-    }
-    let ks = controlling_slot::controlling(s);
-    if !muf_domain::lists_reach(ks, deciles.len(), clat.len(), clck.len()) {
-        return Err(Refusal::MufLists);
-    }
-    let lat = scalar::number(clat[ks]);
-    let clock = scalar::number(clck[ks]);
-    let n = muf_domain::row_count(es.len(), s.km);
-    let step = word_rows(es, n, c);
-    muf::muf_at_slot(s, ks, step, deciles, lat, clock, c)
+    muf::flat(s, Words(es), deciles, Words(clat), Words(clck), c)
 }
 
 fn path_numbers_of(numbers: &[u32]) -> PathNumbers

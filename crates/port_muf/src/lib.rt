@@ -1,6 +1,7 @@
 // `f2dis` and the circuit MUF for callers in any language: words in, words out, but
 // for the deciles, which are lent as numbers. Each function answers 0, or the number of its
 // refusal, and then leaves every lent word as it was.
+// Stays: deciles, numbers and out are what callers in C lend, side by side.
 #![tactic(auto)]
 
 ghost use Rattle.std.specs.Prelude.{◌≡◌};

@@ -1,5 +1,7 @@
 // The nominal MUF for callers in any language: words in, words out. It answers 0, or the number of
 // its refusal, and then leaves every lent word as it was.
+// Stays: points, f2m3, es, numbers and out are what callers in C lend, side by side, and what stands
+// in their words; p, rows, n, gcd and gcdkm are handed on in the order of the nominal MUF.
 #![tactic(auto)]
 
 ghost use Rattle.std.specs.Prelude.{◌≡◌, ◌+◌, ◌*◌, ◌/◌, ◌≤◌, length, take};
@@ -35,6 +37,7 @@ fn zero_row() -> EsParams
     }
 }
 
+// Stays: k is a row's place among the words as among the rows, and an array is filled by its index.
 fn word_rows(es: &[u32], n: usize) -> [EsParams; 5]
     requires { (n ≤ 5) × (4 * n ≤ length es.now) }
     ensures { result ≡ word_rows es.now n }
@@ -47,13 +50,13 @@ fn word_rows(es: &[u32], n: usize) -> [EsParams; 5]
     l
 }
 
-fn five_of(f2m3: &[u32], n: usize) -> [f32; 5]
-    requires { (n ≤ 5) × (n ≤ length f2m3.now) }
-    ensures { result ≡ five_of f2m3.now n }
+fn five_of(f2m3: &[u32]) -> [f32; 5]
+    requires { length f2m3.now ≤ 5 }
+    ensures { result ≡ five_of f2m3.now (length f2m3.now) }
 {
     let mut l = [0.0; 5];
-    for k in 0..n {
-        let v = scalar::number(f2m3[k]);
+    for (k, w) in f2m3.iter().enumerate() {
+        let v = scalar::number(*w);
         l[k] = v;
     }
     l
@@ -86,10 +89,11 @@ fn called(points: &[u32], f2m3: &[u32], es: &[u32], numbers: &[u32]) -> Result<M
     let gcdkm = scalar::number(numbers[1]);
     let p = port_state::points_of(points, n);
     let rows = word_rows(es, n);
-    let x = five_of(f2m3, m);
+    let x = five_of(f2m3);
     asked(p, &x, m, rows, n, gcd, gcdkm)
 }
 
+// Stays: a match of two arms, of which one is the room that the caller made for this answer.
 fn answer_into(a: Result<MufHour, Refusal>, out: &mut [u32]) -> u32
     requires { 54 ≤ length out.old }
     ensures { (result ≡ (nominal_into a out.old).number) × (out.new ≡ (nominal_into a out.old).words) }
@@ -103,28 +107,18 @@ fn answer_into(a: Result<MufHour, Refusal>, out: &mut [u32]) -> u32
     }
 }
 
+#[tactic(auto, unfolding(crate::specs::Exports::words_reach))]
 fn words_reach(points: usize, es: usize, numbers: usize, out: usize) -> bool
     ensures { result ≡ words_reach points es numbers out }
 {
-    if 54 <= out {
-        if 2 <= numbers {
-            return 4 * (points / 9) <= es;
-        }
-        return false;
-    }
-    false
+    54 <= out && 2 <= numbers && 4 * (points / 9) <= es
 }
 
+#[tactic(auto, unfolding(crate::specs::Exports::five_at_most))]
 fn five_at_most(points: usize, f2m3: usize) -> bool
     ensures { result ≡ five_at_most points f2m3 }
 {
-    if points % 9 == 0 {
-        if points <= 45 {
-            return f2m3 <= 5;
-        }
-        return false;
-    }
-    false
+    points % 9 == 0 && points <= 45 && f2m3 <= 5
 }
 
 // points 9 words each: fi, yi, hi; f2m3 a word a point; es 4 words a row: fs 3, hs; numbers: gcd,

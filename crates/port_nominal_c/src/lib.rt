@@ -1,4 +1,5 @@
 // The functions of port_nominal for callers in C, with the same contracts.
+// Stays: the lists of words stand side by side as C lends them.
 #![tactic(auto)]
 
 ghost use Rattle.std.specs.Prelude.{◌≡◌};

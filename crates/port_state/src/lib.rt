@@ -1,4 +1,5 @@
 // States as words, so that any language can call the port: a float is its bits, an i32 its two's complement.
+// Stays: words `w` of any length are lent, as callers in C have them, so a function asks that a state's words are there, and takes the state `s` or the place `from` beside them.
 #![tactic(auto)]
 
 ghost use Rattle.std.specs.Prelude.{◌≡◌, ◌+◌, ◌*◌, ◌≤◌, length};
@@ -17,6 +18,7 @@ pub fn floats_of(w: &[u32], from: usize, x: &mut [f32])
     requires { from + length x.old ≤ length w.now }
     ensures { x.new ≡ floats_of w.now from (length x.old) }
 {
+    // Stays: a float's place gives its word's too.
     for i in 0..x.len() {
         let j = from + i;
         let v = scalar::number(w[j]);
@@ -38,6 +40,7 @@ pub fn floats_into(x: &[f32], w: &mut [u32], from: usize)
     requires { from + length x.now ≤ length w.old }
     ensures { w.new ≡ floats_into w.old from x.now }
 {
+    // Stays: a float's place gives its word's too.
     for i in 0..x.len() {
         let j = from + i;
         let v = scalar::bits(x[i]);
@@ -140,6 +143,7 @@ pub fn count(n: usize) -> u32
     (n % 0x1_0000_0000) as u32
 }
 
+// Stays: beside `profile_into`, a list of fields with their places; what the two share is `floats_into`.
 fn tables_into(s: IonoState, w: &mut [u32])
     requires { state_words ≤ length w.old }
     ensures { w.new ≡ tables_into s w.old }
@@ -230,6 +234,7 @@ pub fn points_of(points: &[u32], n: usize) -> [LayerParams; 5]
     ensures { result ≡ points_of points.now n }
 {
     let mut l = [zero_point(); 5];
+    // Stays: k is the point's place in the words too.
     for k in 0..n {
         let p = point_of(points, k);
         l[k] = p;

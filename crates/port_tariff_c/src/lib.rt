@@ -1,4 +1,5 @@
 // The functions of port_tariff for callers in C, with the same contracts.
+// Stays: lists side by side, and words lent for what is answered, as callers in C have them.
 #![tactic(auto)]
 
 ghost use Rattle.std.specs.Prelude.{◌≡◌};

@@ -1,2 +1,2 @@
--- A text is not longer than its room.
-mod Fits
+-- What is left of a text.
+mod Texts

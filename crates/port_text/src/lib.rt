@@ -1,4 +1,5 @@
 // The sheet of a circuit file for callers in any language: the file's bytes in, the text that `sheet` prints out. The function answers 0, or the number of its refusal, and then leaves every lent byte and word as it was.
+// Stays: bytes lent for the text and a word for its length, for callers in C.
 #![tactic(auto)]
 
 ghost use Rattle.std.specs.Prelude.{◌≡◌};
@@ -16,9 +17,8 @@ pub fn port_sheet_text(file: &[u8], out: &mut [u8], length: &mut [u32]) -> u32
     if length.len() < 1 {
         return u32::from(Refusal::Length);
     }
-    let mut text = [0u8; sheet_text::ROOM];
-    match sheet_text::answer(file, &mut text) {
-        Ok(n) => lent_text::text_into(Ok(&text[..n]), out, length),
+    match sheet_text::answer(file) {
+        Ok(page) => lent_text::text_into(Ok(page.text()), out, length),
         Err(r) => lent_text::text_into(Err(r), out, length),
     }
 }

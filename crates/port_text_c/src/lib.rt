@@ -1,4 +1,5 @@
 // The functions of port_text for callers in C, with the same contracts.
+// Stays: bytes lent for the text and a word for its length, for callers in C.
 #![tactic(auto)]
 
 ghost use Rattle.std.specs.Prelude.{◌≡◌};

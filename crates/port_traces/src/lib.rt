@@ -1,27 +1,13 @@
 // Two traces held against one another, for callers in any language: words in, words out. Each function answers 0, or the number
 // of its refusal, and then leaves everything lent as it was.
+// Stays: lists side by side, and words lent for what is answered, as callers in C have them.
 #![tactic(auto)]
 
 ghost use Rattle.std.specs.Prelude.{◌≡◌, ◌+◌, ◌≤◌, length};
-ghost use Rattle.refusal.specs.Number.{answer_number};
-ghost use Rattle.traces.specs.Lines.{count_in};
-ghost use Rattle.port_traces.specs.Exports.{count_into, port_compare, words_at_start, trace_into, port_trace};
+ghost use Rattle.port_traces.specs.Exports.{port_compare, words_at_start, trace_into, port_trace};
 
 use computed_trace::ComputedTrace;
 use refusal::Refusal;
-
-fn count_into(c: Result<usize, Refusal>, out: &mut [u32]) -> u32
-    requires { (1 ≤ length out.old) × (count_in c ≤ 1024) }
-    ensures { (result ≡ answer_number c) × (out.new ≡ count_into c out.old) }
-{
-    match c {
-        Ok(n) => {
-            out[0] = n as u32;
-            0
-        }
-        Err(r) => u32::from(r),
-    }
-}
 
 // The kHz and heights of the first trace, a and ah, and of the second, b and bh; the lines into three lists; out: their count.
 pub fn port_compare(
@@ -43,7 +29,8 @@ pub fn port_compare(
     if out.len() < 1 {
         return u32::from(Refusal::Length);
     }
-    count_into(traces::compare(a, ah, b, bh, khz, which, difference), out)
+    let count = traces::compare(a, ah, b, bh, khz, which, difference);
+    answer_words::count_into(count, out)
 }
 
 fn words_into(x: &[u32], w: &mut [u32])

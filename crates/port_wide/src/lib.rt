@@ -1,5 +1,6 @@
 // The circuit file that carries F2M3, for callers in any language: words in, words out. Each function answers 0, or the number
 // of its refusal, and then leaves every lent word or byte as it was.
+// Stays: words and bytes lent side by side and numbers answered, by calls of their own, as callers in C have them.
 #![tactic(auto)]
 
 ghost use Rattle.std.specs.Prelude.{◌≡◌, ◌≤◌, length};
@@ -17,7 +18,6 @@ fn wide_into(a: WideCircuit, w: &mut [u32])
 }
 
 // The circuit of a file into 657 words, and its F2M3 into five more.
-// Stays: an export of its own beside `port_read`, since callers in C name it.
 pub fn port_read128(file: &[u8], out: &mut [u32]) -> u32
     ensures value { result ≡ (port_read128 file.now out.old).number }
     ensures out_after { out.new ≡ (port_read128 file.now out.old).cells }

@@ -54,6 +54,7 @@ impl Reading {
     }
 
     // 0 on the floor, 1 on a segment, 2 at the top
+    // Stays: the cases hold values, so no number stands beside them to be read by `as`.
     #[tactic(auto, unfolding(crate::specs::Scan::reading_kind))]
     pub fn kind(self) -> u32
         ensures { result ≡ reading_kind self }
@@ -66,6 +67,7 @@ impl Reading {
     }
 
     // The segment of a reading, from 0: the lower of its two nodes' numbers.
+    // Stays: one of two numbers that go with a case, not the case's own, which `kind` gives.
     #[tactic(auto, unfolding(crate::specs::Scan::segment_number))]
     pub fn segment_number(self) -> u32
         ensures { result ≡ segment_number self }
@@ -79,6 +81,8 @@ impl Reading {
 }
 
 // The first segment that holds the probe, or the top.
+// Stays: `from`, `to` and `probe` are the Rust's own parameters, and the two arrays change places at a
+// search by density; so below.
 pub fn scan(from: &[f32; 50], to: &[f32; 50], probe: f32) -> Reading
     ensures { result ≡ scan_of from.now to.now probe }
 {
@@ -94,12 +98,13 @@ pub fn scan(from: &[f32; 50], to: &[f32; 50], probe: f32) -> Reading
 }
 
 // A number found by a search, and the segment that it was found on.
-#[derive(Clone, Copy)]
+#[derive(Clone, Copy, Debug, PartialEq)]
 pub struct Found {
     pub value: f32,
     pub segment: u32,
 }
 
+// Stays: `from` and `to`, as at `scan`.
 pub fn profile_interpolate(from: &[f32; 50], to: &[f32; 50], probe: f32) -> Found
     ensures { result ≡ found_of from.now to.now probe }
 {
@@ -110,19 +115,8 @@ pub fn profile_interpolate(from: &[f32; 50], to: &[f32; 50], probe: f32) -> Foun
     }
 }
 
-// The density at the height `zi`, by a full scan.
-pub fn read_by_scan(htr: &[f32; 50], fnsq: &[f32; 50], zi: f32) -> Reading
-    ensures { result ≡ reading_of htr.now fnsq.now zi }
-{
-    if zi - htr[0] <= 0.0 {
-        let floor = fnsq[0];
-        return Reading::Floor(floor);
-    }
-    scan(htr, fnsq, zi)
-}
-
 // A reading, and the cursor that it leaves.
-#[derive(Clone, Copy)]
+#[derive(Clone, Copy, Debug, PartialEq)]
 pub struct Read {
     pub reading: Reading,
     pub cursor: usize,
@@ -132,6 +126,7 @@ pub struct Read {
 pub fn climb(htr: &[f32; 50], zi: f32, ih: usize) -> usize
     ensures { result ≡ climb_of htr.now zi ih }
 {
+    // Stays: the answer is where it stops, found by the height above that place.
     for on in ih..49 {
         let next = on + 1;
         if !(zi >= htr[next]) {
@@ -141,29 +136,57 @@ pub fn climb(htr: &[f32; 50], zi: f32, ih: usize) -> usize
     ih.max(49)
 }
 
-// The density at the height `zi` on a rising profile, read on from the cursor `ih`. Where `ih` is not above the count of `zi` it is the scan's (crate `walk`).
-pub fn read_on(htr: &[f32; 50], fnsq: &[f32; 50], zi: f32, ih: usize) -> Read
-    ensures { result ≡ read_on_of htr.now fnsq.now zi ih }
-{
-    if zi - htr[0] <= 0.0 {
-        let floor = fnsq[0];
-        return Read {
-            reading: Reading::Floor(floor),
-            cursor: ih,
-        };
+// A profile lent to be read.
+// Stays: `rises` is said of the heights, and no value hangs on it.
+#[derive(Clone, Copy)]
+pub struct Profile<'a> {
+    // fifty heights in km
+    pub htr: &'a [f32; 50],
+    // and at each the square of the plasma frequency, in MHz²
+    pub fnsq: &'a [f32; 50],
+    // whether the heights rise at every step, so that reads in rising order may go on from one another
+    pub rises: bool,
+}
+
+impl Profile<'_> {
+    // The density at the height `zi`, by a full scan.
+    pub fn read_by_scan(self, zi: f32) -> Reading
+        ensures { result ≡ reading_of self.entry.htr.now self.entry.fnsq.now zi }
+    {
+        let Profile { htr, fnsq, .. } = self;
+        if zi - htr[0] <= 0.0 {
+            let floor = fnsq[0];
+            return Reading::Floor(floor);
+        }
+        scan(htr, fnsq, zi)
     }
-    let on = climb(htr, zi, ih);
-    if on < 49 {
-        let next = on + 1;
-        let line = fnsq[on] + (zi - htr[on]) * (fnsq[next] - fnsq[on]) / (htr[next] - htr[on]);
-        return Read {
-            reading: Reading::Segment(line, on as u32),
+
+    // The density at the height `zi` where the heights rise, read on from the cursor `ih`. Where `ih`
+    // is not above the count of `zi` it is the scan's (crate `walk`).
+    pub fn read_on(self, zi: f32, ih: usize) -> Read
+        ensures { result ≡ read_on_of self.entry.htr.now self.entry.fnsq.now zi ih }
+    {
+        let Profile { htr, fnsq, .. } = self;
+        if zi - htr[0] <= 0.0 {
+            let floor = fnsq[0];
+            return Read {
+                reading: Reading::Floor(floor),
+                cursor: ih,
+            };
+        }
+        let on = climb(htr, zi, ih);
+        if on < 49 {
+            let next = on + 1;
+            let line = fnsq[on] + (zi - htr[on]) * (fnsq[next] - fnsq[on]) / (htr[next] - htr[on]);
+            return Read {
+                reading: Reading::Segment(line, on as u32),
+                cursor: on,
+            };
+        }
+        let top = fnsq[49];
+        Read {
+            reading: Reading::Top(top),
             cursor: on,
-        };
-    }
-    let top = fnsq[49];
-    Read {
-        reading: Reading::Top(top),
-        cursor: on,
+        }
     }
 }

@@ -1,12 +1,15 @@
 // Why a circuit file was turned away, in words.
-#![tactic(auto)]
+// Stays: functions of our own and no `Display`, for the reason in crate `lines`.
+#![tactic(auto, using(lines::proofs::Placing::putting))]
 
 ghost use Rattle.std.specs.Prelude.{◌≡◌};
-ghost use Rattle.lines.specs.Text.{Clipped};
+ghost use Rattle.lines.specs.Text.{with_text};
 ghost use Rattle.reason_text.specs.ReasonText.{reason_of};
 
+use lines::Page;
 use refusal::Refusal;
 
+// Stays: neither the refusal nor the bytes are types of this crate, so no `From` can stand here.
 #[tactic(auto, unfolding(crate::specs::ReasonText::reason_of, crate::specs::ReasonText::file_reason, crate::specs::ReasonText::hour_reason))]
 fn reason(r: Refusal) -> &'static [u8]
     ensures { result.now ≡ reason_of r }
@@ -41,8 +44,8 @@ fn reason(r: Refusal) -> &'static [u8]
 }
 
 // The refusal's reason, with no line end.
-pub fn put_reason(out: &mut [u8], at: usize, r: Refusal) -> usize
-    ensures { Clipped (reason_of r) out.old at out.new result }
+pub fn put_reason<const N: usize>(page: &mut Page<N>, r: Refusal)
+    ensures { page.new ≡ with_text N page.old (reason_of r) }
 {
-    lines::put_word(out, at, reason(r))
+    page.put_word(reason(r));
 }

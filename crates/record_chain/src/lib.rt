@@ -6,39 +6,15 @@ ghost use Rattle.refusal.specs.Number.{answer_number};
 ghost use Rattle.records.specs.Record.{Fit, form64, record_at, next_of};
 ghost use Rattle.record_chain.specs.Chain.{chain_of, head_good, member, step_of, step_index, sound_by};
 
-use records::Form;
+use records::{Form, Kind};
 use refusal::Refusal;
 
 // The records of a chain, in its order: `count` of them, then zeros.
 // Stays: a copied record of fixed memory, and the laws speak of its list of 64 with the zeros.
-#[derive(Clone, Copy)]
+#[derive(Clone, Copy, Debug, PartialEq, Eq)]
 pub struct Chain {
     pub order: [usize; 64],
     pub count: usize,
-}
-
-fn head_good(o: Form, r: &[u8]) -> bool
-    requires { 64 ≤ length r.now }
-    ensures { result ≡ head_good o r.now }
-{
-    let first = o.first;
-    if records::half(r, 0) != first {
-        return false;
-    }
-    let km = records::byte(r, 4);
-    if km < 1 {
-        return false;
-    }
-    if km > 5 {
-        return false;
-    }
-    if records::byte(r, 5) > 1 {
-        return false;
-    }
-    if !records::all_zero(&r[6..8]) {
-        return false;
-    }
-    records::all_zero(&r[24..])
 }
 
 fn is_among(list: &[usize], n: usize) -> bool
@@ -47,64 +23,110 @@ fn is_among(list: &[usize], n: usize) -> bool
     list.contains(&n)
 }
 
-// The step out of record `at`, after the records of `order`: to no record, or to one that is there and was not met before. Unless
-// it is refused it goes where the record's next index says.
-fn step_out(o: Form, file: &[u8], order: &[usize], at: usize) -> Result<Option<usize>, Refusal>
-    requires { Fit o × (o.size * at + o.size ≤ length file.now) }
-    ensures value { result ≡ step_of o file.now order.now at }
-    ensures result_value { answer_number result ≡ 0 → step_index result ≡ next_of (record_at o file.now at) }
-{
-    let size = o.size;
-    let next = records::half(&file[size * at..size * at + size], 2);
-    if next == 0 {
-        return Ok(None);
-    }
-    if next >= file.len() / size || is_among(order, next) {
-        return Err(Refusal::ChainStep);
-    }
-    Ok(Some(next))
+// The bytes of a file, and the form that they are read in.
+#[derive(Clone, Copy)]
+struct File<'a> {
+    form: Form,
+    bytes: &'a [u8],
+    ghost fit: { Fit form },
 }
 
-// Whether the record that a step came to is the one that may stand where `left` more may follow.
-fn may_stand(o: Form, r: &[u8], left: usize) -> bool
-    requires { Fit o × (length r.now ≡ o.size) }
-    ensures { result ≡ sound_by o (leb 48 left) r.now }
-{
-    let words = 15 + o.extra;
-    if 48 <= left {
-        return records::sound(r, 2, words);
+impl<'a> File<'a> {
+    // Record n, as its part of the file.
+    fn record(&self, n: usize) -> &'a [u8]
+        requires { self.now.form.size * n + self.now.form.size ≤ length self.now.bytes.now }
+        ensures { result.now ≡ record_at self.now.form self.now.bytes.now n }
+    {
+        let from = self.form.size * n;
+        &self.bytes[from..from + self.form.size]
     }
-    records::sound(r, 3, 12)
-}
 
-fn walk(o: Form, file: &[u8], km: usize) -> Result<Chain, Refusal>
-    requires { Fit o × (o.size ≤ length file.now) × (km ≤ 5) }
-    ensures { result ≡ Rattle.record_chain.specs.Chain.walk o file.now (km + 48) (0 ∷ []) 0 }
-{
-    let size = o.size;
-    let mut order = [0usize; 64];
-    let mut count: usize = 1;
-    let mut at: usize = 0;
-    let mut left = km + 48;
-    while let Some(next) = step_out(o, file, &order[..count], at)? {
-        if left == 0 {
+    fn head_good(&self) -> bool
+        requires { self.now.form.size ≤ length self.now.bytes.now }
+        ensures { result ≡ head_good self.now.form (record_at self.now.form self.now.bytes.now 0) }
+    {
+        let r = self.record(0);
+        if records::half(r, 0) != self.form.first {
+            return false;
+        }
+        let km = records::byte(r, 4);
+        if km < 1 {
+            return false;
+        }
+        if km > 5 {
+            return false;
+        }
+        if records::byte(r, 5) > 1 {
+            return false;
+        }
+        if !records::all_zero(&r[6..8]) {
+            return false;
+        }
+        records::all_zero(&r[24..])
+    }
+
+    // The step out of record `at`, after the records of `order`: to no record, or to one that is there and was not met before.
+    // Unless it is refused it goes where the record's next index says.
+    fn step_out(&self, order: &[usize], at: usize) -> Result<Option<usize>, Refusal>
+        requires { self.now.form.size * at + self.now.form.size ≤ length self.now.bytes.now }
+        ensures value { result ≡ step_of self.now.form self.now.bytes.now order.now at }
+        ensures result_value { answer_number result ≡ 0 → step_index result ≡ next_of (record_at self.now.form self.now.bytes.now at) }
+    {
+        let next = records::half(self.record(at), 2);
+        if next == 0 {
+            return Ok(None);
+        }
+        if next >= self.bytes.len() / self.form.size || is_among(order, next) {
+            return Err(Refusal::ChainStep);
+        }
+        Ok(Some(next))
+    }
+
+    // Whether record n is one that may stand where `left` more may follow.
+    fn may_stand(&self, n: usize, left: usize) -> bool
+        requires { self.now.form.size * n + self.now.form.size ≤ length self.now.bytes.now }
+        ensures { result ≡ sound_by self.now.form (leb 48 left) (record_at self.now.form self.now.bytes.now n) }
+    {
+        let r = self.record(n);
+        if 48 <= left {
+            return records::sound(r, Kind::Point as usize, 15 + self.form.extra);
+        }
+        records::sound(r, Kind::Deciles as usize, 12)
+    }
+
+    // The chain from record 0 on, of km points.
+    // Stays: km ≤ 5 is what the test of record 0 told just before, and no type of its own.
+    fn walk(&self, km: usize) -> Result<Chain, Refusal>
+        requires { (self.now.form.size ≤ length self.now.bytes.now) × (km ≤ 5) }
+        ensures { result ≡ Rattle.record_chain.specs.Chain.walk self.now.form self.now.bytes.now (km + 48) (0 ∷ []) 0 }
+    {
+        let mut order = [0usize; 64];
+        let mut count: usize = 1;
+        let mut at: usize = 0;
+        let mut left = km + 48;
+        // Stays: the chain says itself where it goes and ends; nothing is counted but what may follow.
+        while let Some(next) = self.step_out(&order[..count], at)? {
+            if left == 0 {
+                return Err(Refusal::ChainRecord);
+            }
+            left -= 1;
+            if !self.may_stand(next, left) {
+                return Err(Refusal::ChainRecord);
+            }
+            order[count] = next;
+            count += 1;
+            at = next;
+        }
+        if left != 48 && left != 0 {
             return Err(Refusal::ChainRecord);
         }
-        left -= 1;
-        if !may_stand(o, &file[size * next..size * next + size], left) {
-            return Err(Refusal::ChainRecord);
-        }
-        order[count] = next;
-        count += 1;
-        at = next;
+        Ok(Chain { order, count })
     }
-    if left != 48 && left != 0 {
-        return Err(Refusal::ChainRecord);
-    }
-    Ok(Chain { order, count })
 }
 
 // The chain of a file, or where it is turned away.
+// Stays: `Fit o` is asked here, and not held by the form: that it holds is a law about any three numbers, which a form could not state
+// of itself.
 pub fn follow_form(o: Form, file: &[u8]) -> Result<Chain, Refusal>
     requires { Fit o }
     ensures { result ≡ chain_of o file.now }
@@ -114,11 +136,14 @@ pub fn follow_form(o: Form, file: &[u8]) -> Result<Chain, Refusal>
     if n % size != 0 || n < 2 * size || n > 64 * size {
         return Err(Refusal::Length);
     }
-    let head = &file[0..size];
-    if !head_good(o, head) {
+    let f = File {
+        form: o,
+        bytes: file,
+    };
+    if !f.head_good() {
         return Err(Refusal::RecordZero);
     }
-    walk(o, file, records::byte(head, 4))
+    f.walk(records::byte(f.record(0), 4))
 }
 
 // The same of a file in the paper's form.

@@ -5,27 +5,12 @@ use mathlib.Core.List.{List, [], ◌∷◌, ◌++◌, append_assoc, append-nil}
 use native.Mathlib.Omega.{arith}
 use native.Mathlib.Numerals.{add-one}
 use native.Mathlib.Nat.{add-sub_cancel_left}
-use lib.ListN.{length, get_or, take, drop, set, replicate, length-replicate, length-append, length-drop, drop_of_length-le}
+use lib.ListN.{length, get_or, take, drop, replicate, length-replicate, length-append, length-drop, drop_of_length-le}
 use lib.Seq.{take_at, drop_at, drop-drop, take-suc, length-take-le}
 use Rattle.circuit.specs.declared.Circuit.{Circuit}
 use Rattle.records.specs.declared.Form.{Form}
 use Rattle.records.proofs.Lists.{rest, drop-replicate}
 use Rattle.record_put.specs.Bytes.{half_of, word_bytes, bytes_of, record_of, head_of}
-
-pub two_cells : (l : List ℕ) (a b : ℕ) → length l ≡ 2 → set (set l 0 a) 1 b ≡ a ∷ b ∷ []
-two_cells [] a b e = absurd (omega arith)
-two_cells (x ∷ []) a b e = absurd (omega arith)
-two_cells (x ∷ y ∷ []) a b e = refl
-two_cells (x ∷ y ∷ z ∷ l) a b e = absurd (omega arith)
-
-pub four-cells : (l : List ℕ) (a b c d : ℕ) → length l ≡ 4
-    → set (set (set (set l 0 a) 1 b) 2 c) 3 d ≡ a ∷ b ∷ c ∷ d ∷ []
-four-cells [] a b c d e = absurd (omega arith)
-four-cells (x ∷ []) a b c d e = absurd (omega arith)
-four-cells (x ∷ y ∷ []) a b c d e = absurd (omega arith)
-four-cells (x ∷ y ∷ z ∷ []) a b c d e = absurd (omega arith)
-four-cells (x ∷ y ∷ z ∷ v ∷ []) a b c d e = refl
-four-cells (x ∷ y ∷ z ∷ v ∷ u ∷ l) a b c d e = absurd (omega arith)
 
 module _ (l l₀ p : List ℕ) (a : ℕ) (e : l ≡ p ++ drop a l₀) (n : length p ≡ a) where
   -- a part filled

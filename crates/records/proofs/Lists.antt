@@ -12,7 +12,7 @@ use borrow.Author.Tests.{eqb-true}
 use Rattle.std.specs.List.{list_all}
 use Rattle.records.specs.declared.Form.{Form}
 use Rattle.records.specs.Record.{Fit, form64, all_zero, record_words, word_at, record_at}
-use native.Mathlib.Nat.{add-sub_cancel_left, sub-zero, zero-sub, suc-sub-suc, mul-zero}
+use native.Mathlib.Nat.{add-sub_cancel_left, sub-zero, zero-sub, suc-sub-suc}
 
 -- the rest of a list from a start, as a part of a slice has it
 pub rest : (a : ℕ) (l : List ℕ) → take (length l - a) (drop a l) ≡ drop a l
@@ -49,10 +49,6 @@ filled-up w l i h = rw (drop_of_length-le l h, append-nil)
 pub part : (o : Form) (f : List ℕ) (n : ℕ)
     → take (o.size * n + o.size - o.size * n) (drop (o.size * n) f) ≡ record_at o f n
 part o f n = ap (λ (k : ℕ). take k (drop (o.size * n) f)) (add-sub_cancel_left (o.size * n) o.size)
-
--- and record 0
-pub head-part : (o : Form) (f : List ℕ) → take (o.size - 0) f ≡ record_at o f 0
-head-part o f = rw (sub-zero, mul-zero)
 
 pub drop-replicate : (n k : ℕ) → drop {A = ℕ} k (replicate n 0) ≡ replicate (n - k) 0
 drop-replicate n zero = rw sub-zero

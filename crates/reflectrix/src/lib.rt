@@ -9,7 +9,7 @@ ghost use Rattle.reflectrix.specs.Rows.{no_rows};
 pub use reflectrix::fobby;
 
 // The thirty rows, by columns.
-#[derive(Clone, Copy)]
+#[derive(Clone, Copy, Debug, PartialEq)]
 pub struct Ionogram {
     // the frequency that is sounded, in MHz
     pub fvert: [f32; 30],

@@ -1,5 +1,7 @@
 // The reflectrix: for each angle of the scan thirty cells, the oblique frequency of each row in
 // whole kHz.
+// Stays: ion, nang and cells are the Rust's, and thirty cells an angle lie one after the other, as a
+// caller in C lends them.
 ghost use Rattle.std.specs.Prelude.{◌≡◌, map, ◌*◌, ◌≤◌, Float, length};
 ghost use Rattle.scalar.specs.F32.{◌+f◌, ◌*f◌};
 ghost use Rattle.constants.specs.Constants;
@@ -8,6 +10,7 @@ ghost use Rattle.scan_angles.specs.Angles;
 ghost use Rattle.reflectrix.specs.Fobby.{angles_into, cells_after, fobby_outcome};
 
 use crate::Ionogram;
+use cell_rows::Rows;
 use constants::RZ;
 use refusal::Refusal;
 
@@ -27,29 +30,14 @@ fn rcosds() -> [f32; 40]
     RCOSD
 }
 
-// The distance of each height from the Earth's centre.
-fn radii(htrue: [f32; 32]) -> [f32; 32]
-    ensures { result ≡ map (λ (h : Float). Constants.RZ +f h) htrue }
-{
-    let mut r = htrue;
-    for i in 0..32 {
-        r[i] = RZ + htrue[i];
-    }
-    r
-}
-
 // The rows are laid out once for all angles.
 fn angles(ion: Ionogram, nang: usize, cells: &mut [i32])
     requires { (nang ≤ 40) × (30 * nang ≤ length cells.old) }
     ensures { cells.new ≡ angles_into ion cells.old nang }
 {
-    let fv = cell_rows::padded(ion.fvert);
-    let h = cell_rows::padded(ion.htrue);
-    let r = radii(h);
-    let low = cell_rows::lows(fv);
-    let high = cell_rows::highs(fv);
-    let rc = rcosds();
-    cell_rows::scan(&rc, &fv, &r, &low, &high, nang, cells);
+    let radii = cell_rows::each(cell_rows::padded(ion.htrue), |h| RZ + h);
+    let rows = Rows::new(cell_rows::padded(ion.fvert), radii);
+    rows.scan(&rcosds(), nang, cells);
 }
 
 // Cells past the last angle stay; a refused call leaves every cell.

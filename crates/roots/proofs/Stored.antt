@@ -2,7 +2,7 @@
 use mathlib.Core.Path.{◌≡◌, refl, sym, ap₂, ◌∙◌, subst}
 use mathlib.Core.Logic.{inl, inr}
 use mathlib.Core.List.{List}
-use Prim.Native.Nat.{ℕ, zero, suc, ◌+◌, ◌*◌, ◌≤◌, ◌<◌}
+use Prim.Native.Nat.{ℕ, zero, suc, ◌+◌, ◌≤◌, ◌<◌}
 use native.Mathlib.Nat.{eq-or-lt_of_le, not-suc-le-zero}
 use native.Mathlib.Omega.{arith}
 use lib.ListN.{length, get_or, set, length-set}
@@ -24,14 +24,6 @@ less n m l = omega arith
 -- what holds of each place below k, and of k, holds below k + 1
 pub below_next : (P : ℕ → Type 0) (k : ℕ) → ((j : ℕ) → j < k → P j) → P k → (j : ℕ) → j < k + 1 → P j
 below_next P k p q j b = elim (eq-or-lt_of_le (below j k b)) [ inl e ↦ subst P (sym e) q | inr m ↦ p j m ]
-
--- one test more, of two for each place: all are passed only where these are
-pub counted : (P : ℕ → Type 0) (n k x y : ℕ) → n ≤ 2 * k → (n ≡ 2 * k → (j : ℕ) → j < k → P j) → x ≤ 1 → y ≤ 1 → (x ≡ 1 → y ≡ 1 → P k) → n + (x + y) ≡ 2 * (k + 1) → (j : ℕ) → j < k + 1 → P j
-counted P n k x y l p hx hy q e =
-    let n-all : n ≡ 2 * k = omega arith in
-    let x-one : x ≡ 1 = omega arith in
-    let y-one : y ≡ 1 = omega arith in
-    below_next P k (p n-all) (q x-one y-one)
 
 module _ {A : Type 0} where
   put-length : (f : ℕ → A) (l : List A) (n : ℕ) → length (put_each f l n) ≡ length l

@@ -1,6 +1,8 @@
 // Forty square roots at a time. Each is guessed with floats and tested by whole numbers, in loops with
 // no branch and no call, so that the compiler makes vector instructions of them. Where one of the
 // forty guesses is not proved right by its test, all are worked out one by one.
+// Stays: lists of forty side by side (patterns b, guesses q and g), since vector instructions take one kind of number from a list,
+// and a list of records would have to be taken apart first.
 #![tactic(auto)]
 
 ghost use Rattle.std.specs.Prelude.{◌≡◌, ◌%◌, ◌^◌, ◌≤◌, ◌<◌, get_or};
@@ -69,13 +71,7 @@ fn near_digits(t: u32, q: f32) -> u32
 fn normal(b: u32) -> u64
     ensures { (result ≤ 1) × ((result ≡ 1) → Normal b) }
 {
-    if b < 0x80_0000 {
-        return 0;
-    }
-    if b < 0x7f80_0000 {
-        return 1;
-    }
-    0
+    u64::from(0x80_0000 <= b && b < 0x7f80_0000)
 }
 
 // Whether the digits guessed are those of the root: 1, else 0. The square less r is below what is
@@ -99,6 +95,8 @@ fn packed(b: u32, g: u32) -> f32
     f32::from_bits((b + 0x3e80_0000) / 0x100_0000 * 0x80_0000 + g % 0x200_0000)
 }
 
+// Stays: so also the loops of `pack` and `one_by_one`. By `map` of an array it takes three times as long; and of the lists that a
+// `zip` with `iter_mut` leaves a proof knows the lengths alone, which is enough for guesses.
 fn patterns(x: &[f32; 40], b: &mut [u32; 40])
     ensures { (b.new ≡ put_each (λ k. to_bits binary32 (at x.now k)) b.old 40) × HeldByBits x.now 40 }
 {
@@ -108,14 +106,14 @@ fn patterns(x: &[f32; 40], b: &mut [u32; 40])
 }
 
 fn near_inverses(b: &[u32; 40], q: &mut [f32; 40]) {
-    for k in 0..40 {
-        q[k] = near_inverse(folded(b[k]));
+    for (q, b) in q.iter_mut().zip(b) {
+        *q = near_inverse(folded(*b));
     }
 }
 
 fn guesses(b: &[u32; 40], q: &[f32; 40], g: &mut [u32; 40]) {
-    for k in 0..40 {
-        g[k] = near_digits(folded(b[k]), q[k]);
+    for (g, (b, q)) in g.iter_mut().zip(b.iter().zip(q)) {
+        *g = near_digits(folded(*b), *q);
     }
 }
 
@@ -124,8 +122,8 @@ fn passed(b: &[u32; 40], g: &[u32; 40]) -> u64
     ensures { result ≡ 80 → AllRight b.now g.now 40 }
 {
     let mut n = 0u64;
-    for k in 0..40 {
-        n = n + (normal(b[k]) + right(b[k], g[k]));
+    for (b, g) in b.iter().zip(g) {
+        n += normal(*b) + right(*b, *g);
     }
     n
 }

@@ -1,62 +1,66 @@
 // A slot's rows for the eye: numbers in decimals, in columns.
-#![tactic(auto)]
+// Stays: functions of our own and no `Display`, for the reason in crate `lines`.
+#![tactic(auto, using(lines::proofs::Placing::putting))]
 
-ghost use Rattle.std.specs.Prelude.{◌≤◌, ◌<◌};
-ghost use Rattle.lines.specs.Text.{Clipped};
+ghost use Rattle.std.specs.Prelude.{◌≡◌, ◌≤◌, ◌<◌};
+ghost use Rattle.lines.specs.Text.{with_text};
 ghost use Rattle.aligned.specs.Aligned.{right};
 ghost use Rattle.row_table.specs.RowTable.{number_column, table_row_fields, segment_text, table_row_line, rows_text};
 
+use lines::Page;
 use reflectrix::Ionogram;
 
 // A number after two spaces.
-fn put_column(out: &mut [u8], at: usize, width: usize, places: usize, v: f32) -> usize
+#[tactic(auto, using(lines::proofs::Placing::putting), unfolding(crate::specs::RowTable::number_column))]
+fn put_column<const N: usize>(page: &mut Page<N>, width: usize, places: usize, v: f32)
     requires { (width ≤ 10) × (places ≤ 9) }
-    ensures { Clipped (number_column width places v) out.old at out.new result }
+    ensures { page.new ≡ with_text N page.old (number_column width places v) }
 {
-    let a = lines::put_word(out, at, b"  ");
-    decimal_text::put_number(out, a, width, places, v)
+    page.put_word(b"  ");
+    decimal_text::put_number(page, width, places, v);
 }
 
-fn put_numbers(out: &mut [u8], at: usize, ion: Ionogram, i: usize) -> usize
+#[tactic(auto, using(lines::proofs::Placing::putting), unfolding(crate::specs::RowTable::table_row_fields))]
+fn put_numbers<const N: usize>(page: &mut Page<N>, ion: &Ionogram, i: usize)
     requires { i < 30 }
-    ensures { Clipped (table_row_fields ion i) out.old at out.new result }
+    ensures { page.new ≡ with_text N page.old (table_row_fields ion.now i) }
 {
-    let a = put_column(out, at, 7, 2, ion.fvert[i]);
-    let b = put_column(out, a, 8, 1, ion.htrue[i]);
-    let c = put_column(out, b, 10, 1, ion.hprim[i]);
-    put_column(out, c, 9, 4, ion.afac[i])
+    put_column(page, 7, 2, ion.fvert[i]);
+    put_column(page, 8, 1, ion.htrue[i]);
+    put_column(page, 10, 1, ion.hprim[i]);
+    put_column(page, 9, 4, ion.afac[i]);
 }
 
-fn put_segment(out: &mut [u8], at: usize, n: u32) -> usize
-    ensures { Clipped (right 9 (segment_text n)) out.old at out.new result }
+#[tactic(auto, unfolding(crate::specs::RowTable::segment_text))]
+fn put_segment<const N: usize>(page: &mut Page<N>, n: u32)
+    ensures { page.new ≡ with_text N page.old (right 9 (segment_text n)) }
 {
-    if n == 50 {
-        return aligned::put_right(out, at, 9, b"-");
+    match n {
+        50 => aligned::put_right(page, 9, b"-"),
+        49 => aligned::put_right(page, 9, b"top"),
+        _ => decimal_text::put_whole(page, 9, u64::from(n)),
     }
-    if n == 49 {
-        return aligned::put_right(out, at, 9, b"top");
-    }
-    decimal_text::put_whole(out, at, 9, n as u64)
 }
 
-fn put_row(out: &mut [u8], at: usize, ion: Ionogram, i: usize) -> usize
+#[tactic(auto, using(lines::proofs::Placing::putting), unfolding(crate::specs::RowTable::table_row_line))]
+fn put_row<const N: usize>(page: &mut Page<N>, ion: &Ionogram, i: usize)
     requires { i < 30 }
-    ensures { Clipped (table_row_line ion i) out.old at out.new result }
+    ensures { page.new ≡ with_text N page.old (table_row_line ion.now i) }
 {
     let n = i + 1;
-    let a = decimal_text::put_whole(out, at, 3, n as u64);
-    let b = put_numbers(out, a, ion, i);
-    let c = put_segment(out, b, ion.segment[i]);
-    lines::put_byte(out, c, b'\n')
+    decimal_text::put_whole(page, 3, n as u64);
+    put_numbers(page, ion, i);
+    put_segment(page, ion.segment[i]);
+    page.put_byte(b'\n');
 }
 
 // The thirty rows.
-pub fn put_rows(out: &mut [u8], at: usize, ion: Ionogram) -> usize
-    ensures { Clipped (rows_text ion) out.old at out.new result }
+#[tactic(auto, using(lines::proofs::Placing::putting), unfolding(crate::specs::RowTable::rows_text))]
+pub fn put_rows<const N: usize>(page: &mut Page<N>, ion: &Ionogram)
+    ensures { page.new ≡ with_text N page.old (rows_text ion.now) }
 {
-    let mut e = at;
+    // Stays: a row is i in five lists, and its number.
     for i in 0..30 {
-        e = put_row(out, e, ion, i);
+        put_row(page, ion, i);
     }
-    e
 }

@@ -1,7 +1,6 @@
 -- The rounded root of n is the r with r * r - r < n ≤ r * r + r: then the root of 4 * n is at least 2 * r - 1 and below 2 * r + 1. Assumes nothing.
 use mathlib.Core.Path.{◌≡◌}
-use Prim.Native.Nat.{ℕ, zero, suc, ◌+◌, ◌*◌, ◌/◌, ◌^◌, ◌≤◌, ◌<◌}
-use native.Mathlib.Nat.{lt_of_not-le, mul-le-mul_right}
+use Prim.Native.Nat.{ℕ, zero, suc, ◌+◌, ◌*◌, ◌/◌, ◌≤◌, ◌<◌}
 use native.Mathlib.Omega.{arith}
 use Rattle.scalar.specs.Root.{root}
 use Rattle.scalar.proofs.WholeRoot.{root_is, root_ge, root-lt}
@@ -20,14 +19,3 @@ rounded n zero h l = absurd (omega arith)
 rounded n (suc k) h l =
     let q = root_is (4 * n) in
     half (root (4 * n)) k (root_ge (4 * n) (root (4 * n)) (suc (2 * k)) q.1 (lower n k h)) (root-lt (4 * n) (root (4 * n)) (suc (suc (suc (2 * k)))) q.0 (upper n k l))
-
--- ---- how large a guess can be, and that it is above zero where it is too large
-pub guess-lt : (n r : ℕ) → n < 2 ^ 48 → r * r < n + r → r < 2 ^ 25
-guess-lt n r h k = lt_of_not-le (λ (g : 2 ^ 25 ≤ r). far g (mul-le-mul_right r g))
-  where
-    far : 2 ^ 25 ≤ r → 2 ^ 25 * r ≤ r * r → ⊥
-    far g l = omega arith
-
-pub guess-pos : (n r : ℕ) → 0 < n → n + r ≤ r * r → 0 < r
-guess-pos n zero p h = absurd (omega arith)
-guess-pos n (suc r) p h = omega arith

@@ -32,6 +32,8 @@ pub fn bits(x: f32) -> u32
 }
 
 // The smaller one. A NaN is dropped, and of two equal ones, -0 and +0 too, the first is the answer.
+// Stays: beside the larger one, and with a and b as the Rust has them: one function of both would be handed its comparison as a
+// closure, and be longer than these two.
 pub fn min(a: f32, b: f32) -> f32
     ensures { result ≡ min_of a b }
 {

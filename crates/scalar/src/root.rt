@@ -12,6 +12,7 @@ ghost use Rattle.scalar.specs.RootPattern.{root_pattern};
 // root to a scale within seven in ten thousand, and with `rest` within two in 10^10. What is added
 // last leaves the digits at the end of the sum's pattern. One guess in 600 is off, by one. No proof
 // rests on that: `rounded_root` corrects any guess.
+// Stays: what n and t are below is asked here and once more; a type for either would be made in one place and read in one.
 fn near_root(n: u64, t: u64) -> u64
     requires { (n < 2 ^ 48) × (t < 2 ^ 24) }
     ensures { result < 2 ^ 25 }
@@ -26,43 +27,25 @@ fn near_root(n: u64, t: u64) -> u64
     f64::to_bits(near) % 0x200_0000
 }
 
-// A guess, brought down until its square less itself is below n.
-fn lowered(n: u64, guess: u64) -> u64
-    requires { (0 < n) × (n < 2 ^ 48) × (guess < 2 ^ 25) }
-    ensures { result * result < n + result }
-{
-    let mut r = guess;
-    while n + r <= r * r {
-        r -= 1;
-    }
-    r
-}
-
-// A guess whose square less itself is below n, brought up until its square and itself are not.
-fn raised(n: u64, guess: u64) -> u64
-    requires { (n < 2 ^ 48) × (guess * guess < n + guess) }
-    ensures { result ≡ (root (4 * n) + 1) / 2 }
-{
-    let mut r = guess;
-    while r * r + r < n {
-        r += 1;
-    }
-    r
-}
-
 // The root of n, rounded, from any guess: mostly the guess itself. It is the r with n above r * r - r
 // and not above r * r + r, since the square of r + 1/2 is no whole number.
+// Stays: loops that count nothing, and mostly are not reached; a search of a range would have to say what is answered where nothing is found.
 fn rounded_root(n: u64, guess: u64) -> u64
     requires { (0 < n) × (n < 2 ^ 48) × (guess < 2 ^ 25) }
     ensures { result ≡ (root (4 * n) + 1) / 2 }
 {
     let square = guess * guess;
-    if square < n + guess {
-        if n <= square + guess {
-            return guess;
-        }
+    if square < n + guess && n <= square + guess {
+        return guess;
     }
-    raised(n, lowered(n, guess))
+    let mut r = guess;
+    while n + r <= r * r {
+        r -= 1;
+    }
+    while r * r + r < n {
+        r += 1;
+    }
+    r
 }
 
 // The pattern of the root of m * 2^(h - 126) units, for an m of 24 digits: h and m's last 23 digits

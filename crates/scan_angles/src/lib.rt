@@ -74,7 +74,7 @@ fn count(amind: f32, iang: usize) -> usize
     iang
 }
 
-// How many of the scan's angles apply to a path.
+// How many of the scan's angles apply to a path. Stays: gcdkm and amind are the Rust's two parameters.
 pub fn sang(gcdkm: f32, amind: f32) -> Result<usize, Refusal>
     ensures { result ≡ sang_of gcdkm amind }
 {

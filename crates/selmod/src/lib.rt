@@ -2,19 +2,11 @@
 #![tactic(auto)]
 
 ghost use Rattle.std.specs.Prelude.{◌≡◌};
-ghost use Rattle.selmod.specs.Selmod.{selmod_of, slot_if};
+ghost use Rattle.selmod.specs.Selmod.{selmod_of};
 
 use layers::IonoState;
 
-fn slot_if(test: bool, k: usize) -> usize
-    ensures { result ≡ slot_if test k }
-{
-    if test {
-        return k;
-    }
-    0
-}
-
+#[tactic(auto, unfolding(crate::specs::Selmod::selmod_of))]
 pub fn selmod(s: IonoState) -> usize
     ensures { result ≡ selmod_of s }
 {
@@ -22,11 +14,11 @@ pub fn selmod(s: IonoState) -> usize
         return 0;
     }
     if s.kfx == 2 {
-        return slot_if(s.fi[0] > s.fi[3], 1);
+        return if s.fi[0] > s.fi[3] { 1 } else { 0 };
     }
     let delfi = s.fi[2] - s.fi[8];
     if scalar::abs(delfi) < 0.01 {
-        return slot_if(s.fi[0] > s.fi[6], 2);
+        return if s.fi[0] > s.fi[6] { 2 } else { 0 };
     }
-    slot_if(delfi > 0.0, 2)
+    if delfi > 0.0 { 2 } else { 0 }
 }

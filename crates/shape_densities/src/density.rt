@@ -1,11 +1,14 @@
 // The plasma frequency squared at a height: the largest of the five shapes, each 0 outside its own range.
 // But for the tail, which calls `exp`, no shape has a jump: both values are worked out and one is
 // picked, so that heights are taken four at a time.
+// Stays: the shapes `c: Curves` and the height `h` are read together and are no one thing: the loop
+// has the same shapes at fifty heights.
 ghost use Rattle.std.specs.Prelude.{◌≡◌, cond};
 ghost use Rattle.shape_densities.specs.Density.{fnval_of, parabola_of, fne_of, fnd_of, fn1_of, fn2_of, candidates_by, largest_of};
 
 use crate::{Candidates, Curves};
 
+// Stays: c chooses between two values that are both there, and no step.
 fn pick(c: bool, a: f32, b: f32) -> f32
     ensures { result ≡ cond c a b }
 {

@@ -7,7 +7,8 @@ ghost use Rattle.shape_densities.specs.Density.{fnd_of, density_of};
 pub mod density;
 
 // All that the five shapes use.
-#[derive(Clone, Copy)]
+// Stays: `lin` and `s1` are two numbers of the Rust, each with its value on every path: a slope is worked out for some parabolas too.
+#[derive(Clone, Copy, Debug, PartialEq)]
 pub struct Curves {
     pub hlow: f32,
     pub hup: f32,
@@ -35,7 +36,7 @@ pub struct Curves {
 }
 
 // The density of each shape at one height.
-#[derive(Clone, Copy)]
+#[derive(Clone, Copy, Debug, PartialEq)]
 pub struct Candidates {
     pub fnd: f32,
     pub fne: f32,
@@ -59,6 +60,7 @@ pub fn densities(c: Curves, htr: [f32; 50]) -> [f32; 50]
 {
     let fnd = tails(c, htr);
     let mut fnsq = htr;
+    // Stays: three lists by one index, and two zips inside each other are no plainer.
     for ih in 0..50 {
         let d = density::largest(density::candidates(c, fnd[ih], htr[ih]));
         fnsq[ih] = d;

@@ -54,6 +54,7 @@ fn first(c: Candidates, density: f32) -> Mark
     Mark::F2
 }
 
+// Stays: the shapes c and the height h, as in crate `shape_densities`.
 fn mark_at(c: Curves, fnd: f32, h: f32) -> Mark
     requires { fnd ≡ fnd_of c h }
     ensures { result ≡ mark_of c h }
@@ -78,6 +79,7 @@ fn marks_on(c: Curves, htr: [f32; 50]) -> [Mark; 50]
 {
     let fnd = shape_densities::tails(c, htr);
     let mut marks = no_marks();
+    // Stays: three lists by one index, and two zips inside each other are no plainer.
     for ih in 0..50 {
         marks[ih] = mark_at(c, fnd[ih], htr[ih]);
     }

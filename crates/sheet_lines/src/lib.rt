@@ -1,26 +1,29 @@
-// The lines of an answered sheet, as bytes.
-#![tactic(auto)]
+// The lines of an answered sheet, put on a page.
+// Stays: functions of our own and no `Display`, for the reason in crate `lines`.
+#![tactic(auto, using(lines::proofs::Placing::putting))]
 
 ghost use Rattle.std.specs.Prelude.{◌≤◌, ◌≡◌};
-ghost use Rattle.lines.specs.Text.{joined, Clipped};
+ghost use Rattle.lines.specs.Text.{joined, with_text};
 ghost use Rattle.sheet_lines.specs.SheetLines.{natural, muf_fields, muf_line, call_line, slot_line, slot_text, slot_text_at, answered_text};
 
 use circuit_sheet::{Sheet, SlotRows};
+use lines::Page;
 use muf::MufHour;
 
-fn put_mufs(out: &mut [u8], at: usize, h: MufHour) -> usize
-    ensures { Clipped (muf_fields h) out.old at out.new result }
+#[tactic(auto, using(lines::proofs::Placing::putting), unfolding(crate::specs::SheetLines::muf_fields))]
+fn put_mufs<const N: usize>(page: &mut Page<N>, h: &MufHour)
+    ensures { page.new ≡ with_text N page.old (muf_fields h.now) }
 {
-    let a = sheet_rows::put_bits(out, at, h.emuf);
-    let b = sheet_rows::put_bits(out, a, h.f1muf);
-    let c = sheet_rows::put_bits(out, b, h.f2muf);
-    let d = sheet_rows::put_bits(out, c, h.esmuf);
-    sheet_rows::put_bits(out, d, h.allmuf)
+    sheet_rows::put_bits(page, h.emuf);
+    sheet_rows::put_bits(page, h.f1muf);
+    sheet_rows::put_bits(page, h.f2muf);
+    sheet_rows::put_bits(page, h.esmuf);
+    sheet_rows::put_bits(page, h.allmuf);
 }
 
 // The mode, which is 1 to 3.
-fn mode(h: MufHour) -> u64
-    ensures { result ≡ natural h.modmuf }
+fn mode(h: &MufHour) -> u64
+    ensures { result ≡ natural h.now.modmuf }
 {
     let m = h.modmuf;
     if m < 0 {
@@ -29,64 +32,61 @@ fn mode(h: MufHour) -> u64
     m as u64
 }
 
-fn put_muf(out: &mut [u8], at: usize, h: MufHour) -> usize
-    ensures { Clipped (muf_line h) out.old at out.new result }
+#[tactic(auto, using(lines::proofs::Placing::putting), unfolding(crate::specs::SheetLines::muf_line))]
+fn put_muf<const N: usize>(page: &mut Page<N>, h: &MufHour)
+    ensures { page.new ≡ with_text N page.old (muf_line h.now) }
 {
-    let a = lines::put_word(out, at, b"muf");
-    let b = put_mufs(out, a, h);
-    let c = lines::put_field(out, b, mode(h));
-    let d = lines::put_field(out, c, h.ks as u64);
-    lines::put_byte(out, d, b'\n')
+    page.put_word(b"muf");
+    put_mufs(page, h);
+    page.put_field(mode(h));
+    page.put_field(h.ks as u64);
+    page.put_byte(b'\n');
 }
 
-fn put_call(out: &mut [u8], at: usize, h: MufHour) -> usize
-    ensures { Clipped (call_line h) out.old at out.new result }
+#[tactic(auto, using(lines::proofs::Placing::putting), unfolding(crate::specs::SheetLines::call_line))]
+fn put_call<const N: usize>(page: &mut Page<N>, h: &MufHour)
+    ensures { page.new ≡ with_text N page.old (call_line h.now) }
 {
-    let a = lines::put_word(out, at, b"call ");
-    let b = figure_text::put_figure(out, a, h.allmuf);
-    lines::put_byte(out, b, b'\n')
+    page.put_word(b"call ");
+    figure_text::put_figure(page, h.allmuf);
+    page.put_byte(b'\n');
 }
 
-fn put_slot_number(out: &mut [u8], at: usize, k: usize) -> usize
-    ensures { Clipped (slot_line k) out.old at out.new result }
+#[tactic(auto, using(lines::proofs::Placing::putting), unfolding(crate::specs::SheetLines::slot_line))]
+fn put_slot_number<const N: usize>(page: &mut Page<N>, k: usize)
+    ensures { page.new ≡ with_text N page.old (slot_line k) }
 {
-    let a = lines::put_word(out, at, b"slot ");
-    let b = lines::put_decimal(out, a, k as u64);
-    lines::put_byte(out, b, b'\n')
+    page.put_word(b"slot ");
+    page.put_decimal(k as u64);
+    page.put_byte(b'\n');
 }
 
 // A slot's number, its rows, then the marks of its heights.
-fn put_slot(out: &mut [u8], at: usize, rows: SlotRows, k: usize) -> usize
-    ensures { Clipped (slot_text rows k) out.old at out.new result }
+#[tactic(auto, using(lines::proofs::Placing::putting), unfolding(crate::specs::SheetLines::slot_text))]
+fn put_slot<const N: usize>(page: &mut Page<N>, slot: &SlotRows, k: usize)
+    ensures { page.new ≡ with_text N page.old (slot_text slot.now k) }
 {
-    let ion = rows.ion;
-    let marks = rows.marks;
-    let a = put_slot_number(out, at, k);
-    let b = sheet_rows::put_rows(out, a, ion);
-    mark_text::put_marks(out, b, marks)
+    put_slot_number(page, k);
+    sheet_rows::put_rows(page, &slot.ion);
+    mark_text::put_marks(page, &slot.marks);
 }
 
-fn put_slots(out: &mut [u8], at: usize, rows: [SlotRows; 3], slots: usize) -> usize
-    requires { slots ≤ 3 }
-    ensures { Clipped (joined (slot_text_at rows) slots) out.old at out.new result }
+fn put_slots<const N: usize>(page: &mut Page<N>, s: &Sheet)
+    requires { s.now.slots ≤ 3 }
+    ensures { page.new ≡ with_text N page.old (joined (slot_text_at s.now.rows) s.now.slots) }
 {
-    let mut e = at;
-    for k in 0..slots {
-        let slot = rows[k];
-        e = put_slot(out, e, slot, k);
+    for (k, slot) in s.rows[..s.slots].iter().enumerate() {
+        put_slot(page, slot, k);
     }
-    e
 }
 
-// The text of an answered sheet, from the start of out.
-pub fn put_sheet(out: &mut [u8], s: Sheet) -> usize
-    requires { s.slots ≤ 3 }
-    ensures { Clipped (answered_text s) out.old 0 out.new result }
+// The text of an answered sheet.
+#[tactic(auto, using(lines::proofs::Placing::putting), unfolding(crate::specs::SheetLines::answered_text))]
+pub fn put_sheet<const N: usize>(page: &mut Page<N>, s: &Sheet)
+    requires { s.now.slots ≤ 3 }
+    ensures { page.new ≡ with_text N page.old (answered_text s.now) }
 {
-    let h = s.hour;
-    let rows = s.rows;
-    let slots = s.slots;
-    let a = put_muf(out, 0, h);
-    let b = put_call(out, a, h);
-    put_slots(out, b, rows, slots)
+    put_muf(page, &s.hour);
+    put_call(page, &s.hour);
+    put_slots(page, s);
 }

@@ -1,48 +1,52 @@
-// The thirty rows of a slot, as lines of text.
-#![tactic(auto)]
+// The thirty rows of a slot, as lines of text put on a page.
+// Stays: functions of our own and no `Display`, for the reason in crate `lines`.
+#![tactic(auto, using(lines::proofs::Placing::putting))]
 
-ghost use Rattle.std.specs.Prelude.{◌<◌};
-ghost use Rattle.lines.specs.Text.{joined, Clipped};
+ghost use Rattle.std.specs.Prelude.{◌≡◌, ◌<◌};
+ghost use Rattle.lines.specs.Text.{joined, with_text};
 ghost use Rattle.sheet_rows.specs.SheetRows.{bits_field, row_fields, row_line};
 
+use lines::Page;
 use reflectrix::Ionogram;
 
 // A field after another: one space, then the digits of the number's bits.
-pub fn put_bits(out: &mut [u8], at: usize, x: f32) -> usize
-    ensures { Clipped (bits_field x) out.old at out.new result }
+#[tactic(auto, using(lines::proofs::Placing::putting), unfolding(crate::specs::SheetRows::bits_field))]
+pub fn put_bits<const N: usize>(page: &mut Page<N>, x: f32)
+    ensures { page.new ≡ with_text N page.old (bits_field x) }
 {
-    let a = lines::put_byte(out, at, b' ');
-    lines::put_hex(out, a, scalar::bits(x))
+    page.put_byte(b' ');
+    page.put_hex(scalar::bits(x));
 }
 
-fn put_numbers(out: &mut [u8], at: usize, ion: Ionogram, i: usize) -> usize
+#[tactic(auto, using(lines::proofs::Placing::putting), unfolding(crate::specs::SheetRows::row_fields))]
+fn put_numbers<const N: usize>(page: &mut Page<N>, ion: &Ionogram, i: usize)
     requires { i < 30 }
-    ensures { Clipped (row_fields ion i) out.old at out.new result }
+    ensures { page.new ≡ with_text N page.old (row_fields ion.now i) }
 {
-    let a = put_bits(out, at, ion.fvert[i]);
-    let b = put_bits(out, a, ion.htrue[i]);
-    let c = put_bits(out, b, ion.hprim[i]);
-    put_bits(out, c, ion.afac[i])
+    put_bits(page, ion.fvert[i]);
+    put_bits(page, ion.htrue[i]);
+    put_bits(page, ion.hprim[i]);
+    put_bits(page, ion.afac[i]);
 }
 
-fn put_row(out: &mut [u8], at: usize, ion: Ionogram, i: usize) -> usize
+#[tactic(auto, using(lines::proofs::Placing::putting), unfolding(crate::specs::SheetRows::row_line))]
+fn put_row<const N: usize>(page: &mut Page<N>, ion: &Ionogram, i: usize)
     requires { i < 30 }
-    ensures { Clipped (row_line ion i) out.old at out.new result }
+    ensures { page.new ≡ with_text N page.old (row_line ion.now i) }
 {
     let n = i + 1;
-    let a = lines::put_decimal(out, at, n as u64);
-    let b = put_numbers(out, a, ion, i);
-    let c = lines::put_field(out, b, ion.segment[i] as u64);
-    lines::put_byte(out, c, b'\n')
+    page.put_decimal(n as u64);
+    put_numbers(page, ion, i);
+    page.put_field(u64::from(ion.segment[i]));
+    page.put_byte(b'\n');
 }
 
 // All thirty.
-pub fn put_rows(out: &mut [u8], at: usize, ion: Ionogram) -> usize
-    ensures { Clipped (joined (row_line ion) 30) out.old at out.new result }
+// Stays: an index, since row i is made of item i of each list of the ionogram.
+pub fn put_rows<const N: usize>(page: &mut Page<N>, ion: &Ionogram)
+    ensures { page.new ≡ with_text N page.old (joined (row_line ion.now) 30) }
 {
-    let mut e = at;
     for i in 0..30 {
-        e = put_row(out, e, ion, i);
+        put_row(page, ion, i);
     }
-    e
 }

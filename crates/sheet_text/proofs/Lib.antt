@@ -1,2 +1,3 @@
--- How many slots.
+-- How many slots, and what is printed by the answer.
 pub mod SlotCount
+pub mod Printed

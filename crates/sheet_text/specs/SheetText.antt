@@ -1,5 +1,5 @@
 -- What `sheet` prints: the lines of an answered sheet; of a refused file only the refusal.
-use Rattle.std.specs.Prelude.{List, length, ℕ, ◌≤◌, Result, Ok, Err, ⊤}
+use Rattle.std.specs.Prelude.{List, ℕ, ◌≤◌, Result, Ok, Err, ⊤}
 use Rattle.refusal.specs.declared.Refusal.{Refusal}
 use Rattle.lines.specs.Text.{refused_text}
 use Rattle.circuit_sheet.specs.declared.Sheet.{Sheet}
@@ -15,10 +15,10 @@ sheet_text_by (Err r) = refused_text r
 unfoldable pub sheet_text : List ℕ → List ℕ
 sheet_text f = sheet_text_by (sheet_of f)
 
--- the length of a sheet's text, or the refusal
-abbrev pub text_length_by : Result Sheet Refusal → Result ℕ Refusal
-text_length_by (Ok s) = Ok (length (answered_text s))
-text_length_by (Err r) = Err r
+-- the text of an answered sheet, or the refusal
+abbrev pub text_by : Result Sheet Refusal → Result (List ℕ) Refusal
+text_by (Ok s) = Ok (answered_text s)
+text_by (Err r) = Err r
 
 -- at most three slots
 abbrev pub SlotsFew : Result Sheet Refusal → Type 0

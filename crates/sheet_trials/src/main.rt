@@ -1,10 +1,11 @@
 // What `sheet` prints of files of one to five points and of both shapes, of every refusal that a file can
 // meet, of NaN, and at the edges of the `call` field. The stored output is what the paper and the Rust say.
+// Stays: a file f and its record n, since a trial changes one record of a file at a time.
 #![tactic(auto)]
 
 ghost use Rattle.std.specs.Prelude.{◌+◌, ◌<◌, ◌≤◌};
 
-use sheet_text::{INPUT, ROOM};
+use sheet_text::INPUT;
 
 // A point: fi, yi, hi and Es fs, three each, hs, clat, clck.
 const P0: [f32; 15] = [
@@ -26,29 +27,21 @@ const P3: [f32; 15] = [
 const P4: [f32; 15] = [
     2.5, 4.0, 7.0, 20.0, 38.0, 70.0, 112.0, 185.0, 270.0, 1.75, 3.25, 5.25, 100.0, 1.0, 14.0,
 ];
+// a record of kind 3
+const DECILES: [f32; 15] = [
+    0.85, 0.85, 0.85, 0.85, 0.85, 0.85, 0.85, 0.85, 0.85, 0.85, 0.85, 0.85, 0.0, 0.0, 0.0,
+];
 // a NaN with a payload
 const NAN: u32 = 0x7fc0_0001;
-
-// Byte i, from the lowest, of a number.
-fn byte(n: u32, i: usize) -> u8 {
-    let b = [n % 256, n / 256 % 256, n / 0x1_0000 % 256, n / 0x100_0000];
-    if i < 4 {
-        return (b[i] % 256) as u8;
-    }
-    0
-}
 
 // A number's bits at byte `at`, the lowest first.
 fn set_word(f: &mut [u8; INPUT], at: usize, n: u32)
     requires { at + 3 < 4160 }
 {
-    f[at] = byte(n, 0);
-    f[at + 1] = byte(n, 1);
-    f[at + 2] = byte(n, 2);
-    f[at + 3] = byte(n, 3);
+    f[at..at + 4].copy_from_slice(&n.to_le_bytes());
 }
 
-// Record n has this kind and next index.
+// Record n has this kind and next index. Stays: the kind is a byte, since a trial may write any.
 fn set_record(f: &mut [u8; INPUT], n: usize, kind: u8, next: u8)
     requires { n < 65 }
 {
@@ -70,32 +63,27 @@ fn record(mut f: [u8; INPUT], n: usize, kind: u8, next: u8) -> [u8; INPUT]
     f
 }
 
+// Record n has these numbers.
+fn set_numbers(f: &mut [u8; INPUT], n: usize, numbers: &[f32; 15])
+    requires { n < 64 }
+{
+    for (i, x) in numbers.iter().enumerate() {
+        set_word(f, 64 * n + 4 + 4 * i, scalar::bits(*x));
+    }
+}
+
 fn set_point(f: &mut [u8; INPUT], n: usize, next: u8, p: &[f32; 15])
     requires { n < 64 }
 {
     set_record(f, n, 2, next);
-    for i in 0..15 {
-        let b = scalar::bits(p[i]);
-        set_word(f, 64 * n + 4 + 4 * i, b);
-    }
-}
-
-// Word i of a record of kind 3: twelve numbers 0.85, then zeros.
-fn decile(i: usize) -> u32 {
-    if i < 12 {
-        return scalar::bits(0.85);
-    }
-    0
+    set_numbers(f, n, p);
 }
 
 fn set_deciles(f: &mut [u8; INPUT], n: usize, next: u8)
     requires { n < 64 }
 {
     set_record(f, n, 3, next);
-    for i in 0..15 {
-        let b = decile(i);
-        set_word(f, 64 * n + 4 + 4 * i, b);
-    }
+    set_numbers(f, n, &DECILES);
 }
 
 // Record 0 of a path of 3185 km.
@@ -146,9 +134,9 @@ fn frequencies(e: u32, f1: u32, f2: u32) -> [u8; INPUT] {
 fn with_deciles(mut f: [u8; INPUT], n: usize) -> [u8; INPUT]
     requires { n ≤ 6 }
 {
-    for k in 0..48usize {
-        let next = n + k + 1;
-        set_deciles(&mut f, n + k, (next % 256) as u8);
+    // Stays: k is the record's number, and no list is read.
+    for k in n..n + 48 {
+        set_deciles(&mut f, k, ((k + 1) % 256) as u8);
     }
     record(f, n + 47, 3, 0)
 }
@@ -158,9 +146,8 @@ fn print(name: &[u8], f: [u8; INPUT], n: usize)
     requires { n ≤ 4160 }
 {
     io::write_all(1, name);
-    let mut text = [0u8; ROOM];
-    let len = sheet_text::sheet_text(&f[..n], &mut text);
-    io::write_all(1, &text[..len]);
+    let text = sheet_text::sheet_text(&f[..n]);
+    io::write_all(1, text.text());
 }
 
 fn circuits() {

@@ -3,19 +3,7 @@
 // two bytes; the oracle writes it, and the stored output (oracle/README.md).
 #![tactic(auto)]
 
-ghost use Rattle.std.specs.Prelude.{◌≤◌};
-
 use sheet_text::INPUT;
-use show_text::ROOM;
-
-// The page of the first n bytes.
-fn print(file: [u8; INPUT], n: usize) -> bool
-    requires { n ≤ 4160 }
-{
-    let mut text = [0u8; ROOM];
-    let len = show_text::show_text(&file[..n], &mut text);
-    io::write_all(1, &text[..len])
-}
 
 // The page of the next n bytes; false where there are fewer.
 fn page(n: usize) -> bool {
@@ -27,7 +15,8 @@ fn page(n: usize) -> bool {
     if got < n {
         return false;
     }
-    print(file, n)
+    let page = show_text::show_text(&file[..n]);
+    io::write_all(1, page.text())
 }
 
 fn next_page() -> bool {
@@ -40,6 +29,7 @@ fn next_page() -> bool {
 }
 
 // At most a hundred pages.
+// Stays: turns are counted, and no list is read.
 fn main() {
     for _ in 0..100 {
         if !next_page() {

@@ -10,7 +10,7 @@ ghost use Rattle.slot_curves.specs.Draw.{tail_of, curves_of, drawn_of};
 use shape_densities::Curves;
 
 // One slot's layers, the Rust's `fi[k][0]` as `fi0`.
-#[derive(Clone, Copy)]
+#[derive(Clone, Copy, Debug, PartialEq)]
 pub struct Slot {
     pub fi0: f32,
     pub fi1: f32,
@@ -26,7 +26,7 @@ pub struct Slot {
 
 // The valley between E and F2: the density goes in a straight line from flow, at the height hlow,
 // to fup, at hup.
-#[derive(Clone, Copy)]
+#[derive(Clone, Copy, Debug, PartialEq)]
 pub struct Valley {
     pub hlow: f32,
     pub hte: f32,
@@ -40,7 +40,8 @@ pub struct Valley {
 }
 
 // The F1 layer reshaped: linear or parabolic, and what it leaves in the slot.
-#[derive(Clone, Copy)]
+// Stays: `lin` and `s1` are two numbers of the Rust, each with its value on every path: a slope is worked out for some parabolas too.
+#[derive(Clone, Copy, Debug, PartialEq)]
 pub struct F1Shape {
     pub lin: bool,
     pub fc1: f32,
@@ -52,7 +53,7 @@ pub struct F1Shape {
 }
 
 // The exponential tail under E, from the height hex down.
-#[derive(Clone, Copy)]
+#[derive(Clone, Copy, Debug, PartialEq)]
 pub struct Tail {
     pub hex: f32,
     pub alp: f32,
@@ -61,7 +62,7 @@ pub struct Tail {
 
 // A slot's shapes, ready to be read at its heights: the slot reshaped, all that the shapes use, and
 // the fifty heights.
-#[derive(Clone, Copy)]
+#[derive(Clone, Copy, Debug, PartialEq)]
 pub struct Drawn {
     pub slot: Slot,
     pub curves: Curves,

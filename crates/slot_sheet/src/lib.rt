@@ -1,5 +1,6 @@
 // The slot sheet: a slot's profile, its ionogram, its reflectrix and its loss factors in one call,
 // and which shape made each density of the profile.
+// Stays: s, k, nang, layers and cells are what the four calls of the Rust take between them.
 #![tactic(auto)]
 
 ghost use Rattle.std.specs.Prelude.{◌≡◌};
@@ -12,7 +13,7 @@ use shapes::Mark;
 
 // The ionogram of a slot, the marks of its fifty heights, and the state as `lecden` of the slot left
 // it.
-#[derive(Clone, Copy)]
+#[derive(Clone, Copy, Debug, PartialEq)]
 pub struct SlotSheet {
     pub state: IonoState,
     pub ion: Ionogram,

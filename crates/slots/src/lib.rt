@@ -18,6 +18,7 @@ fn empty(n: usize) -> IonoState
     s
 }
 
+// Stays: s and k are the Rust's `state` and the number of one of its points.
 fn set_point(mut s: IonoState, k: usize, p: LayerParams) -> IonoState
     requires { k < 5 }
     ensures { result ≡ point_set s k p }
@@ -28,6 +29,7 @@ fn set_point(mut s: IonoState, k: usize, p: LayerParams) -> IonoState
     s
 }
 
+// Stays: the state s and how many points or slots, n, of which the loops take the first.
 fn set_points(s: IonoState, params: [LayerParams; 5], n: usize) -> IonoState
     requires { n ≤ 5 }
     ensures { result ≡ points_set s params n }

@@ -6,7 +6,8 @@ ghost use Rattle.std.specs.Prelude.{◌≡◌, ◌+◌, ◌<◌};
 ghost use Rattle.slot_curves.specs.Grid.{filled};
 ghost use Rattle.sounding_grid.specs.Grid.{e_grid, nose_grid, f_grid, fvert_of};
 
-// The n places after `from`, each fdif above the one before.
+// The n places after `from`, each fdif above the one before. Stays: a turn reads the place that the turn
+// before it wrote.
 fn fill(fv: [f32; 30], from: usize, n: usize, fdif: f32) -> [f32; 30]
     requires { from + n < 30 }
     ensures { result ≡ filled fv from fdif n }

@@ -1,18 +1,21 @@
 // The heights of the thirty rows, and the segments of the true ones. With a negative `iedp` all are `gethp`'s. Otherwise the ten E
 // rows are a table's; the others have true heights by `xlin`, and virtual ones by parabolas, or by
 // `gethp` if there is an F1.
+// Stays: s, k and fv are handed on as in the Rust, and `rises` beside them: the heights are tested once
+// for all rows.
 #![tactic(auto)]
 
-ghost use Rattle.std.specs.Prelude.{◌≡◌, ◌<◌, false, replicate};
+ghost use Rattle.std.specs.Prelude.{◌≡◌, ◌+◌, ◌*◌, ◌<◌, Float, false, replicate};
+ghost use Rattle.scalar.specs.F32.{◌>f◌, at};
 ghost use Rattle.scalar.specs.Literals.{f0};
 ghost use Rattle.heights.specs.Gethp.{gethp_of};
 ghost use Rattle.profile.specs.Rising.{rises_of};
 ghost use Rattle.readings.specs.Scan.{unsearched};
 ghost use Rattle.sounding_rows.specs.Rows;
-ghost use Rattle.sounding_rows.specs.Rows.{rows_of, true_by_profile, segment_by_profile, virtual_by_parabola, made, rows_by, rows_with};
+ghost use Rattle.sounding_rows.specs.Rows.{rows_of, true_by_profile, segment_by_profile, virtual_by_parabola, virtual_by, made, rows_by, rows_with};
 
 use layers::IonoState;
-use readings::Found;
+use readings::{Found, Profile};
 use reflectrix::Ionogram;
 
 const HTE: [f32; 30] = [
@@ -26,7 +29,7 @@ const HPE: [f32; 30] = [
 ];
 
 // The two columns of heights, and that of the segments.
-#[derive(Clone, Copy)]
+#[derive(Clone, Copy, Debug, PartialEq)]
 pub struct Columns {
     pub hprim: [f32; 30],
     pub htrue: [f32; 30],
@@ -40,14 +43,18 @@ fn by_profile(s: IonoState, rises: bool, fv: [f32; 30]) -> Columns
         × (result.htrue ≡ rows_of (λ f. (gethp_of s f).ht) fv 0 (replicate 30 f0) 30)
         × (result.segment ≡ rows_of (λ f. (gethp_of s f).segment) fv 0 (replicate 30 0) 30) }
 {
-    let htr = s.htr;
-    let fnsq = s.fnsq;
+    let p = Profile {
+        htr: &s.htr,
+        fnsq: &s.fnsq,
+        rises,
+    };
     let exact = s.exact_virtual_height;
     let mut hprim = [0.0; 30];
     let mut htrue = [0.0; 30];
     let mut segment = [0; 30];
+    // Stays: three columns are written at a row.
     for i in 0..30 {
-        let h = heights::gethp_read(&htr, &fnsq, exact, rises, fv[i]);
+        let h = heights::gethp_read(p, exact, fv[i]);
         hprim[i] = h.hp;
         htrue[i] = h.ht;
         segment[i] = h.segment;
@@ -62,13 +69,11 @@ fn by_profile(s: IonoState, rises: bool, fv: [f32; 30]) -> Columns
 fn true_by_profile(s: IonoState, f: f32) -> Found
     ensures { (result.value ≡ true_by_profile s f) × (result.segment ≡ segment_by_profile s f) }
 {
-    let fnsq = s.fnsq;
-    let htr = s.htr;
-    xlin::xlin(f * f, &fnsq, &htr)
+    xlin::xlin(f * f, &s.fnsq, &s.htr)
 }
 
 // The column of true heights and that of their segments.
-#[derive(Clone, Copy)]
+#[derive(Clone, Copy, Debug, PartialEq)]
 pub struct TrueColumns {
     pub htrue: [f32; 30],
     pub segment: [u32; 30],
@@ -80,28 +85,13 @@ fn true_rows(s: IonoState, fv: [f32; 30]) -> TrueColumns
 {
     let mut htrue = HTE;
     let mut segment = [50; 30];
+    // Stays: two columns are written at a row.
     for i in 0..20 {
         let h = true_by_profile(s, fv[10 + i]);
         htrue[10 + i] = h.value;
         segment[10 + i] = h.segment;
     }
     TrueColumns { htrue, segment }
-}
-
-// With an F1, which the closed form of E and F2 leaves out.
-fn virtual_rows_by_profile(s: IonoState, rises: bool, fv: [f32; 30]) -> [f32; 30]
-    requires { rises ≡ rises_of s.htr }
-    ensures { result ≡ rows_of (λ f. (gethp_of s f).hp) fv 10 Rows.HPE 20 }
-{
-    let htr = s.htr;
-    let fnsq = s.fnsq;
-    let exact = s.exact_virtual_height;
-    let mut hprim = HPE;
-    for i in 0..20 {
-        let h = heights::gethp_read(&htr, &fnsq, exact, rises, fv[10 + i]);
-        hprim[10 + i] = h.hp;
-    }
-    hprim
 }
 
 fn virtual_by_parabola(s: IonoState, k: usize, f: f32) -> f32
@@ -115,16 +105,34 @@ fn virtual_by_parabola(s: IonoState, k: usize, f: f32) -> f32
     s.hi[f2] - s.yi[f2] + bend + (lag - 2.0 * s.yi[e])
 }
 
-fn virtual_rows_by_parabola(s: IonoState, k: usize, fv: [f32; 30]) -> [f32; 30]
-    requires { k < 3 }
-    ensures { result ≡ rows_of (λ f. virtual_by_parabola s k f) fv 10 Rows.HPE 20 }
+// Ten rows as they stand at the start, and the twenty after them, each by its frequency.
+fn rows_from_ten<F: Fn(f32) -> f32>(start: [f32; 30], fv: [f32; 30], row: F) -> [f32; 30]
+    requires { F.IsAlwaysCallable row }
+    ensures { (g : Float → Float) → ((f h : Float) → F.post row f h → h ≡ g f) → result ≡ rows_of g fv 10 start 20 }
 {
-    let mut hprim = HPE;
+    let mut rows = start;
+    // Stays: a turn writes one list from the place of another.
     for i in 0..20 {
-        let h = virtual_by_parabola(s, k, fv[10 + i]);
-        hprim[10 + i] = h;
+        rows[10 + i] = row(fv[10 + i]);
     }
-    hprim
+    rows
+}
+
+// With an F1 off the profile, since the closed form of E and F2 leaves it out.
+fn virtual_rows(s: IonoState, k: usize, rises: bool, fv: [f32; 30]) -> [f32; 30]
+    requires { (k < 3) × (rises ≡ rises_of s.htr) }
+    ensures { result ≡ rows_of (λ f. virtual_by (at s.fi (3 * k + 1) >f f0) gethp_of s k f) fv 10 Rows.HPE 20 }
+{
+    if s.fi[3 * k + 1] > 0.0 {
+        let p = Profile {
+            htr: &s.htr,
+            fnsq: &s.fnsq,
+            rises,
+        };
+        let exact = s.exact_virtual_height;
+        return rows_from_ten(HPE, fv, |f| heights::gethp_read(p, exact, f).hp);
+    }
+    rows_from_ten(HPE, fv, |f| virtual_by_parabola(s, k, f))
 }
 
 fn make(fv: [f32; 30], hprim: [f32; 30], htrue: [f32; 30], segment: [u32; 30]) -> Ionogram
@@ -144,28 +152,18 @@ fn by_table(s: IonoState, k: usize, rises: bool, fv: [f32; 30]) -> Ionogram
     requires { (k < 3) × (rises ≡ rises_of s.htr) }
     ensures { result ≡ rows_by false gethp_of s k fv }
 {
-    let f1 = 3 * k + 1;
     let t = true_rows(s, fv);
-    let htrue = t.htrue;
-    let segment = t.segment;
-    if s.fi[f1] > 0.0 {
-        return make(fv, virtual_rows_by_profile(s, rises, fv), htrue, segment);
-    }
-    make(fv, virtual_rows_by_parabola(s, k, fv), htrue, segment)
+    make(fv, virtual_rows(s, k, rises, fv), t.htrue, t.segment)
 }
 
 pub fn rows(s: IonoState, k: usize, fv: [f32; 30]) -> Ionogram
     requires { k < 3 }
     ensures { result ≡ rows_with gethp_of s k fv }
 {
-    let htr = s.htr;
-    let rises = profile::rises_throughout(&htr);
+    let rises = profile::rises_throughout(&s.htr);
     if layers::profile_only(s) {
         let c = by_profile(s, rises, fv);
-        let hprim = c.hprim;
-        let htrue = c.htrue;
-        let segment = c.segment;
-        return make(fv, hprim, htrue, segment);
+        return make(fv, c.hprim, c.htrue, c.segment);
     }
     by_table(s, k, rises, fv)
 }

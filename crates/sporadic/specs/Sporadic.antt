@@ -1,6 +1,6 @@
 -- The sporadic E section of `curmuf`: of the rows that reflect, the one with the lowest MUF controls. A row is `fs[0]`, `fs[1]`, `fs[2]` and `hs` of the Rust's `EsParams`.
 use Rattle.refusal.specs.declared.Refusal.{Refusal}
-use Rattle.std.specs.Prelude.{Bool, true, false, List, ℕ, zero, suc, ◌+◌, ◌*◌, Float, Some, None, Result, Ok, Err}
+use Rattle.std.specs.Prelude.{Bool, true, false, List, ℕ, zero, suc, ◌+◌, ◌*◌, ◌<◌, ◌≡◌, Float, Some, None, Result, Ok, Err}
 use Rattle.scalar.specs.F32.{◌+f◌, ◌-f◌, ◌*f◌, ◌/f◌, ◌≤f◌, ◌<f◌, ◌>f◌, ◌≥f◌, at}
 use Rattle.scalar.specs.Literals.{f0, f0_1, f0_5, f1, f1_28, f2, f3_1, f1000}
 use Rattle.scalar.specs.Scalar.{min_of}
@@ -10,11 +10,15 @@ use Rattle.arcs.specs.Atan.{atan_of}
 use Rattle.constants.specs.Constants.{RZ}
 use Rattle.hops.specs.Geometry.{hops_of}
 use Rattle.e_lines.specs.Lines.{layer_line_of, zero_line}
+use Rattle.layers.specs.declared.EsParams.{EsParams}
 use Rattle.layer_mufs.specs.declared.PathNumbers.{PathNumbers}
 use Rattle.sporadic.specs.declared.EsRow.{EsRow}
 use Rattle.sporadic.specs.declared.EsRay.{EsRay}
 use Rattle.sporadic.specs.declared.EsSearch.{EsSearch}
 use Rattle.sporadic.specs.declared.EsLine.{EsLine}
+
+abbrev pub as_es_row : EsParams → EsRow
+as_es_row e = record { fs0 = at e.fs 0; fs1 = at e.fs 1; fs2 = at e.fs 2; hs = e.hs }
 
 unfoldable pub ray_of : Float → Float → Float → EsRay
 ray_of hs hop gcd =
@@ -61,6 +65,10 @@ step_value (Err r) = no_search
 -- row k of a flat list
 abbrev pub row_at : List Float → ℕ → EsRow
 row_at es k = record { fs0 = at es (4 * k); fs1 = at es (4 * k + 1); fs2 = at es (4 * k + 2); hs = at es (4 * k + 3) }
+
+-- what a reader gives for each of the first n rows is the row of `rows`
+abbrev pub Reads : (ℕ → EsRow → Type 0) → ℕ → (ℕ → EsRow) → Type 0
+Reads gives n rows = (k : ℕ) (row : EsRow) → k < n → gives k row → row ≡ rows k
 
 abbrev pub next_by : Result EsSearch Refusal → (EsSearch → Result EsSearch Refusal) → Result EsSearch Refusal
 next_by (Ok b) rest = rest b

@@ -1,17 +1,17 @@
-// Sporadic E: the row with the lowest MUF, of flat rows of four numbers or one at a time, and its line.
+// Sporadic E: the row with the lowest MUF, of rows that are read as the caller says, and its line.
 #![tactic(auto)]
 
-ghost use Rattle.std.specs.Prelude.{◌≡◌, ◌+◌, ◌*◌, ◌<◌, ◌≤◌, length};
-ghost use Rattle.sporadic.specs.Sporadic.{ray_of, taken_of, es_row_of, start_of, row_at, es_from, sigl4_of, es_found_of, es_line_of};
+ghost use Rattle.std.specs.Prelude.{◌≡◌, ℕ, ◌<◌};
+ghost use Rattle.sporadic.specs.Sporadic.{as_es_row, ray_of, taken_of, es_row_of, start_of, es_from, Reads, sigl4_of, es_found_of, es_line_of};
 ghost use Rattle.sporadic.specs.Says.{RowSays, RowsSay};
 
 use constants::RZ;
 use layer_mufs::PathNumbers;
-use layers::LayerMuf;
+use layers::{EsParams, LayerMuf};
 use refusal::Refusal;
 
 // One Es row: the three frequencies of an `EsParams`, in its order, and the height.
-#[derive(Clone, Copy)]
+#[derive(Clone, Copy, Debug, PartialEq)]
 pub struct EsRow {
     pub fs0: f32,
     pub fs1: f32,
@@ -19,8 +19,22 @@ pub struct EsRow {
     pub hs: f32,
 }
 
+impl From<EsParams> for EsRow {
+    ghost from_gives = { λ e row. row ≡ as_es_row e };
+
+    fn from(e: EsParams) -> EsRow {
+        let fs = e.fs;
+        EsRow {
+            fs0: fs[0],
+            fs1: fs[1],
+            fs2: fs[2],
+            hs: e.hs,
+        }
+    }
+}
+
 // A row's ray: the tangent of its takeoff angle, and the secant at the layer.
-#[derive(Clone, Copy)]
+#[derive(Clone, Copy, Debug, PartialEq)]
 pub struct EsRay {
     pub tdel: f32,
     pub secp: f32,
@@ -28,7 +42,7 @@ pub struct EsRay {
 
 // The row with the lowest MUF so far: its MUF, place, ray and numbers; and the hops of the last row
 // worked out, whether it is this one or not.
-#[derive(Clone, Copy)]
+#[derive(Clone, Copy, Debug, PartialEq)]
 pub struct EsSearch {
     pub esmuf: f32,
     pub ksx: usize,
@@ -42,7 +56,7 @@ pub struct EsSearch {
 }
 
 // The row whose lower decile is written anew, and that decile.
-#[derive(Clone, Copy)]
+#[derive(Clone, Copy, Debug, PartialEq)]
 pub struct Rewrite {
     pub ksx: usize,
     pub lower: f32,
@@ -127,31 +141,16 @@ pub fn es_start() -> EsSearch
     }
 }
 
-fn flat_row(es: &[f32], k: usize) -> EsRow
-    requires { 4 * k + 3 < length es.now }
-    ensures { result ≡ row_at es.now k }
-{
-    let lower = 4 * k;
-    let median = 4 * k + 1;
-    let upper = 4 * k + 2;
-    let height = 4 * k + 3;
-    EsRow {
-        fs0: es[lower],
-        fs1: es[median],
-        fs2: es[upper],
-        hs: es[height],
-    }
-}
-
-// The first n rows, in order.
-pub fn es_rows(es: &[f32], n: usize, c: PathNumbers) -> Result<EsSearch, Refusal>
-    requires { 4 * n ≤ length es.now }
-    ensures value { result ≡ es_from (row_at es.now) c n 0 start_of }
-    ensures rows_say { RowsSay result (row_at es.now) c n 0 start_of }
+// The first n rows, in order, each as `row` reads it.
+// Stays: a row's number is what its reader is asked by, and what the search keeps of it.
+pub fn search<F: Fn(usize) -> EsRow>(row: F, n: usize, c: PathNumbers) -> Result<EsSearch, Refusal>
+    requires { (k : ℕ) → k < n → F.pre row k }
+    ensures value { (rows : ℕ → EsRow) → Reads (F.post row) n rows → result ≡ es_from rows c n 0 start_of }
+    ensures rows_say { (rows : ℕ → EsRow) → Reads (F.post row) n rows → RowsSay result rows c n 0 start_of }
 {
     let mut a = es_start();
     for k in 0..n {
-        a = es_row(a, k, flat_row(es, k), c)?;
+        a = es_row(a, k, row(k), c)?;
     }
     Ok(a)
 }

@@ -13,6 +13,8 @@ pub struct Place {
 
 // A number's place on an axis with k units for each one of it; 2^32 where it is below zero, no number or
 // too far out.
+// Stays: 2^32 is past the end of either axis, so that one test turns all of these away.
+#[tactic(auto, unfolding(crate::specs::Points::units_of))]
 fn units(v: f32, k: u32) -> u64
     ensures { result ≡ units_of k v }
 {
@@ -23,6 +25,7 @@ fn units(v: f32, k: u32) -> u64
 }
 
 // The point of a frequency in MHz and a height in km, where it is in the frame.
+#[tactic(auto, unfolding(crate::specs::Points::point_drawn_of))]
 pub fn point(f: f32, h: f32) -> Option<Place>
     ensures { result ≡ point_drawn_of f h }
 {

@@ -1,13 +1,16 @@
-// The marks of a profile and the MUF's line in a panel of the picture, as SVG in lent bytes.
-#![tactic(auto)]
+// The marks of a profile and the MUF's line in a panel of the picture, as SVG, put on a page.
+// Stays: functions of our own and no `Display`, for the reason in crate `lines`.
+#![tactic(auto, using(lines::proofs::Placing::putting))]
 
 ghost use Rattle.std.specs.Prelude.{◌≡◌};
-ghost use Rattle.lines.specs.Text.{Clipped};
+ghost use Rattle.lines.specs.Text.{with_text};
 ghost use Rattle.svg_text.specs.Pieces.{id_of, use_text, mark_text, line_text, muf_text};
 
+use lines::Page;
 use shapes::Mark;
 use svg_points::Place;
 
+// Stays: neither the mark nor the bytes are types of this crate, so no `From` can stand here.
 #[tactic(auto, unfolding(crate::specs::Pieces::id_of))]
 fn id(m: Mark) -> &'static [u8]
     ensures { result.now ≡ id_of m }
@@ -23,46 +26,47 @@ fn id(m: Mark) -> &'static [u8]
     }
 }
 
-fn put_use(out: &mut [u8], at: usize, m: Mark, p: Place) -> usize
-    ensures { Clipped (use_text m p.x p.y) out.old at out.new result }
+fn put_use<const N: usize>(page: &mut Page<N>, m: Mark, p: Place)
+    ensures { page.new ≡ with_text N page.old (use_text m p.x p.y) }
 {
-    let a = lines::put_word(out, at, b"<use href='#");
-    let b = lines::put_word(out, a, id(m));
-    let c = lines::put_word(out, b, b"' x='");
-    let d = lines::put_decimal(out, c, p.x);
-    let e = lines::put_word(out, d, b"' y='");
-    let f = lines::put_decimal(out, e, p.y);
-    lines::put_word(out, f, b"'/>\n")
+    page.put_word(b"<use href='#");
+    page.put_word(id(m));
+    page.put_word(b"' x='");
+    page.put_decimal(p.x);
+    page.put_word(b"' y='");
+    page.put_decimal(p.y);
+    page.put_word(b"'/>\n");
 }
 
 // The mark of one height of a profile, where its point is in the frame.
-pub fn put_mark(out: &mut [u8], at: usize, m: Mark, f: f32, h: f32) -> usize
-    ensures { Clipped (mark_text m f h) out.old at out.new result }
+#[tactic(auto, using(lines::proofs::Placing::putting), unfolding(crate::specs::Pieces::mark_text))]
+pub fn put_mark<const N: usize>(page: &mut Page<N>, m: Mark, f: f32, h: f32)
+    ensures { page.new ≡ with_text N page.old (mark_text m f h) }
 {
-    match svg_points::point(f, h) {
-        Some(p) => put_use(out, at, m, p),
-        None => at,
+    if let Some(p) = svg_points::point(f, h) {
+        put_use(page, m, p);
     }
 }
 
-fn put_line(out: &mut [u8], at: usize, x: u64, muf: f32) -> usize
-    ensures { Clipped (line_text x muf) out.old at out.new result }
+#[tactic(auto, using(lines::proofs::Placing::putting), unfolding(crate::specs::Pieces::line_text))]
+fn put_line<const N: usize>(page: &mut Page<N>, x: u64, muf: f32)
+    ensures { page.new ≡ with_text N page.old (line_text x muf) }
 {
-    let a = lines::put_word(out, at, b"<path class='muf' d='M");
-    let b = lines::put_decimal(out, a, x);
-    let c = lines::put_word(out, b, b" 500V3500'/><text class='m' x='");
-    let d = lines::put_decimal(out, c, x);
-    let e = lines::put_word(out, d, b"' y='440'>MUF ");
-    let f = figure_text::put_figure(out, e, muf);
-    lines::put_word(out, f, b" MHz</text>\n")
+    page.put_word(b"<path class='muf' d='M");
+    page.put_decimal(x);
+    page.put_word(b" 500V3500'/><text class='m' x='");
+    page.put_decimal(x);
+    page.put_word(b"' y='440'>MUF ");
+    figure_text::put_figure(page, muf);
+    page.put_word(b" MHz</text>\n");
 }
 
 // The MUF's line with its figure, where it is in the frame.
-pub fn put_muf(out: &mut [u8], at: usize, muf: f32) -> usize
-    ensures { Clipped (muf_text muf) out.old at out.new result }
+#[tactic(auto, using(lines::proofs::Placing::putting), unfolding(crate::specs::Pieces::muf_text))]
+pub fn put_muf<const N: usize>(page: &mut Page<N>, muf: f32)
+    ensures { page.new ≡ with_text N page.old (muf_text muf) }
 {
-    match svg_points::point(muf, 0.0) {
-        Some(foot) => put_line(out, at, foot.x, muf),
-        None => at,
+    if let Some(foot) = svg_points::point(muf, 0.0) {
+        put_line(page, foot.x, muf);
     }
 }

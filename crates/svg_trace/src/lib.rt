@@ -1,50 +1,52 @@
-// The line through an ionogram's rows, as the data of an SVG path in lent bytes.
-#![tactic(auto)]
+// The line through an ionogram's rows, as the data of an SVG path, put on a page.
+// Stays: functions of our own and no `Display`, for the reason in crate `lines`.
+#![tactic(auto, using(lines::proofs::Placing::putting))]
 
-ghost use Rattle.lines.specs.Text.{Clipped};
+ghost use Rattle.std.specs.Prelude.{◌≡◌};
+ghost use Rattle.lines.specs.Text.{with_text};
 ghost use Rattle.svg_trace.specs.Trace.{pen_text, pair_text, step_text, trace_text};
 
+use lines::Page;
 use svg_points::Place;
 
 // Whether the line is drawn on from the point before, or starts here.
-fn put_pen(out: &mut [u8], at: usize, last: Option<Place>) -> usize
-    ensures { Clipped (pen_text last) out.old at out.new result }
+#[tactic(auto, unfolding(crate::specs::Trace::pen_text))]
+fn put_pen<const N: usize>(page: &mut Page<N>, last: Option<Place>)
+    ensures { page.new ≡ with_text N page.old (pen_text last) }
 {
     match last {
-        Some(_) => lines::put_byte(out, at, b'L'),
-        None => lines::put_byte(out, at, b'M'),
+        Some(_) => page.put_byte(b'L'),
+        None => page.put_byte(b'M'),
     }
 }
 
-fn put_pair(out: &mut [u8], at: usize, p: Place) -> usize
-    ensures { Clipped (pair_text p.x p.y) out.old at out.new result }
+#[tactic(auto, using(lines::proofs::Placing::putting), unfolding(crate::specs::Trace::pair_text))]
+fn put_pair<const N: usize>(page: &mut Page<N>, p: Place)
+    ensures { page.new ≡ with_text N page.old (pair_text p.x p.y) }
 {
-    let a = lines::put_decimal(out, at, p.x);
-    lines::put_field(out, a, p.y)
+    page.put_decimal(p.x);
+    page.put_field(p.y);
 }
 
-fn put_step(out: &mut [u8], at: usize, last: Option<Place>, here: Option<Place>) -> usize
-    ensures { Clipped (step_text last here) out.old at out.new result }
+#[tactic(auto, using(lines::proofs::Placing::putting), unfolding(crate::specs::Trace::step_text))]
+fn put_step<const N: usize>(page: &mut Page<N>, last: Option<Place>, here: Option<Place>)
+    ensures { page.new ≡ with_text N page.old (step_text last here) }
 {
-    match here {
-        Some(p) => {
-            let a = put_pen(out, at, last);
-            put_pair(out, a, p)
-        }
-        None => at,
+    if let Some(p) = here {
+        put_pen(page, last);
+        put_pair(page, p);
     }
 }
 
 // The line through thirty rows, broken where a row has no point.
-pub fn put_trace(out: &mut [u8], at: usize, f: [f32; 30], h: [f32; 30]) -> usize
-    ensures { Clipped (trace_text f h) out.old at out.new result }
+#[tactic(auto, using(lines::proofs::Placing::putting), unfolding(crate::specs::Trace::before_of))]
+pub fn put_trace<const N: usize>(page: &mut Page<N>, f: &[f32; 30], h: &[f32; 30])
+    ensures { page.new ≡ with_text N page.old (trace_text f.now h.now) }
 {
-    let mut e = at;
     let mut last = None;
-    for (f, h) in f.iter().zip(&h) {
+    for (f, h) in f.iter().zip(h) {
         let here = svg_points::point(*f, *h);
-        e = put_step(out, e, last, here);
+        put_step(page, last, here);
         last = here;
     }
-    e
 }

@@ -6,14 +6,14 @@ ghost use Rattle.tangents.specs.Tangents.{xt_of, fx1_of, beta_of, f2_tangent_of,
 
 use slot_curves::Slot;
 
-#[derive(Clone, Copy)]
+#[derive(Clone, Copy, Debug, PartialEq)]
 pub struct F2Tangent {
     pub fx2: f32,
     pub xt2: f32,
 }
 
 // Tangent frequencies, and the F2 ratio that one of them was made with.
-#[derive(Clone, Copy)]
+#[derive(Clone, Copy, Debug, PartialEq)]
 pub struct Tangents {
     pub fxe: f32,
     pub fx1: f32,

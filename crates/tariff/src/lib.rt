@@ -1,5 +1,7 @@
 // What a call costs: the relay stations charge by band. A tariff is a list of tops, in tenths of a MHz, and a list of
 // rates, in cents a minute; the band of a call is the first whose top is not below the printed figure of its MUF.
+// Stays: `tops` and `rates` side by side, and `seconds` beside them in the price, as callers in C lend them; a list of bands would be
+// made of them by a copy.
 #![tactic(auto)]
 
 ghost use Rattle.std.specs.Prelude.{◌≡◌, true};

@@ -52,6 +52,7 @@ fn less(h: u32, k: u32) -> i64
 }
 
 // The first line of what is left: the first's rows from i on, the second's from j on.
+// Stays: the lists are those that callers in C lend, each trace two of them, with i and j for how far the merge has come in either.
 pub fn next(a: &[u32], ah: &[u32], b: &[u32], bh: &[u32], i: usize, j: usize) -> Line
     requires { Rows a.now ah.now × Rows b.now bh.now × (i ≤ length a.now) × (j ≤ length b.now) × (i + j < length a.now + length b.now) }
     ensures { result ≡ line_at (trace_lines (drop i a.now) (drop i ah.now) (drop j b.now) (drop j bh.now)) 0 }

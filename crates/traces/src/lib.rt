@@ -15,6 +15,7 @@ pub fn rises(khz: &[u32]) -> bool
     khz.is_sorted_by(|below, next| *below < *next)
 }
 
+// Stays: a trace is two lists, `khz` and `height`, as callers in C lend it and as a computed ionogram has it.
 // Whether the two lists are a trace.
 fn fit(khz: &[u32], height: &[u32]) -> bool
     ensures { result ≡ fit_of khz.now height.now }
@@ -22,6 +23,8 @@ fn fit(khz: &[u32], height: &[u32]) -> bool
     khz.len() == height.len() && khz.len() <= 512 && rises(khz)
 }
 
+// The lines of two traces into three lists, and how many there are.
+// Stays: the lists are those that callers in C lend to `compare`.
 fn lines(
     a: &[u32],
     ah: &[u32],
@@ -54,6 +57,7 @@ fn lines(
 }
 
 // Whether both are traces, and each list lent has a cell for every row of both.
+// Stays: the lists are those that callers in C lend to `compare`.
 fn ready(
     a: &[u32],
     ah: &[u32],
@@ -73,7 +77,7 @@ fn ready(
 }
 
 // The lines of two traces, a and b their kHz, ah and bh their heights in tenths of a kilometre, into three lists that are lent; how many.
-// Stays: the three lists are what callers in C lend.
+// Stays: the lists a, ah, b, bh, and khz, which and difference for the lines, are what callers in C lend.
 // Cells past the last line, and all cells at a refusal, stay.
 pub fn compare(
     a: &[u32],

@@ -1,40 +1,40 @@
 // Circuit files made by hand, for trials. Of what they hold nothing is promised: the trials' stored outputs tell.
+// Stays: a file f and its record n, below 65 as there is room, since a trial changes one record of a file at a time.
 #![tactic(auto)]
 
 ghost use Rattle.std.specs.Prelude.{◌<◌, ◌≤◌};
 
+use records::Kind;
+
 // Room for 65 records of the new form, one more than a file may have.
 pub const ROOM: usize = 8320;
 
-// Records of 64 bytes, or of 128.
+// How many bytes a record has.
 #[derive(Clone, Copy, Debug, PartialEq, Eq)]
 pub enum Form {
-    Old,
-    New,
+    Old = 64,
+    New = 128,
 }
 
-#[derive(Clone, Copy)]
+#[derive(Clone, Copy, Debug, PartialEq, Eq)]
 pub struct File {
     form: Form,
     pub bytes: [u8; ROOM],
 }
 
-// How many bytes a record has.
 fn size(form: Form) -> usize
     ensures { result ≤ 128 }
 {
-    match form {
-        Form::Old => 64,
-        Form::New => 128,
-    }
+    form as usize
 }
 
 // The kind of record 0.
 fn first_kind(form: Form) -> u8 {
-    match form {
-        Form::Old => 1,
-        Form::New => 4,
-    }
+    let kind = match form {
+        Form::Old => Kind::Head,
+        Form::New => Kind::WideHead,
+    };
+    kind as u8
 }
 
 // The first n records.
@@ -45,6 +45,7 @@ pub fn first(f: &File, n: usize) -> &[u8]
 }
 
 // Record n has this kind and next index.
+// Stays: the kind is a byte, since a trial may write any.
 pub fn record(mut f: File, n: usize, kind: u8, next: u8) -> File
     requires { n < 65 }
 {
@@ -62,7 +63,7 @@ pub fn smallest(form: Form) -> File {
     };
     let mut f = record(blank, 0, first_kind(form), 1);
     f.bytes[4] = 1;
-    record(f, 1, 2, 0)
+    record(f, 1, Kind::Point as u8, 0)
 }
 
 // In the new form the last decile of record n is minus zero.
@@ -80,11 +81,12 @@ fn signed(mut f: File, n: usize) -> File
 pub fn with_deciles(form: Form, n: usize) -> File
     requires { n ≤ 60 }
 {
-    let mut f = record(smallest(form), 1, 2, 2);
+    let mut f = record(smallest(form), 1, Kind::Point as u8, 2);
+    // Stays: k is the record's number, and no list is read.
     for k in 2..n + 2 {
-        f = record(f, k, 3, ((k + 1) % 256) as u8);
+        f = record(f, k, Kind::Deciles as u8, ((k + 1) % 256) as u8);
     }
-    record(signed(f, n + 1), n + 1, 3, 0)
+    record(signed(f, n + 1), n + 1, Kind::Deciles as u8, 0)
 }
 
 // The smallest file with another byte of record 0.
@@ -97,6 +99,7 @@ fn with_byte(form: Form, at: usize, byte: u8) -> File
 }
 
 // Bytes of record 0 that are turned away in either form, each file handed over after its name.
+// Stays: `form` and `print` are what a trial chooses, which files and how they are shown, and `print` may be called at any.
 pub fn first_bytes<P: Fn(&[u8], &[u8])>(form: Form, print: P)
     requires { P.IsAlwaysCallable print }
 {
@@ -113,9 +116,14 @@ pub fn steps<P: Fn(&[u8], &[u8])>(form: Form, print: P)
 {
     let past = record(smallest(form), 0, first_kind(form), 2);
     print(b"past the last record\n", first(&past, 2));
-    let itself = record(smallest(form), 1, 2, 1);
+    let itself = record(smallest(form), 1, Kind::Point as u8, 1);
     print(b"a step to itself\n", first(&itself, 2));
-    let mut cycle = record(record(smallest(form), 1, 2, 2), 2, 2, 1);
+    let mut cycle = record(
+        record(smallest(form), 1, Kind::Point as u8, 2),
+        2,
+        Kind::Point as u8,
+        1,
+    );
     cycle.bytes[4] = 2;
     print(b"a cycle\n", first(&cycle, 3));
     print(b"next 257\n", first(&with_byte(form, 3, 1), 2));
@@ -127,10 +135,15 @@ pub fn points<P: Fn(&[u8], &[u8])>(form: Form, print: P)
 {
     let ended = record(smallest(form), 0, first_kind(form), 0);
     print(b"record 0 ends\n", first(&ended, 2));
-    let kind = record(smallest(form), 1, 3, 0);
+    let kind = record(smallest(form), 1, Kind::Deciles as u8, 0);
     print(b"no point\n", first(&kind, 2));
     print(b"a point too few\n", first(&with_byte(form, 4, 2), 2));
-    let many = record(record(smallest(form), 1, 2, 2), 2, 2, 0);
+    let many = record(
+        record(smallest(form), 1, Kind::Point as u8, 2),
+        2,
+        Kind::Point as u8,
+        0,
+    );
     print(b"a point too many\n", first(&many, 3));
 }
 
@@ -139,9 +152,14 @@ pub fn permuted<P: Fn(&[u8], &[u8])>(form: Form, print: P)
     requires { P.IsAlwaysCallable print }
 {
     let mut f = record(
-        record(record(smallest(form), 0, first_kind(form), 2), 2, 2, 1),
+        record(
+            record(smallest(form), 0, first_kind(form), 2),
+            2,
+            Kind::Point as u8,
+            1,
+        ),
         1,
-        2,
+        Kind::Point as u8,
         0,
     );
     f.bytes[4] = 2;

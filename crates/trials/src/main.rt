@@ -1,6 +1,7 @@
 // The paper's unmarked trials, run, and with them the edges of some refusals and a slot prepared
 // twice; the stored output has the paper's answers. The marked trials are rows of the table of crate
 // `starred`.
+// Stays: parameters are those of the Rust that is tried, and two ionograms are compared row by row.
 #![tactic(auto)]
 
 ghost use Rattle.std.specs.Prelude.{◌<◌, ◌≤◌};

@@ -1,13 +1,10 @@
 // What `narrow` makes of files of every refusal that it gives, and of unusual chains: the chain of the old file, or the
 // refusal. Then old files, widened and narrowed again. The stored output has the paper's answers.
+// Stays: a trial's `name` and its `file` are two texts, each of its own length.
 #![tactic(auto)]
 
-ghost use Rattle.std.specs.Prelude.{◌≤◌};
-
-use chain_text::ROOM;
-use circuit_turn::{NEW_ROOM, OLD_ROOM};
 use trial_files::{
-    File, Form, first, first_bytes, permuted, points, record, smallest, steps, with_deciles,
+    Form, first, first_bytes, permuted, points, record, smallest, steps, with_deciles,
 };
 
 // A refusal is shorter than a record; of a file its chain is shown.
@@ -16,37 +13,25 @@ fn show(old: &[u8]) {
         io::write_all(1, old);
         return;
     }
-    let mut text = [0u8; ROOM];
-    let len = chain_text::chain_text(old, &mut text);
-    io::write_all(1, &text[..len]);
+    io::write_all(1, chain_text::chain_text(old).text());
 }
 
 // What becomes of a file, after its name.
 fn print(name: &[u8], file: &[u8]) {
     io::write_all(1, name);
-    let mut old = [0u8; OLD_ROOM];
-    let len = circuit_turn::narrow(file, &mut old);
-    show(&old[..len]);
-}
-
-// The same of the first n bytes.
-fn print_bytes(name: &[u8], f: File, n: usize)
-    requires { n ≤ 8320 }
-{
-    let bytes = f.bytes;
-    print(name, &bytes[..n]);
+    show(circuit_turn::narrow(file).text());
 }
 
 fn lengths() {
     let f = smallest(Form::New);
-    print_bytes(b"no bytes\n", f, 0);
-    print_bytes(b"128 bytes\n", f, 128);
-    print_bytes(b"255 bytes\n", f, 255);
-    print_bytes(b"256 bytes\n", f, 256);
-    print_bytes(b"257 bytes\n", f, 257);
-    print_bytes(b"320 bytes\n", f, 320);
-    print_bytes(b"8192 bytes\n", f, 8192);
-    print_bytes(b"8320 bytes\n", f, 8320);
+    print(b"no bytes\n", &f.bytes[..0]);
+    print(b"128 bytes\n", &f.bytes[..128]);
+    print(b"255 bytes\n", &f.bytes[..255]);
+    print(b"256 bytes\n", &f.bytes[..256]);
+    print(b"257 bytes\n", &f.bytes[..257]);
+    print(b"320 bytes\n", &f.bytes[..320]);
+    print(b"8192 bytes\n", &f.bytes[..8192]);
+    print(b"8320 bytes\n", &f.bytes[..8320]);
 }
 
 fn first_record() {
@@ -125,19 +110,14 @@ fn old_file() -> [u8; 192] {
 // What is left of an old file that is widened, then narrowed.
 fn there_and_back(name: &[u8], f: [u8; 192]) {
     io::write_all(1, name);
-    let mut wide = [0u8; NEW_ROOM];
-    let n = circuit_turn::widen(&f, &mut wide);
-    let mut old = [0u8; OLD_ROOM];
-    let len = circuit_turn::narrow(&wide[..n], &mut old);
-    show(&old[..len]);
+    let wide = circuit_turn::widen(&f);
+    show(circuit_turn::narrow(wide.text()).text());
 }
 
 // What is shown of an old file that `widen` refuses.
 fn widen_refused(name: &[u8], f: [u8; 192]) {
     io::write_all(1, name);
-    let mut wide = [0u8; NEW_ROOM];
-    let n = circuit_turn::widen(&f, &mut wide);
-    show(&wide[..n]);
+    show(circuit_turn::widen(&f).text());
 }
 
 fn old_files() {

@@ -16,11 +16,9 @@ pub enum Replay {
     Broken,
 }
 
-// Whether the sheet of a file is this text.
+// Whether the sheet of a file is this text. Stays: two lists of bytes, which are no pairs.
 fn same_sheet(file: &[u8], wanted: &[u8]) -> bool {
-    let mut text = [0u8; ROOM];
-    let len = sheet_text::sheet_text(file, &mut text);
-    &text[..len] == wanted
+    sheet_text::sheet_text(file).text() == wanted
 }
 
 fn hour(n: usize, m: usize) -> Replay {
@@ -53,12 +51,12 @@ fn next_hour() -> Replay {
     hour(usize::from(n), usize::from(m))
 }
 
-// How many hours of each kind, and whether the list is broken.
-#[derive(Clone, Copy)]
+// How many hours of each kind, and how often the list breaks off.
+#[derive(Clone, Copy, Debug, PartialEq, Eq)]
 pub struct Totals {
     pub same: u64,
     pub different: u64,
-    pub broken: bool,
+    pub breaks: u64,
 }
 
 // The whole list, of at most 100,000 hours.
@@ -66,8 +64,9 @@ fn replayed() -> Totals {
     let mut totals = Totals {
         same: 0,
         different: 0,
-        broken: false,
+        breaks: 0,
     };
+    // Stays: what is counted is no place of a list but how long to go on; a list that never ends is cut off.
     for _ in 0..100000u64 {
         match next_hour() {
             Replay::Same => totals.same += 1,
@@ -76,7 +75,7 @@ fn replayed() -> Totals {
             Replay::Broken => break,
         }
     }
-    totals.broken = true;
+    totals.breaks = 1;
     totals
 }
 
@@ -89,5 +88,5 @@ fn main() {
     let t = replayed();
     say(b" hours as stored\n", t.same);
     say(b" hours different\n", t.different);
-    say(b" breaks in the list\n", u64::from(t.broken));
+    say(b" breaks in the list\n", t.breaks);
 }

@@ -8,35 +8,32 @@ ghost use Rattle.fixed.specs.Fixed.{pick};
 use fixed::{pack, scaled};
 
 // the product of two fractions in units of 2^-32
-fn product(u: u64, v: u64) -> u64
-    requires { (u < 2 ^ 32) × (v < 2 ^ 32) }
+fn product(u: u32, v: u32) -> u32
     ensures { result ≡ times u v }
 {
-    u * v / 0x1_0000_0000
+    (u as u64 * v as u64 / 0x1_0000_0000) as u32
 }
 
 // four terms by Horner's rule
-fn horner(w: u64, a: u64, b: u64, c: u64, d: u64) -> u64
-    requires { (w < 2 ^ 32) × (a ≤ 2 ^ 32) × (b + c + d < 2 ^ 32) }
+fn horner(w: u32, a: u64, b: u32, c: u32, d: u32) -> u64
+    requires { (a ≤ 2 ^ 32) × (b + c + d < 2 ^ 32) }
     ensures { result ≡ a + times w (b + times w (c + times w d)) }
 {
-    a + product(w, b + product(w, c + product(w, d)))
+    a + product(w, b + product(w, c + product(w, d))) as u64
 }
 
 // the terms that are added, with w for (x / 2)^4
-fn plus(w: u64) -> u64
-    requires { w < 2 ^ 32 }
+fn plus(w: u32) -> u64
     ensures { result ≡ added w }
 {
     horner(w, 0x1_0000_0000, 572662306, 3029959, 2825)
 }
 
 // the terms that are taken off, without a factor (x / 2)^2
-fn minus(w: u64) -> u64
-    requires { w < 2 ^ 32 }
+fn minus(w: u32) -> u32
     ensures { result ≡ taken w }
 {
-    horner(w, 2863311530, 54539267, 110180, 53)
+    horner(w, 2863311530, 54539267, 110180, 53) as u32
 }
 
 // sin x / x in units of 2^-32, for x = r / 2^61 below 2
@@ -44,10 +41,10 @@ fn ratio(r: u64) -> u64
     requires { r < 2 ^ 62 }
     ensures { result ≡ ratio_of r }
 {
-    let q = r / 0x4000_0000;
+    let q = (r / 0x4000_0000) as u32;
     let y = product(q, q);
     let w = product(y, y);
-    plus(w) - product(y, minus(w))
+    plus(w) - product(y, minus(w)) as u64
 }
 
 // the first 32 digits of r
@@ -58,12 +55,13 @@ fn digits(r: u64) -> u64
     (r << u64::leading_zeros(r)) >> 32
 }
 
-// the bit pattern of sin x
-fn sine_at(r: u64) -> u32
-    requires { (0 < r) × (r < 2 ^ 62) }
-    ensures { result ≡ sine_at r }
+// the bit pattern of the sine at a folded angle, with the sign given
+fn sine_at(sign: u32, r: u64) -> u32
+    requires { (sign ≤ 1) × ((0 < r) × (r < 2 ^ 62)) }
+    ensures { result ≡ sign * 2 ^ 31 + sine_at r }
 {
-    pack(digits(r) * ratio(r)) - (u64::leading_zeros(r) + 5) * 0x80_0000
+    let size = pack(digits(r) * ratio(r)) - (u64::leading_zeros(r) + 5) * 0x80_0000;
+    sign * 0x8000_0000 + size
 }
 
 // a up to the limit, b beyond. Both are there already, so this compiles to no branch, which random angles would mispredict.
@@ -125,6 +123,7 @@ fn cos_sign(x: u64) -> u32
 }
 
 // |x| in units of 2^-61, for |x| up to 4
+// Stays: what is asked of a pattern a (0x3980_0000 ≤ a), here alone in this crate.
 fn magnitude(a: u32) -> u64
     requires { (0x3980_0000 ≤ a) × (a ≤ 0x4080_0000) }
     ensures { result ≡ mag_of a }
@@ -132,15 +131,9 @@ fn magnitude(a: u32) -> u64
     scaled(a, 115) * 0x400_0000
 }
 
-// the sine at a folded angle, with its sign
-fn with_sign(sign: u32, r: u64) -> u32
-    requires { (sign ≤ 1) × ((0 < r) × (r < 2 ^ 62)) }
-    ensures { result ≡ sign * 2 ^ 31 + sine_at r }
-{
-    sign * 0x8000_0000 + sine_at(r)
-}
-
 // from the bit pattern of x to that of its sine
+// Stays: beside the cosine. The two share all but the answer at a small angle, the fold and the sign, and each of these is a formula
+// of its own: one function for both would ask three times which of the two it is.
 pub fn sin_bits(b: u32) -> u32
     ensures { result ≡ wave_bits sine b }
 {
@@ -152,7 +145,7 @@ pub fn sin_bits(b: u32) -> u32
         return 0x7fc00000;
     }
     let x = magnitude(a);
-    with_sign(sin_sign(b / 0x8000_0000, x), sin_fold(x))
+    sine_at(sin_sign(b / 0x8000_0000, x), sin_fold(x))
 }
 
 // the same for the cosine
@@ -167,5 +160,5 @@ pub fn cos_bits(b: u32) -> u32
         return 0x7fc00000;
     }
     let x = magnitude(a);
-    with_sign(cos_sign(x), cos_fold(x))
+    sine_at(cos_sign(x), cos_fold(x))
 }

@@ -15,7 +15,7 @@ use record_chain::Chain;
 use refusal::Refusal;
 
 // F2M3 that is read is zero past the km points.
-#[derive(Clone, Copy)]
+#[derive(Clone, Copy, Debug, PartialEq, Eq)]
 pub struct WideCircuit {
     pub circuit: Circuit,
     pub f2m3: [u32; 5],

@@ -34,6 +34,8 @@ fn word_length(t: &[u8]) -> usize
 }
 
 // The place of the first b from `at` on, or the end.
+// Stays: a text t with a place `at` in it, here and in the next two: what is answered is a place in the same text, where callers go
+// on, so the part of the text behind it would have to be found again.
 pub fn until(t: &[u8], at: usize, b: u8) -> usize
     requires { at ≤ length t.now }
     ensures { (result ≤ length t.now) × (result ≡ at + run (other b) (drop at t.now)) }
@@ -58,6 +60,7 @@ pub fn word_end(t: &[u8], at: usize) -> usize
 }
 
 // Whether two words are the same.
+// Stays: a and b are two texts that are compared, and no pair of columns.
 pub fn same(a: &[u8], b: &[u8]) -> bool
     ensures { result ≡ same_bytes a.now b.now }
 {

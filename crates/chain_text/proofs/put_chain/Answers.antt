@@ -1,14 +1,21 @@
--- Every record of a chain that was followed is in the file.
-use Rattle.lines.proofs.Placing.{clip-then}
-use Rattle.chain_text.specs.ChainText.{followed_text}
+-- The loop goes along the first steps of the list, which are those of the chain.
+use mathlib.Core.Path.{◌≡◌}
+use Prim.Native.Nat.{◌+◌, ◌*◌, ◌-◌, ◌<◌}
+use native.Mathlib.Omega.{arith}
+use lib.ListN.{get_or, length-take}
+use lib.Seq.{get_or-take}
+use Rattle.lines.proofs.Placing.{put_then, joined_more}
 use Rattle.chain_text.proofs.Within.{within}
 use Rattle.chain_text.proofs.put_chain.Goals as goal
 
-pub put_steps-at-requires : goal.put_steps-at-requires
-put_steps-at-requires c =
-    let a = c in
-    within a.args.file.now a.args.c a.requires
+pub shared_ref_as_front-n-items : goal.shared_ref_as_front-n-items
+shared_ref_as_front-n-items g c = (within _ _ c.requires).0
 
-pub returns : goal.returns
-unfolding followed_text
-returns c = search clip-then
+pub loop-n-preserved : goal.loop-n-preserved
+loop-n-preserved g c =
+    let k = c.args.chain.now in
+    let i = c.loop-n.n-index in
+    let l : i < k.count = let m = length-take k.count k.order in omega arith in
+    let n = get_or k.order i 0 in
+    let e : 64 * n + 64 - 64 * n ≡ 64 = omega arith in
+    rw joined_more (put_then _ _ _ _ c.loop-n.invariant (rw (get_or-take k.count k.order i 0 l, e) at c.put_step.ensures))

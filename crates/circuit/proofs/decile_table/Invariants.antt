@@ -8,4 +8,4 @@ use Rattle.circuit.proofs.decile_table.Given as goal
 
 abbrev pub invariant-loop-i : goal.invariant-loop-i
 invariant-loop-i l =
-    (l.i ≤ 576) × (length l.table ≡ 576) × (take l.i l.table ≡ map (of_bits binary32) (take l.i l.d))
+    (l.i ≤ 576) × (length l.table ≡ 576) × (take l.i l.table ≡ map (of_bits binary32) (take l.i l.w-items))

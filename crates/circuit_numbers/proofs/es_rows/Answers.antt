@@ -19,7 +19,7 @@ loop-n-preserved c =
     let l = c.loop-n in (
       omega arith,
       simp length-set l.invariant.1,
-      rw (add-one, take-suc-set l.es l.n c.point_number.result (omega arith), l.invariant.2, c.point_number.ensures),
+      rw (add-one, take-suc-set l.e-items l.n c.point_number.result (omega arith), l.invariant.2, c.point_number.ensures),
     )
 
 pub returns : goal.returns
@@ -27,4 +27,4 @@ unfolding es_of
 returns c =
     let l = c.loop-n in
     let e : l.n ≡ 20 = omega arith in
-    sym (take_all l.n l.es (omega arith)) ∙ l.invariant.2 ∙ ap (es_up_to c.args.words.now) e
+    sym (take_all l.n l.e-items (omega arith)) ∙ l.invariant.2 ∙ ap (es_up_to c.args.words.now) e

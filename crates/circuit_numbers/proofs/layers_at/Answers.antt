@@ -4,4 +4,4 @@ use Rattle.circuit_numbers.proofs.layers_at.Goals as goal
 
 pub returns : goal.returns
 unfolding layers_at
-returns c = rw (← c.three_at-fi.ensures, ← c.three_at-yi.ensures, ← c.three_at-hi.ensures)
+returns c = rw (← c.three_at.ensures, ← c.three_at-2.ensures, ← c.three_at-3.ensures)

@@ -4,4 +4,4 @@ use Rattle.circuit_numbers.proofs.params.Goals as goal
 
 pub returns : goal.returns
 unfolding params_of
-returns c = rw (← c.layers_at-p0.ensures, ← c.layers_at-p1.ensures, ← c.layers_at-p2.ensures, ← c.layers_at-p3.ensures, ← c.layers_at-p4.ensures)
+returns c = rw (← c.layers_at.ensures, ← c.layers_at-2.ensures, ← c.layers_at-3.ensures, ← c.layers_at-4.ensures, ← c.layers_at-5.ensures)

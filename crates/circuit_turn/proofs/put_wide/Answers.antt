@@ -2,12 +2,17 @@
 use lib.ListN.{replicate}
 use Rattle.wide_circuit.specs.Wide.{form128}
 use Rattle.wide_circuit.proofs.Fit128.{fit128}
-use Rattle.circuit_turn.proofs.Files.{put-file, unwrapped}
+use native.Mathlib.Omega.{arith}
+use Rattle.circuit_turn.proofs.Files.{written}
 use Rattle.circuit_turn.proofs.put_wide.Goals as goal
 
+pub slice_bounds-file-end : goal.slice_bounds-file-end
+slice_bounds-file-end g c = (written form128 fit128 c.args.c c.requires (replicate 5 0) _ (omega arith) c.write.ensures.value c.unwrap_or-n.ensures c.write.ensures.out_after).0
+
+pub slice_bounds-put_word-end : goal.slice_bounds-put_word-end
+slice_bounds-put_word-end g c = (written form128 fit128 c.args.c c.requires (replicate 5 0) _ (omega arith) c.write.ensures.value c.unwrap_or-n.ensures c.write.ensures.out_after).1
+
 pub returns : goal.returns
-returns c =
-    let s = c in
-    let w = c.write.ensures in
-    rw (c.unwrap_or.ensures, unwrapped, w.value, w.out_after)
-    (put-file form128 fit128 s.args.c s.requires.0 (replicate 5 0) s.args.out.now s.requires.1)
+returns g c =
+    let w = written form128 fit128 c.args.c c.requires (replicate 5 0) _ (omega arith) c.write.ensures.value c.unwrap_or-n.ensures c.write.ensures.out_after in
+    rw w.2 at c.put_word.ensures

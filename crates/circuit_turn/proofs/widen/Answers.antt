@@ -2,7 +2,6 @@
 use mathlib.Core.Path.{sym, ◌∙◌}
 use native.Mathlib.Omega.{arith}
 use lib.ListN.{replicate}
-use borrow.Author.Rules.{rules}
 use Rattle.lines.proofs.Placing.{fits}
 use Rattle.lines.proofs.Sizes.{refused}
 use Rattle.records.specs.Record.{form64}
@@ -14,17 +13,16 @@ use Rattle.circuit_turn.proofs.Files.{good_read, file-most}
 use Rattle.circuit_turn.proofs.widen.Goals as goal
 
 pub put_wide-requires : goal.put_wide-requires
-put_wide-requires c = (good_read form64 fit64 _ _ (sym c.read.ensures ∙ c.in-Ok.is), search rules)
+put_wide-requires c = (omega arith, good_read form64 fit64 _ _ (sym c.read.ensures ∙ c.in-Ok.is))
 
 pub returns-in-Ok : goal.returns-in-Ok
 unfolding widened
 returns-in-Ok c =
     let e = sym c.read.ensures ∙ c.in-Ok.is in
-    let p = fits c.put_wide.ensures (omega (arith, file-most form128 fit128 c.in-Ok.c (good_read form64 fit64 _ _ e) (replicate 5 0))) in
-    record { put = rw e p.0; room = p.1 }
+    let m = file-most form128 fit128 c.in-Ok.c (good_read form64 fit64 _ _ e) (replicate 5 0) in
+    rw e (rw c.new-page.ensures at c.put_wide.ensures ∙ fits _ _ (omega (arith, m)))
 
 pub returns-in-Err : goal.returns-in-Err
 unfolding widened
 returns-in-Err c =
-    let p = fits c.put_refused.ensures (omega (arith, (refused c.in-Err.r).most)) in
-    record { put = rw (← c.read.ensures, c.in-Err.is) p.0; room = p.1 }
+    rw (← c.read.ensures, c.in-Err.is) (rw c.new-page.ensures at c.put_refused.ensures ∙ fits _ _ (omega (arith, (refused c.in-Err.r).most)))

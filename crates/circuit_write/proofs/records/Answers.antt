@@ -7,8 +7,8 @@ use Rattle.circuit_write.proofs.records.Goals as goal
 
 pub returns-then-has_deciles : goal.returns-then-has_deciles
 returns-then-has_deciles c =
-    rw (not-true (all_zero c.args.c.deciles) (sym c.has_deciles.ensures ∙ c.if-has_deciles.true))
+    rw (not-true (all_zero c.args.c.now.deciles) (sym c.has_deciles.ensures ∙ c.if-has_deciles.true))
 
 pub returns : goal.returns
 returns c =
-    rw (not-false (all_zero c.args.c.deciles) (sym c.has_deciles.ensures ∙ c.if-has_deciles.false)) (omega arith)
+    rw (not-false (all_zero c.args.c.now.deciles) (sym c.has_deciles.ensures ∙ c.if-has_deciles.false)) (omega arith)

@@ -1,17 +1,28 @@
--- The text is too long, or it is read.
+-- The text is too long, or it is read; what is said fits.
+use mathlib.Core.Path.{sym, ◌∙◌}
 use native.Mathlib.Omega.{arith}
-use Rattle.composing.proofs.Answered.{long-said, short-said}
-use Rattle.composing.specs.Composing.{long_text}
+use borrow.Author.Tests.{lt-ltb, le-ltb}
+use Rattle.lines.proofs.Placing.{fits}
+use Rattle.composing.specs.Composing.{long_text, composed_text}
+use Rattle.composing.proofs.Answered.{good_said, file-room, wrong-room}
 use Rattle.composing.proofs.compose.Goals as goal
 
 pub returns-then-text-gt32768 : goal.returns-then-text-gt32768
-unfolding long_text
+unfolding long_text composed_text
 returns-then-text-gt32768 c =
-    let s = long-said c.args.text.now c.args.out.now c.put_word.new.out c.put_word.result c.if-text-gt32768.true c.put_word.ensures in
-    record { value = s.0; out_after = s.1.0; prefix_len = s.1.1 }
+    rw (lt-ltb _ _ c.if-text-gt32768.true) (rw c.new-page.ensures at c.put_word.ensures ∙ fits _ _ (omega arith))
 
-pub returns : goal.returns
-returns c =
-    let e = c.said.ensures in
-    let s = short-said c.args.text.now c.args.out.now c.said.new.out c.said.result c.compose.result c.if-text-gt32768.false c.compose.ensures (e.value, (e.out_after, e.upper_bound)) (omega arith) in
-    record { value = s.0; out_after = s.1.0; prefix_len = s.1.1 }
+pub put_old-requires : goal.put_old-requires
+put_old-requires c = (omega arith, good_said _ _ (sym c.compose.ensures ∙ c.in-Ok.is))
+
+pub returns-in-Ok : goal.returns-in-Ok
+unfolding composed_text
+returns-in-Ok c =
+    let e = sym c.compose.ensures ∙ c.in-Ok.is in
+    rw (le-ltb _ _ c.if-text-gt32768.false, e) (rw c.new-page.ensures at c.put_old.ensures ∙ fits _ _ (omega (arith, (file-room _ _ e).most)))
+
+pub returns-in-Err : goal.returns-in-Err
+unfolding composed_text
+returns-in-Err c =
+    let e = sym c.compose.ensures ∙ c.in-Err.is in
+    rw (le-ltb _ _ c.if-text-gt32768.false, e) (rw c.new-page.ensures at c.put_wrong.ensures ∙ fits _ _ (omega (arith, (wrong-room c.in-Err.wrong).most)))

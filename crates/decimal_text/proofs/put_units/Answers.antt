@@ -1,16 +1,15 @@
--- What was put into the bytes of its own is read back.
+-- The page of its own has room for a sign, twenty digits, the point and nine places.
 use native.Mathlib.Omega.{arith}
-use Rattle.lines.proofs.Placing.{fits, put-taken}
-use Rattle.decimal_text.proofs.Widths.{signed-most}
+use lib.ListN.{length-append}
+use Rattle.lines.proofs.Placing.{put_then}
+use Rattle.decimal_text.specs.Number.{placed_text}
+use Rattle.decimal_text.proofs.Widths.{placed-most, alone}
 use Rattle.decimal_text.proofs.put_units.Goals as goal
 
-pub slice_bounds-put_right-end : goal.slice_bounds-put_right-end
-slice_bounds-put_right-end c =
-    let a = c.args in
-    (fits c.put_signed-k.ensures (omega (arith, (signed-most a.minus a.places a.n c.requires).most))).1.1
-
 pub returns : goal.returns
-returns c =
+returns g c =
     let a = c.args in
-    let p = fits c.put_signed-k.ensures (omega (arith, (signed-most a.minus a.places a.n c.requires).most)) in
-    rw (← put-taken p.0 p.1.0) c.put_right.ensures
+    let t = put_then 31 _ _ _ c.put_word.ensures c.put_placed.ensures in
+    let l = length-append a.sign.now (placed_text a.places a.n) in
+    let m = (placed-most a.places a.n c.requires.1).most in
+    rw (← alone 31 _ c.new-text.ensures t c.text.ensures (omega (arith, c.requires.0, l, m))) c.put_right.ensures

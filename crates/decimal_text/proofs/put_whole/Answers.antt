@@ -1,16 +1,8 @@
--- What was put into the bytes of its own is read back.
-use native.Mathlib.Omega.{arith}
+-- The page of its own has room for twenty digits.
 use Rattle.lines.proofs.Decimals.{length-decimal}
-use Rattle.lines.proofs.Placing.{fits, put-taken}
+use Rattle.decimal_text.proofs.Widths.{alone}
 use Rattle.decimal_text.proofs.put_whole.Goals as goal
 
-pub slice_bounds-put_right-end : goal.slice_bounds-put_right-end
-slice_bounds-put_right-end c =
-    let a = c.args in
-    (fits c.put_decimal-k.ensures (omega (arith, length-decimal a.n))).1.1
-
 pub returns : goal.returns
-returns c =
-    let a = c.args in
-    let p = fits c.put_decimal-k.ensures (omega (arith, length-decimal a.n)) in
-    rw (← put-taken p.0 p.1.0) c.put_right.ensures
+returns g c =
+    rw (← alone 20 _ c.new-text.ensures c.put_decimal.ensures c.text.ensures (length-decimal c.args.n)) c.put_right.ensures

@@ -4,7 +4,7 @@ use Rattle.e_lines.proofs.e_heights.Goals as goal
 
 pub returns-then-profile_only : goal.returns-then-profile_only
 unfolding e_heights_with
-returns-then-profile_only c = rw (← c.profile_only.ensures, c.if-profile_only.true, ← c.gethp-h.ensures)
+returns-then-profile_only c = rw (← c.profile_only.ensures, c.if-profile_only.true, c.from.ensures, ← c.gethp.ensures)
 
 pub returns : goal.returns
 unfolding e_heights_with

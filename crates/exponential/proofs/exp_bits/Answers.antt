@@ -17,14 +17,14 @@ returns-then-a-gt2139095040 c = sym (at-nan c.args.b c.if-a-gt2139095040.true)
 pub returns-then-a-lt855638016 : goal.returns-then-a-lt855638016
 returns-then-a-lt855638016 c = sym (at-tiny c.args.b c.if-a-lt855638016.true)
 
-pub returns-then-limit-a : goal.returns-then-limit-a
-returns-then-limit-a c = let s = c in at-past s.args.b c.limit.result c.limit.ensures c.past.result c.if-a-gt2139095040.false c.if-limit-a.true c.past.ensures
+pub returns-then-either-a : goal.returns-then-either-a
+returns-then-either-a c = let s = c in at-past s.args.b c.either.result c.either.ensures c.either-then-either-a.result c.if-a-gt2139095040.false c.if-either-a.true c.either-then-either-a.ensures
 
 pub scaled-requires : goal.scaled-requires
-scaled-requires c = let s = c in (omega arith, field-le (s.args.b % 2 ^ 31) c.limit.result c.if-limit-a.false (limit-le s.args.b c.limit.result c.limit.ensures))
+scaled-requires c = let s = c in (omega arith, field-le (s.args.b % 2 ^ 31) c.either.result c.if-either-a.false (limit-le s.args.b c.either.result c.either.ensures))
 
 pub signed-requires : goal.signed-requires
-signed-requires c = let s = c in (omega arith, subst (λ (x : ℕ). x + (1 - s.args.b / 2 ^ 31) * (0x1e_8de9 * 2 ^ 39) ≤ 104 * 2 ^ 56) (sym c.scaled.ensures) (in-range s.args.b c.limit.result c.limit.ensures c.if-limit-a.false))
+signed-requires c = let s = c in (omega arith, subst (λ (x : ℕ). x + (1 - s.args.b / 2 ^ 31) * (0x1e_8de9 * 2 ^ 39) ≤ 104 * 2 ^ 56) (sym c.scaled.ensures) (in-range s.args.b c.either.result c.either.ensures c.if-either-a.false))
 
 pub returns : goal.returns
-returns c = let s = c in at-signed s.args.b c.limit.result c.limit.ensures c.signed.result c.if-a-lt855638016.false c.if-limit-a.false (c.signed.ensures ∙ ap (λ (x : ℕ). pick (ltb (s.args.b / 2 ^ 31) 1) (grown x) (shrunk x)) c.scaled.ensures)
+returns c = let s = c in at-signed s.args.b c.either.result c.either.ensures c.signed.result c.if-a-lt855638016.false c.if-either-a.false (c.signed.ensures ∙ ap (λ (x : ℕ). pick (ltb (s.args.b / 2 ^ 31) 1) (grown x) (shrunk x)) c.scaled.ensures)

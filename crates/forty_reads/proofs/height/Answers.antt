@@ -1,7 +1,7 @@
 -- The code follows the definition; each call is what its contract says.
-use Rattle.forty_reads.specs.Nodes.{height_of}
+use Rattle.forty_reads.specs.Nodes.{xt, height_of}
 use Rattle.forty_reads.proofs.height.Goals as goal
 
 pub returns : goal.returns
-unfolding height_of
-returns c = rw (c.node-zg.ensures, c.requires.1)
+unfolding height_of xt
+returns c = rw c.node-zg.ensures

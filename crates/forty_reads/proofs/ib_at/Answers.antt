@@ -1,21 +1,18 @@
--- Each path is the clause that its tests choose.
-use Rattle.forty_reads.specs.Nodes.{ib_at}
-use borrow.Author.Tests.{lt-ltb, le-ltb}
+-- The four cases of the two tests.
+use mathlib.Core.Bool.{Bool, true, false, beq}
+use mathlib.Core.Path.{◌≡◌}
+use Prim.Native.Nat.{ℕ, ◌<◌}
 use native.Mathlib.Omega.{arith}
+use mir.Val.{bool_byte}
+use Rattle.forty_reads.specs.Nodes.{ib_by, ib_at}
 use Rattle.forty_reads.proofs.ib_at.Goals as goal
 
-pub returns-then-k-lt20 : goal.returns-then-k-lt20
-unfolding ib_at
-returns-then-k-lt20 c = (omega arith, rw (c.if-up.true, lt-ltb _ _ c.if-k-lt20.true))
-
-pub returns-then-up : goal.returns-then-up
-unfolding ib_at
-returns-then-up c = (omega arith, rw (c.if-up.true, le-ltb _ _ c.if-k-lt20.false))
-
-pub returns-then-k-lt20-2 : goal.returns-then-k-lt20-2
-unfolding ib_at
-returns-then-k-lt20-2 c = (omega arith, rw (c.if-up.false, lt-ltb _ _ c.if-k-lt20-2.true))
+half : (low up : Bool) (n : ℕ) → n ≡ bool_byte (beq low up) → (n < 2) × (n ≡ ib_by up low)
+half true true n e = (omega arith, e)
+half true false n e = (omega arith, e)
+half false true n e = (omega arith, e)
+half false false n e = (omega arith, e)
 
 pub returns : goal.returns
 unfolding ib_at
-returns c = (omega arith, rw (c.if-up.false, le-ltb _ _ c.if-k-lt20-2.false))
+returns c = half _ c.args.up _ c.from.ensures

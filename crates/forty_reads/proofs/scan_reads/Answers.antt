@@ -19,10 +19,7 @@ one-turn htr fnsq ht k ysq zi g y el ez eg ey = rw (add-one k, ey, eg, ez, el)
 
 pub loop-k-init : goal.loop-k-init
 unfolding scan_reads placed
-loop-k-init c = (omega arith, c.requires.1, refl)
-
-pub height-zi-requires : goal.height-zi-requires
-height-zi-requires c = (omega arith, c.requires.0)
+loop-k-init c = (omega arith, c.requires, refl)
 
 pub loop-k-preserved : goal.loop-k-preserved
 loop-k-preserved c =

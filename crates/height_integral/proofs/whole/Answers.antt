@@ -23,7 +23,7 @@ pub loop-i-preserved : goal.loop-i-preserved
 loop-i-preserved c =
     let l = c.loop-i in
     let s = c in
-    (omega arith, one-turn s.args.htr.now s.args.fnsq.now s.args.fr l.i l.sum _ _ l.invariant.1 c.min-y.ensures c.seg-part.ensures)
+    (omega arith, one-turn s.args.p.htr.now s.args.p.fnsq.now s.args.fr l.i l.sum _ _ l.invariant.1 c.min-y.ensures c.seg-part.ensures)
 
 pub returns : goal.returns
 returns c = rw (le_antisymm c.loop-i.invariant.0 c.loop-i-test.false) at c.loop-i.invariant.1

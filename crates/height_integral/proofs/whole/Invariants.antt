@@ -5,7 +5,7 @@ use Rattle.height_integral.specs.Exact.{whole_of}
 use Rattle.height_integral.proofs.whole.Given as goal
 
 abbrev pub invariant-loop-i : goal.invariant-loop-i
-invariant-loop-i l = (l.i ≤ l.n) × (l.sum ≡ whole_of l.htr l.fnsq l.fr l.i)
+invariant-loop-i l = (l.i ≤ l.n) × (l.sum ≡ whole_of l.p.htr.now l.p.fnsq.now l.fr l.i)
 
 abbrev pub decreases-loop-i : goal.decreases-loop-i
 decreases-loop-i l = l.n - l.i

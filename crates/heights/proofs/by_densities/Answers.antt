@@ -23,4 +23,4 @@ pub returns : goal.returns
 returns c =
     let a = c.args in
     let d = c.gethp_densities-cursor in
-    whole a.rises a.htr.now a.fnsq.now a.ht a.fr a.segment _ d.result c.quadrature-hp.result d.ensures.0 d.ensures.1 c.quadrature-hp.ensures
+    whole a.p.rises a.p.htr.now a.p.fnsq.now a.ht a.fr a.segment _ d.result c.quadrature-hp.result d.ensures.0 d.ensures.1 c.quadrature-hp.ensures

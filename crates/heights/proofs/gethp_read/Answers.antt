@@ -39,16 +39,16 @@ pub virtual_height_exact-rise-requires : goal.virtual_height_exact-rise-requires
 virtual_height_exact-rise-requires c =
     let a = c.args in
     let found = c.profile_interpolate-found.result in
-    and_r a.exact (found.value -f at a.htr.now 0 >f f0) (subst (λ (b : Bool). T b) (sym c.if-rule_used.true ∙ c.rule_used.ensures) tt)
+    and_r a.exact (found.value -f at a.p.htr.now 0 >f f0) (subst (λ (b : Bool). T b) (sym c.if-rule_used.true ∙ c.rule_used.ensures) tt)
 
 pub returns-then-rule_used : goal.returns-then-rule_used
 returns-then-rule_used c =
     let a = c.args in
     let p = c.profile_interpolate-found in
-    ruled a.exact a.rises c.rule_used.result a.htr.now a.fnsq.now a.fxx p.result c.if-fr-fnsq.false p.ensures c.rule_used.ensures c.virtual_height_exact-rise.result c.if-rule_used.true c.virtual_height_exact-rise.ensures
+    ruled a.exact a.p.rises c.rule_used.result a.p.htr.now a.p.fnsq.now a.fxx p.result c.if-fr-fnsq.false p.ensures c.rule_used.ensures c.virtual_height_exact-rise.result c.if-rule_used.true c.virtual_height_exact-rise.ensures
 
 pub returns : goal.returns
 returns c =
     let a = c.args in
     let p = c.profile_interpolate-found in
-    summed a.exact a.rises c.rule_used.result a.htr.now a.fnsq.now a.fxx p.result c.if-fr-fnsq.false p.ensures c.rule_used.ensures c.by_densities.result c.if-rule_used.false c.by_densities.ensures
+    summed a.exact a.p.rises c.rule_used.result a.p.htr.now a.p.fnsq.now a.fxx p.result c.if-fr-fnsq.false p.ensures c.rule_used.ensures c.by_densities.result c.if-rule_used.false c.by_densities.ensures

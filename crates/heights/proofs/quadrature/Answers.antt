@@ -4,12 +4,9 @@ use Prim.Native.Nat.{◌<◌, ◌+◌, ◌*◌, ℕ}
 use native.Mathlib.Nat.{le_antisymm}
 use native.Mathlib.Numerals.{add-one}
 use native.Mathlib.Omega.{arith}
-use lib.Dec.{lit≤}
-use lib.ListN.{replicate}
 use lib.Ieee.{Float, nan}
 use Rattle.scalar.specs.F32.{◌+f◌, ◌*f◌, at}
-use Rattle.scalar.specs.Literals.{f0}
-use Rattle.roots.proofs.Stored.{put-at}
+use Rattle.std.proofs.lemmas.List.{get_or-map}
 use Rattle.integrands.specs.Integrands.{integrand_of}
 use Rattle.forty_reads.specs.Walk.{flat}
 use Rattle.heights.specs.Weights.{wt}
@@ -19,23 +16,23 @@ use Rattle.heights.proofs.quadrature.Goals as goal
 
 one_of : (ysq mup : List Float) → Integrands ysq mup → (k : ℕ) → k < 40 → at mup k ≡ mup_of (at ysq k)
 unfolding mup_of
-one_of ysq mup e k h = ap (λ (l : List Float). at l k) e ∙ put-at (λ j. integrand_of (at ysq j)) nan (replicate 40 f0) 40 (lit≤ tt) k h
+one_of ysq mup e k h = ap (λ (l : List Float). at l k) e.0 ∙ get_or-map integrand_of ysq k nan nan (rw e.1 h)
 
-one-turn : (ysq wts mup : List Float) (ig : ℕ) (hp : Float) → ig < 20 → wts ≡ wt → Integrands ysq mup → hp ≡ hp_of (flat ysq) ig → hp +f at wts ig *f (at mup (2 * ig) +f at mup (2 * ig + 1)) ≡ hp_of (flat ysq) (ig + 1)
+one-turn : (ysq mup : List Float) (ig : ℕ) (w hp : Float) → ig < 20 → w ≡ at wt ig → Integrands ysq mup → hp ≡ hp_of (flat ysq) ig → hp +f w *f (at mup (2 * ig) +f at mup (2 * ig + 1)) ≡ hp_of (flat ysq) (ig + 1)
 unfolding hp_of
-one-turn ysq wts mup ig hp h ew em eh =
+one-turn ysq mup ig w hp h ew em eh =
     let z : 2 * ig + 0 ≡ 2 * ig = omega arith in
     rw (add-one ig, z, ew, eh, one_of ysq mup em (2 * ig) (omega arith), one_of ysq mup em (2 * ig + 1) (omega arith))
 
 pub loop-ig-init : goal.loop-ig-init
 unfolding hp_of
-loop-ig-init c = (omega arith, refl, c.integrands.ensures)
+loop-ig-init c = (omega arith, refl, (c.integrands-mup.ensures, c.told-ysq))
 
 pub loop-ig-preserved : goal.loop-ig-preserved
+unfolding wt
 loop-ig-preserved c =
     let l = c.loop-ig in
-    let s = c in
-    (omega arith, one-turn s.args.ysq.now s.args.wts.now _ l.ig l.hp c.loop-ig-test.true s.requires l.invariant.2 l.invariant.1, l.invariant.2)
+    (omega arith, one-turn c.args.ysq.now _ l.ig _ l.hp c.loop-ig-test.true refl l.invariant.2 l.invariant.1, l.invariant.2)
 
 pub returns : goal.returns
 returns c = rw (le_antisymm c.loop-ig.invariant.0 c.loop-ig-test.false) at c.loop-ig.invariant.1

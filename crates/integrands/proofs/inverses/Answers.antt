@@ -1,17 +1,16 @@
 use mathlib.Core.Path.{refl}
-use native.Mathlib.Nat.{le_antisymm}
-use native.Mathlib.Numerals.{add-one}
 use native.Mathlib.Omega.{arith}
-use Rattle.roots.specs.Roots.{put_each}
+use lib.Ieee.{Float}
+use Rattle.scalar.specs.F32.{◌/f◌}
+use Rattle.scalar.specs.Literals.{f1}
+use Rattle.integrands.proofs.InPlace.{turn, changed}
 use Rattle.integrands.proofs.inverses.Goals as goal
 
-pub loop-k-init : goal.loop-k-init
-unfolding put_each
-loop-k-init c = (omega arith, refl)
+pub loop-r-init : goal.loop-r-init
+loop-r-init c = refl
 
-pub loop-k-preserved : goal.loop-k-preserved
-unfolding put_each
-loop-k-preserved c = let l = c.loop-k in (omega arith, rw (add-one l.k, ← l.invariant.1))
+pub loop-r-preserved : goal.loop-r-preserved
+loop-r-preserved c = let l = c.loop-r in turn (λ (r : Float). f1 /f r) c.args.root.now l.r-items l.r-index _ (omega arith) l.invariant refl
 
 pub returns : goal.returns
-returns c = rw (le_antisymm c.loop-k.invariant.0 c.loop-k-test.false) at c.loop-k.invariant.1
+returns c = let l = c.loop-r in changed (λ (r : Float). f1 /f r) c.args.root.now l.r-items l.r-index (omega arith) l.invariant

@@ -1,17 +1,16 @@
 use mathlib.Core.Path.{refl}
-use native.Mathlib.Nat.{le_antisymm}
-use native.Mathlib.Numerals.{add-one}
 use native.Mathlib.Omega.{arith}
-use Rattle.roots.specs.Roots.{put_each}
+use lib.Ieee.{Float}
+use Rattle.scalar.specs.F32.{◌-f◌}
+use Rattle.scalar.specs.Literals.{f1}
+use Rattle.integrands.proofs.InPlace.{turn, changed}
 use Rattle.integrands.proofs.rests.Goals as goal
 
-pub loop-k-init : goal.loop-k-init
-unfolding put_each
-loop-k-init c = (omega arith, refl)
+pub loop-y-init : goal.loop-y-init
+loop-y-init c = refl
 
-pub loop-k-preserved : goal.loop-k-preserved
-unfolding put_each
-loop-k-preserved c = let l = c.loop-k in (omega arith, rw (add-one l.k, ← l.invariant.1))
+pub loop-y-preserved : goal.loop-y-preserved
+loop-y-preserved c = let l = c.loop-y in turn (λ (y : Float). f1 -f y) c.args.ysq.now l.y-items l.y-index _ (omega arith) l.invariant refl
 
 pub returns : goal.returns
-returns c = rw (le_antisymm c.loop-k.invariant.0 c.loop-k-test.false) at c.loop-k.invariant.1
+returns c = let l = c.loop-y in changed (λ (y : Float). f1 -f y) c.args.ysq.now l.y-items l.y-index (omega arith) l.invariant

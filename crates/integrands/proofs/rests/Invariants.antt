@@ -1,13 +1,10 @@
--- The loop fills the list place by place. Assumes nothing.
+-- The loop changes the list place by place, as `map` does.
 use mathlib.Core.Path.{◌≡◌}
-use Prim.Native.Nat.{◌≤◌, ◌-◌}
-use Rattle.scalar.specs.F32.{◌-f◌, at}
+use lib.Ieee.{Float, nan}
+use Rattle.cases.proofs.Tabulate.{mapped}
+use Rattle.scalar.specs.F32.{◌-f◌}
 use Rattle.scalar.specs.Literals.{f1}
-use Rattle.roots.specs.Roots.{put_each}
 use Rattle.integrands.proofs.rests.Given as goal
 
-abbrev pub invariant-loop-k : goal.invariant-loop-k
-invariant-loop-k l = (l.k ≤ 40) × (l.rest ≡ put_each (λ j. f1 -f at l.ysq j) l.initial.rest l.k)
-
-abbrev pub decreases-loop-k : goal.decreases-loop-k
-decreases-loop-k l = 40 - l.k
+abbrev pub invariant-loop-y : goal.invariant-loop-y
+invariant-loop-y l = l.y-items ≡ mapped (λ (y : Float). f1 -f y) nan l.initial.y-items l.initial.y-items l.y-index

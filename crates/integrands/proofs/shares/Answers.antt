@@ -1,17 +1,15 @@
 use mathlib.Core.Path.{refl}
-use native.Mathlib.Nat.{le_antisymm}
-use native.Mathlib.Numerals.{add-one}
 use native.Mathlib.Omega.{arith}
-use Rattle.roots.specs.Roots.{put_each}
+use lib.Ieee.{Float}
+use Rattle.integrands.specs.Integrands.{share_of}
+use Rattle.integrands.proofs.InPlace.{turn, changed}
 use Rattle.integrands.proofs.shares.Goals as goal
 
-pub loop-k-init : goal.loop-k-init
-unfolding put_each
-loop-k-init c = (omega arith, refl)
+pub loop-d-init : goal.loop-d-init
+loop-d-init c = refl
 
-pub loop-k-preserved : goal.loop-k-preserved
-unfolding put_each
-loop-k-preserved c = let l = c.loop-k in (omega arith, rw (add-one l.k, ← c.min.ensures, ← l.invariant.1))
+pub loop-d-preserved : goal.loop-d-preserved
+loop-d-preserved c = let l = c.loop-d in turn (λ (d : Float). share_of d c.args.fr) c.args.densities.now l.d-items l.d-index _ (omega arith) l.invariant c.min.ensures
 
 pub returns : goal.returns
-returns c = rw (le_antisymm c.loop-k.invariant.0 c.loop-k-test.false) at c.loop-k.invariant.1
+returns c = let l = c.loop-d in changed (λ (d : Float). share_of d c.args.fr) c.args.densities.now l.d-items l.d-index (omega arith) l.invariant

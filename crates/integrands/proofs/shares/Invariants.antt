@@ -1,13 +1,9 @@
--- The loop fills the list place by place. Assumes nothing.
+-- The loop changes the list place by place, as `map` does.
 use mathlib.Core.Path.{◌≡◌}
-use Prim.Native.Nat.{◌≤◌, ◌-◌}
-use Rattle.scalar.specs.F32.{at}
+use lib.Ieee.{Float, nan}
+use Rattle.cases.proofs.Tabulate.{mapped}
 use Rattle.integrands.specs.Integrands.{share_of}
-use Rattle.roots.specs.Roots.{put_each}
 use Rattle.integrands.proofs.shares.Given as goal
 
-abbrev pub invariant-loop-k : goal.invariant-loop-k
-invariant-loop-k l = (l.k ≤ 40) × (l.ysq ≡ put_each (λ j. share_of (at l.densities j) l.fr) l.initial.ysq l.k)
-
-abbrev pub decreases-loop-k : goal.decreases-loop-k
-decreases-loop-k l = 40 - l.k
+abbrev pub invariant-loop-d : goal.invariant-loop-d
+invariant-loop-d l = l.d-items ≡ mapped (λ (d : Float). share_of d l.fr) nan l.initial.d-items l.initial.d-items l.d-index

@@ -4,11 +4,11 @@ use Rattle.layer_mufs.proofs.f2_heights.Goals as goal
 
 pub returns-then-profile_only : goal.returns-then-profile_only
 unfolding f2_heights_with
-returns-then-profile_only c = rw (← c.profile_only.ensures, c.if-profile_only.true, ← c.gethp-h.ensures)
+returns-then-profile_only c = rw (← c.profile_only.ensures, c.if-profile_only.true, c.from.ensures, ← c.gethp.ensures)
 
 pub returns-then-l : goal.returns-then-l
 unfolding f2_heights_with
-returns-then-l c = rw (← c.profile_only.ensures, c.if-profile_only.false, c.if-l.true, ← c.gethp-h-then-l.ensures)
+returns-then-l c = rw (← c.profile_only.ensures, c.if-profile_only.false, c.if-l.true, c.from-then-l.ensures, ← c.gethp-then-l.ensures)
 
 pub returns : goal.returns
 unfolding f2_heights_with

@@ -1,20 +1,16 @@
--- By the answer: the text and its length written, or nothing.
+-- The text is copied to the start.
 use mathlib.Core.Path.{◌≡◌, refl}
+use mathlib.Core.List.{List, ◌++◌}
+use Prim.Native.Nat.{ℕ, ◌+◌, ◌≤◌}
 use native.Mathlib.Omega.{arith}
-use lib.ListN.{length}
+use lib.ListN.{length, drop}
+use Rattle.std.proofs.lemmas.List.Edits.{sets, sets-eq}
 use Rattle.lent_text.proofs.text_into.Goals as goal
 
-pub overflow_cast-words : goal.overflow_cast-words
-overflow_cast-words c =
-    let fits = rw c.in-Ok.is at c.requires.1 in
-    omega (arith, c.put_word.ensures.next, fits.0, fits.1)
+at_start : (text out : List ℕ) → length text ≤ length out → text ++ drop (length text) out ≡ sets out 0 text
+at_start text out h = let z : 0 + length text ≡ length text = omega arith in rw (sets-eq text out 0 (omega arith), z) refl
 
 pub returns-in-Ok : goal.returns-in-Ok
 returns-in-Ok c =
     let fits = rw c.in-Ok.is at c.requires.1 in
-    let e = c.put_word.ensures in
-    let n : c.put_word.result ≡ length c.in-Ok.text.now = omega (arith, e.next, fits.0) in
-    rw c.in-Ok.is (refl, (e.cells, rw n))
-
-pub returns-in-Err : goal.returns-in-Err
-returns-in-Err c = rw c.in-Err.is (c.from.ensures, (refl, refl))
+    rw (c.in-Ok.is, c.copy_from_slice.ensures.after) (refl, (at_start c.in-Ok.text.now c.args.out.now fits.0, refl))

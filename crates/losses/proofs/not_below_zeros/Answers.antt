@@ -1,17 +1,21 @@
-use mathlib.Core.Path.{refl, ap, ◌∙◌}
-use native.Mathlib.Nat.{le_antisymm}
+use mathlib.Core.Path.{◌≡◌, refl, ap, ◌∙◌}
 use native.Mathlib.Numerals.{add-one}
 use native.Mathlib.Omega.{arith}
+use borrow.Author.Rules.{rules}
+use lib.ListN.{length}
 use Rattle.losses.specs.Alosfv.{not_below_zeros}
 use Rattle.losses.proofs.not_below_zeros.Goals as goal
 
-pub loop-i-init : goal.loop-i-init
+pub loop-a-init : goal.loop-a-init
 unfolding not_below_zeros
-loop-i-init c = (omega arith, refl)
+loop-a-init c = refl
 
-pub loop-i-preserved : goal.loop-i-preserved
+pub loop-a-preserved : goal.loop-a-preserved
 unfolding not_below_zeros
-loop-i-preserved c = (omega arith, rw (add-one _, ← c.loop-i.invariant.1, ← c.not_below_zero-a.ensures))
+loop-a-preserved c = rw (add-one _, ← c.loop-a.invariant, ← c.not_below_zero.ensures)
 
 pub returns : goal.returns
-returns c = c.loop-i.invariant.1 ∙ ap (not_below_zeros _) (le_antisymm c.loop-i.invariant.0 c.loop-i-test.false)
+returns c =
+    let n : length c.args.l ≡ 30 = search rules in
+    let e : c.loop-a.a-index ≡ 30 = omega arith in
+    c.loop-a.invariant ∙ ap (not_below_zeros _) e

@@ -1,4 +1,5 @@
 -- The line fits.
+use mathlib.Core.Path.{◌∙◌}
 use native.Mathlib.Omega.{arith}
 use Rattle.lines.proofs.Placing.{fits}
 use Rattle.marking_answer.proofs.Length.{marking-most}
@@ -8,6 +9,4 @@ use Rattle.marking.proofs.marking_text.Goals as goal
 pub returns : goal.returns
 unfolding marked_text
 returns c =
-    let m = c.mark-m in
-    let p = fits c.put_marking.ensures (omega (arith, (marking-most m.result).most)) in
-    record { put = rw (← m.ensures) p.0; room = p.1 }
+    rw (← c.mark.ensures) (rw c.new-page.ensures at c.put_marking.ensures ∙ fits _ _ (omega (arith, (marking-most c.mark.result).most)))

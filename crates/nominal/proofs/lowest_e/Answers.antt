@@ -1,17 +1,12 @@
-use mathlib.Core.Path.{refl, ap, ◌∙◌}
-use native.Mathlib.Nat.{le_antisymm}
+use mathlib.Core.Path.{refl}
 use native.Mathlib.Numerals.{add-one}
-use native.Mathlib.Omega.{arith}
 use Rattle.nominal.specs.Nommuf.{ec_of}
 use Rattle.nominal.proofs.lowest_e.Goals as goal
 
-pub loop-k-init : goal.loop-k-init
+pub loop-p-init : goal.loop-p-init
 unfolding ec_of
-loop-k-init c = (omega arith, refl)
+loop-p-init c = refl
 
-pub loop-k-preserved : goal.loop-k-preserved
+pub loop-p-preserved : goal.loop-p-preserved
 unfolding ec_of
-loop-k-preserved c = (omega arith, rw (add-one c.loop-k.k, c.lower_e-ec.ensures, c.loop-k.invariant.1))
-
-pub returns : goal.returns
-returns c = let k≡km = le_antisymm c.loop-k.invariant.0 c.loop-k-test.false in c.loop-k.invariant.1 ∙ ap (ec_of _) k≡km
+loop-p-preserved c = rw (add-one c.loop-p.p-index, c.lower_e-ec.ensures, c.loop-p.invariant)

@@ -1,17 +1,12 @@
-use mathlib.Core.Path.{refl, ap, ◌∙◌}
-use native.Mathlib.Nat.{le_antisymm}
+use mathlib.Core.Path.{refl}
 use native.Mathlib.Numerals.{add-one}
-use native.Mathlib.Omega.{arith}
 use Rattle.nominal.specs.Nommuf.{esmuf_of}
 use Rattle.nominal.proofs.lowest_es.Goals as goal
 
-pub loop-k-init : goal.loop-k-init
+pub loop-row-init : goal.loop-row-init
 unfolding esmuf_of
-loop-k-init c = (omega arith, refl)
+loop-row-init c = refl
 
-pub loop-k-preserved : goal.loop-k-preserved
+pub loop-row-preserved : goal.loop-row-preserved
 unfolding esmuf_of
-loop-k-preserved c = (omega arith, rw (add-one c.loop-k.k, c.lower_es-esmuf.ensures, c.loop-k.invariant.1))
-
-pub returns : goal.returns
-returns c = let k≡km = le_antisymm c.loop-k.invariant.0 c.loop-k-test.false in c.loop-k.invariant.1 ∙ ap (esmuf_of _ _ _) k≡km
+loop-row-preserved c = rw (add-one c.loop-row.row-index, c.lower_es-esmuf.ensures, c.loop-row.invariant)

@@ -1,11 +1,7 @@
--- After k turns it is the lowest of the first k.
-use mathlib.Core.Path.{◌≡◌}
-use Prim.Native.Nat.{◌≤◌, ◌-◌}
+-- After each row it is the lowest of those so far.
+use Rattle.std.proofs.Common.{◌≡◌}
 use Rattle.nominal.specs.Nommuf.{esmuf_of}
 use Rattle.nominal.proofs.lowest_es.Given as goal
 
-abbrev pub invariant-loop-k : goal.invariant-loop-k
-invariant-loop-k l = (l.k ≤ l.km) × (l.esmuf ≡ esmuf_of l.es l.gcd l.gcdkm l.k)
-
-abbrev pub decreases-loop-k : goal.decreases-loop-k
-decreases-loop-k l = l.km - l.k
+abbrev pub invariant-loop-row : goal.invariant-loop-row
+invariant-loop-row l = l.esmuf ≡ esmuf_of l.es l.gcd l.gcdkm l.row-index

@@ -3,4 +3,6 @@ use Rattle.nominal.proofs.nominal.Goals as goal
 
 pub returns : goal.returns
 unfolding nominal_of
-returns c = rw (← c.e_factor-elfc.ensures, ← c.f2_factor-flfc.ensures, ← c.lowest_e-ec.ensures, ← c.lowest_f2-f2muf.ensures, ← c.greater-allmuf.ensures, ← c.max-fot.ensures, ← c.max-hpf.ensures, ← c.lowest_es-esmuf.ensures, ← c.zero_line-z.ensures)
+returns c =
+    let es = rw c.requires.rows at c.lowest_es-esmuf.ensures in
+    rw (← c.e_factor-elfc.ensures, ← c.f2_factor-flfc.ensures, ← c.lowest_e-ec.ensures, ← c.lowest_f2-f2muf.ensures, ← c.greater-allmuf.ensures, ← c.max-fot.ensures, ← c.max-hpf.ensures, ← es, ← c.zero_line-z.ensures)

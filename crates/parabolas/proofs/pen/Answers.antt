@@ -1,16 +1,21 @@
--- Each path is the clause that its tests choose; each call is what its contract says.
-use Rattle.parabolas.specs.Bendy.{pen_of, pen_answer}
-use borrow.Author.Tests.{lt-ltb, le-ltb}
+-- The code follows the definition; each call is what its contract says.
+use Prim.Native.Nat.{ℕ, ◌+◌, ◌*◌}
+use Rattle.std.specs.Prelude.{ltb}
+use Rattle.std.proofs.lemmas.Result.{err_from_is_err_and}
+use Rattle.scalar.specs.F32.{at}
+use Rattle.parabolas.specs.Bendy.{pen_at, pen_of, pen_answer}
+use Rattle.parabolas.proofs.Places.{answered, refused}
 use Rattle.parabolas.proofs.pen.Goals as goal
 
-pub returns-then-i-gt2 : goal.returns-then-i-gt2
+pub returns-in_err-n : goal.returns-in_err-n
 unfolding pen_answer
-returns-then-i-gt2 c = rw (lt-ltb _ _ c.if-i-gt2.true)
-
-pub returns-then-k-gt2 : goal.returns-then-k-gt2
-unfolding pen_answer
-returns-then-k-gt2 c = rw (le-ltb _ _ c.if-i-gt2.false, lt-ltb _ _ c.if-k-gt2.true)
+returns-in_err-n c =
+    let a = c.args in
+    let p = err_from_is_err_and c.from_residual.result c.from_residual.ensures.1 in
+    rw (p.1, p.2) (refused (ltb 2 a.i) (ltb 2 a.k) (3 * a.k + a.i) _ _ c.in_err-n.ensures.value)
 
 pub returns : goal.returns
 unfolding pen_answer pen_of
-returns c = rw (le-ltb _ _ c.if-i-gt2.false, le-ltb _ _ c.if-k-gt2.false, ← c.pen_at.ensures)
+returns c =
+    let a = c.args in
+    rw c.pen_at.ensures (answered (ltb 2 a.i) (ltb 2 a.k) (3 * a.k + a.i) c.in_ok-n.n (λ (n : ℕ). pen_at (at a.s.fi n) (at a.s.yi n) a.f) c.in_ok-n.ensures.value)

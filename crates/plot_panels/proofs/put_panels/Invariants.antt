@@ -1,11 +1,10 @@
 -- After k turns the first k panels are put.
-use Prim.Native.Nat.{◌≤◌, ◌-◌}
-use Rattle.lines.specs.Text.{joined, Clipped}
+use Rattle.std.proofs.Common.{◌≡◌}
+use Rattle.lines.specs.Text.{with_text, joined}
 use Rattle.plot_panels.specs.Panels.{panel_at}
 use Rattle.plot_panels.proofs.put_panels.Given as goal
 
 abbrev pub invariant-loop-k : goal.invariant-loop-k
-invariant-loop-k l = (l.k ≤ l.slots) × Clipped (joined (panel_at l.rows l.profiles l.hour) l.k) l.initial.out l.at l.out l.e
-
-abbrev pub decreases-loop-k : goal.decreases-loop-k
-decreases-loop-k l = l.slots - l.k
+invariant-loop-k g l =
+    let s = l.fn.p.sheet in
+    l.page ≡ with_text g.row.N l.initial.page (joined (panel_at s.rows l.fn.p.profiles s.hour) l.k)

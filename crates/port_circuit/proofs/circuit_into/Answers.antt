@@ -12,6 +12,6 @@ returns c =
     let deciles : length c.args.c.deciles ≡ 576 = omega arith in
     rw (
       ← laid s.args.c s.args.w.now points deciles,
-      ← c.numbers_into.ensures,
       ← c.words_into.ensures,
-    ) c.words_into-2.ensures
+      ← c.words_into-2.ensures,
+    ) c.words_into-3.ensures

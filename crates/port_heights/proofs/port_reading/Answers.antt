@@ -11,7 +11,7 @@ pub returns-in-Ok : goal.returns-in-Ok
 unfolding reading_left
 returns-in-Ok c =
     let e = sym c.state_with_room.ensures ∙ c.in-Ok.is in
-    rw (open-to _ _ _ _ e _, ← is-read _ _ _ _ e, ← c.number.ensures, ← c.read_by_scan-r.ensures) (refl, c.reading_into.ensures)
+    rw (open-to _ _ _ _ e _, ← is-read _ _ _ _ e, ← c.number.ensures, ← c.read_by_scan.ensures) (refl, c.reading_into.ensures)
 
 pub returns-in-Err : goal.returns-in-Err
 unfolding reading_left

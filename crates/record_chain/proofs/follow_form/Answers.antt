@@ -1,7 +1,6 @@
 -- The tests in the paper's order, then the walk.
 use mathlib.Core.Path.{sym, ◌∙◌}
 use native.Mathlib.Omega.{arith}
-use Rattle.records.proofs.Lists.{head-part}
 use Rattle.record_chain.proofs.Steps.{head-facts}
 use borrow.Author.Tests.{eq-eqb, le-leb, lt-leb, ne_eqb}
 use Rattle.record_chain.specs.Chain.{chain_of}
@@ -20,18 +19,11 @@ returns-then-n-size-ne0 c =
 
 pub returns-then-not-head_good : goal.returns-then-not-head_good
 unfolding chain_of
-returns-then-not-head_good c = rw (eq-eqb _ _ c.if-n-size-ne0.false, le-leb _ _ c.if-n-size.false, le-leb _ _ c.if-n-size-2.false, ← head-part _ _, ← c.head_good.ensures, c.if-not-head_good.true)
+returns-then-not-head_good c = rw (eq-eqb _ _ c.if-n-size-ne0.false, le-leb _ _ c.if-n-size.false, le-leb _ _ c.if-n-size-2.false, ← c.head_good.ensures, c.if-not-head_good.true)
 
 pub walk-requires : goal.walk-requires
-walk-requires c = (
-  c.requires,
-  omega arith,
-  rw c.byte.ensures
-      (head-facts _ _
-      (sym c.head_good.ensures ∙ c.if-not-head_good.false)
-      ).most,
-)
+walk-requires c = (omega arith, rw (c.byte.ensures, c.record.ensures) (head-facts _ _ (sym c.head_good.ensures ∙ c.if-not-head_good.false)).most)
 
 pub returns : goal.returns
 unfolding chain_of
-returns c = rw (eq-eqb _ _ c.if-n-size-ne0.false, le-leb _ _ c.if-n-size.false, le-leb _ _ c.if-n-size-2.false, ← head-part _ _, ← c.head_good.ensures, c.if-not-head_good.false, ← c.byte.ensures, ← c.walk.ensures)
+returns c = rw (eq-eqb _ _ c.if-n-size-ne0.false, le-leb _ _ c.if-n-size.false, le-leb _ _ c.if-n-size-2.false, ← c.head_good.ensures, c.if-not-head_good.false, ← c.record.ensures, ← c.byte.ensures, ← c.walk.ensures)

@@ -6,5 +6,5 @@ pub returns : goal.returns
 unfolding one two three
 returns c =
     let a = c in
-    rw (c.fill.ensures.after (λ y h. h), c.words.ensures, c.half-2.ensures, c.half.ensures)
+    rw (c.fill.ensures.after (λ y h. h), c.words.ensures, c.copy_from_slice-2.ensures.after, c.half-2.ensures, c.copy_from_slice.ensures.after, c.half.ensures)
     (put_all a.args.out.now a.args.ws.now a.args.kind a.args.next a.requires)

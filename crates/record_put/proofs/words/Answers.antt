@@ -3,7 +3,7 @@ use mathlib.Core.Path.{refl, ap, ◌∙◌}
 use native.Mathlib.Omega.{arith}
 use lib.ListN.{length, take}
 use lib.Seq.{take_all}
-use Rattle.records.proofs.Lists.{length_part, filled-up}
+use Rattle.records.proofs.Lists.{filled-up}
 use Rattle.record_put.specs.Bytes.{bytes_of}
 use Rattle.record_put.proofs.Cells.{words_more, length-filled, bytes-took}
 use Rattle.record_put.proofs.words.Goals as goal
@@ -12,18 +12,13 @@ pub loop-i-init : goal.loop-i-init
 unfolding bytes_of
 loop-i-init c = (omega arith, refl, refl)
 
-pub word-requires : goal.word-requires
-word-requires c =
-    let l = c.loop-i in
-    length_part (4 * l.i) 4 l.out (omega arith)
-
 pub loop-i-preserved : goal.loop-i-preserved
 loop-i-preserved c =
     let a = c.args in
     let l = c.loop-i in
     let e =
-    words_more a.ws.now l.out a.out.now c.word.new.out l.i (omega arith) l.invariant.2
-    c.word.ensures
+    words_more a.ws.now l.out a.out.now c.copy_from_slice.new.self l.i (omega arith) l.invariant.2
+    (c.copy_from_slice.ensures.after ∙ c.to_le_bytes.ensures)
     in (
       omega arith,
       ap length e

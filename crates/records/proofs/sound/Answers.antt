@@ -8,11 +8,11 @@ use Rattle.records.proofs.sound.Goals as goal
 
 pub returns-then-half-kind : goal.returns-then-half-kind
 unfolding fits
-returns-then-half-kind c = rw (← c.half.ensures, ne_eqb _ _ c.if-half-kind.true)
-
-pub returns : goal.returns
-unfolding fits
-returns c =
+returns-then-half-kind c =
     let a = c.args in
-    rw (← c.half.ensures, eq-eqb _ _ c.if-half-kind.false)
+    rw (← c.half.ensures, eq-eqb _ _ c.if-half-kind.true)
     (c.all_zero.ensures ∙ ap all_zero (rest (4 + 4 * a.words) a.r.now))
+
+pub returns-else-half-kind : goal.returns-else-half-kind
+unfolding fits
+returns-else-half-kind c = rw (← c.half.ensures, ne_eqb _ _ c.if-half-kind.false)

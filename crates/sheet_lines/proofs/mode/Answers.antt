@@ -28,18 +28,18 @@ castable (negsuc n) m e = let f : ◌≡◌ {A = ℕ} 0 1 = cc in absurd (omega 
 
 pub returns-then-m-lt0 : goal.returns-then-m-lt0
 returns-then-m-lt0 c =
-    let z = c.args.h.modmuf in
+    let z = c.args.h.now.modmuf in
     let m : mag z < 0x8000_0000 = search rules in
     below z (rw (to_z-of_z {z = z} (record { sfits = m })) at c.if-m-lt0.true)
 
 pub overflow_cast-result : goal.overflow_cast-result
 overflow_cast-result c =
-    let z = c.args.h.modmuf in
+    let z = c.args.h.now.modmuf in
     let m : mag z < 0x8000_0000 = search rules in
     rw (to_z-of_z {z = z} (record { sfits = m })) (castable z m (rw (to_z-of_z {z = z} (record { sfits = m })) at c.if-m-lt0.false))
 
 pub returns : goal.returns
 returns c =
-    let z = c.args.h.modmuf in
+    let z = c.args.h.now.modmuf in
     let m : mag z < 0x8000_0000 = search rules in
     rw (to_z-of_z {z = z} (record { sfits = m })) (own z (rw (to_z-of_z {z = z} (record { sfits = m })) at c.if-m-lt0.false))

@@ -1,11 +1,9 @@
--- What is put is the text of the file's sheet.
-use Rattle.sheet_text.proofs.SlotCount.{three-slots}
-use Rattle.sheet_text.specs.SheetText.{sheet_text}
+use mathlib.Core.Path.{◌∙◌}
+use Rattle.sheet_text.proofs.Printed.{text_printed, refusal_printed}
 use Rattle.sheet_text.proofs.sheet_text.Goals as goal
 
-pub put_text-requires : goal.put_text-requires
-put_text-requires c = rw c.of_file.ensures (three-slots _)
+pub returns-in-Ok : goal.returns-in-Ok
+returns-in-Ok c = text_printed _ _ c.in-Ok.ensures
 
-pub returns-clause-put : goal.returns-clause-put
-unfolding sheet_text
-returns-clause-put c = rw c.of_file.ensures at c.put_text.ensures.put
+pub returns-in-Err : goal.returns-in-Err
+returns-in-Err c = c.refused.ensures ∙ refusal_printed _ _ c.in-Err.ensures

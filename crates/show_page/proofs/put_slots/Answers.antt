@@ -1,16 +1,14 @@
-use native.Mathlib.Nat.{le_antisymm}
+-- Slot k is the sheet's.
 use native.Mathlib.Omega.{arith}
-use Rattle.lines.proofs.Placing.{clip-start, clip-next, clip-length}
+use Rattle.std.proofs.lemmas.List.{get_or-take}
+use Rattle.lines.proofs.Placing.{joined_more, put_then}
+use Rattle.sheet_text.specs.SheetText.{nothing}
+use Rattle.show_page.specs.Page.{slot_page_at}
 use Rattle.show_page.proofs.put_slots.Goals as goal
 
-pub loop-k-init : goal.loop-k-init
-loop-k-init c = (omega arith, clip-start _)
-
 pub loop-k-preserved : goal.loop-k-preserved
-loop-k-preserved c = (omega arith, clip-next _ _ c.loop-k.invariant.1 c.put_slot-e.ensures)
-
-pub shape_of-out : goal.shape_of-out
-shape_of-out c = clip-length c.loop-k.invariant.1
-
-pub returns : goal.returns
-returns c = rw (← le_antisymm c.loop-k.invariant.0 c.loop-k-test.false) c.loop-k.invariant.1
+loop-k-preserved g c =
+    let s = c.args.s.now in
+    let k = c.loop-k.k in
+    let own = get_or-take s.slots s.rows k nothing (omega (arith, c.loop-k-test.true)) in
+    rw (joined_more (slot_page_at s.rows) k) (put_then _ _ _ _ c.loop-k.invariant (rw own at c.put_slot.ensures))

@@ -9,7 +9,7 @@ use Rattle.sounding_rows.proofs.by_profile.Given as goal
 
 abbrev pub invariant-loop-i : goal.invariant-loop-i
 invariant-loop-i l =
-    (l.i ≤ 30) × (l.hprim ≡ rows_of (λ f. (gethp_read_of l.exact l.rises l.htr l.fnsq f).hp) l.fv 0 (replicate 30 f0) l.i) × (l.htrue ≡ rows_of (λ f. (gethp_read_of l.exact l.rises l.htr l.fnsq f).ht) l.fv 0 (replicate 30 f0) l.i) × (l.segment ≡ rows_of (λ f. (gethp_read_of l.exact l.rises l.htr l.fnsq f).segment) l.fv 0 (replicate 30 0) l.i)
+    (l.i ≤ 30) × (l.hprim ≡ rows_of (λ f. (gethp_read_of l.exact l.p.rises l.p.htr.now l.p.fnsq.now f).hp) l.fv 0 (replicate 30 f0) l.i) × (l.htrue ≡ rows_of (λ f. (gethp_read_of l.exact l.p.rises l.p.htr.now l.p.fnsq.now f).ht) l.fv 0 (replicate 30 f0) l.i) × (l.segment ≡ rows_of (λ f. (gethp_read_of l.exact l.p.rises l.p.htr.now l.p.fnsq.now f).segment) l.fv 0 (replicate 30 0) l.i)
 
 abbrev pub decreases-loop-i : goal.decreases-loop-i
 decreases-loop-i l = 30 - l.i

@@ -1,11 +1,8 @@
 -- After i turns the first i lines are put.
-use Prim.Native.Nat.{◌≤◌, ◌-◌}
-use Rattle.lines.specs.Text.{joined, Clipped}
+use Rattle.std.proofs.Common.{◌≡◌}
+use Rattle.lines.specs.Text.{with_text, joined}
 use Rattle.svg_axes.specs.Axes.{up_at}
 use Rattle.svg_axes.proofs.put_heights.Given as goal
 
 abbrev pub invariant-loop-i : goal.invariant-loop-i
-invariant-loop-i l = (l.i ≤ 7) × Clipped (joined up_at l.i) l.initial.out l.at l.out l.e
-
-abbrev pub decreases-loop-i : goal.decreases-loop-i
-decreases-loop-i l = 7 - l.i
+invariant-loop-i g l = l.page ≡ with_text g.row.N l.initial.page (joined up_at l.i)

@@ -1,8 +1,8 @@
 -- The pieces are put one after the other.
-use Rattle.lines.proofs.Placing.{clip-then}
+use Rattle.lines.proofs.Placing.{put_then}
 use Rattle.svg_frame.specs.Frame.{size_text}
 use Rattle.svg_frame.proofs.put_size.Goals as goal
 
 pub returns : goal.returns
 unfolding size_text
-returns c = clip-then c.put_word-a.ensures (clip-then c.put_decimal-b.ensures (clip-then c.put_word-c.ensures (clip-then c.put_decimal-d.ensures c.put_word.ensures)))
+returns g c = put_then _ _ _ _ c.put_word.ensures (put_then _ _ _ _ c.put_decimal.ensures (put_then _ _ _ _ c.put_word-2.ensures (put_then _ _ _ _ c.put_decimal-2.ensures c.put_word-3.ensures)))

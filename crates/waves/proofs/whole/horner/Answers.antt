@@ -8,28 +8,19 @@ use Rattle.waves.proofs.whole.horner.Goals.{After-product, After-product-2, Afte
 use Rattle.waves.proofs.whole.horner.Goals as goal
 
 first : (c : After-product) → c.product.result ≤ c.args.d
-first c = product_le c.product.result c.args.w c.args.d c.requires.0 c.product.ensures
+first c = product_le c.product.result c.args.w c.args.d c.ranges.w.fits c.product.ensures
 
 second : (c : After-product-2) → c.product-2.result ≤ c.args.c + c.product.result
-second c = product_le c.product-2.result c.args.w _ c.requires.0 c.product-2.ensures
+second c = product_le c.product-2.result c.args.w _ c.ranges.w.fits c.product-2.ensures
 
 third : (c : After-product-3) → c.product-3.result ≤ c.args.b + c.product-2.result
-third c = product_le c.product-3.result c.args.w _ c.requires.0 c.product-3.ensures
-
-pub product-requires : goal.product-requires
-product-requires c = (c.requires.0, omega (arith, c.requires.2))
+third c = product_le c.product-3.result c.args.w _ c.ranges.w.fits c.product-3.ensures
 
 pub overflow_add-c : goal.overflow_add-c
-overflow_add-c c = omega (arith, first (goal.at.overflow_add-c c).After-product, c.requires.2)
-
-pub product-requires-2 : goal.product-requires-2
-product-requires-2 c = (c.requires.0, omega (arith, first (goal.at.product-requires-2 c).After-product, c.requires.2))
+overflow_add-c c = omega (arith, first (goal.at.overflow_add-c c).After-product, c.requires.1)
 
 pub overflow_add-b : goal.overflow_add-b
-overflow_add-b c = omega (arith, second (goal.at.overflow_add-b c).After-product-2, first (goal.at.overflow_add-b c).After-product, c.requires.2)
-
-pub product-requires-3 : goal.product-requires-3
-product-requires-3 c = (c.requires.0, omega (arith, second (goal.at.product-requires-3 c).After-product-2, first (goal.at.product-requires-3 c).After-product, c.requires.2))
+overflow_add-b c = omega (arith, second (goal.at.overflow_add-b c).After-product-2, first (goal.at.overflow_add-b c).After-product, c.requires.1)
 
 pub overflow_add-result : goal.overflow_add-result
 overflow_add-result c = omega (arith, third (goal.at.overflow_add-result c).After-product-3, second (goal.at.overflow_add-result c).After-product-2, first (goal.at.overflow_add-result c).After-product, c.requires)

@@ -28,15 +28,15 @@ magnitude-x-requires c = (c.if-a-lt964689920.false, c.if-a-gt1082130432.false)
 pub sin_sign-requires : goal.sin_sign-requires
 sin_sign-requires c = omega (arith, c.ranges.b.fits)
 
-pub with_sign-requires : goal.with_sign-requires
-with_sign-requires c =
-    let t = at (goal.at.with_sign-requires c).After-magnitude-x in
-    (sign_le (goal.at.with_sign-requires c).After-sin_sign, subst (λ (r : ℕ). (0 < r) × (r < 2 ^ 62)) (sym c.sin_fold.ensures) (sin-angle c.magnitude-x.result t.0 t.1.1 t.1.0))
+pub sine_at-requires : goal.sine_at-requires
+sine_at-requires c =
+    let t = at (goal.at.sine_at-requires c).After-magnitude-x in
+    (sign_le (goal.at.sine_at-requires c).After-sin_sign, subst (λ (r : ℕ). (0 < r) × (r < 2 ^ 62)) (sym c.sin_fold.ensures) (sin-angle c.magnitude-x.result t.0 t.1.1 t.1.0))
 
 pub returns : goal.returns
 returns c =
     let b = c.args.b in
-    c.with_sign.ensures
+    c.sine_at.ensures
     ∙ ap₂ (λ (s r : ℕ). s * 2 ^ 31 + sine_at r) c.sin_sign.ensures c.sin_fold.ensures
     ∙ ap (λ (x : ℕ). wave_at sine (b / 2 ^ 31) x) c.magnitude-x.ensures
     ∙ sym (large-bits sine b c.if-a-lt964689920.false c.if-a-gt1082130432.false)

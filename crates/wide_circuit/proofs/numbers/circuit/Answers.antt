@@ -1,12 +1,15 @@
 -- The chain was followed to its end, so every record named is in the file.
-use Prim.Native.Nat.{◌+◌, ◌≤◌}
+use Prim.Native.Nat.{ℕ, ◌+◌, ◌-◌, ◌≤◌}
+use mathlib.Core.Path.{refl}
 use native.Mathlib.Omega.{arith}
+use native.Mathlib.Nat.{add-sub_cancel_left}
 use Rattle.records.specs.Record.{record_at}
 use Rattle.wide_circuit.specs.Wide.{form128}
 use Rattle.circuit.specs.Read.{circuit_of}
 use Rattle.wide_circuit.proofs.Fit128.{fit128}
 use Rattle.record_chain.proofs.Followed.{Followed, followed, there, count-range}
 use Rattle.record_chain.specs.Chain.{km_of}
+use Rattle.circuit.proofs.Lists.{numbers-part, part-there}
 use Rattle.wide_circuit.proofs.numbers.circuit.Goals.{Start}
 use Rattle.wide_circuit.proofs.numbers.circuit.Goals as goal
 
@@ -21,27 +24,50 @@ range c = count-range form128 c.args.file.now c.args.c (told c)
 pub slice_bounds-head-end : goal.slice_bounds-head-end
 slice_bounds-head-end c = omega (arith, (told (goal.at.slice_bounds-head-end c).Start).least)
 
+pub overflow_add-km : goal.overflow_add-km
+overflow_add-km c = omega (arith, c.byte-km.ensures, (told (goal.at.overflow_add-km c).Start).head.most)
+
+pub slice_bounds-points-end : goal.slice_bounds-points-end
+slice_bounds-points-end c =
+    let t = told (goal.at.slice_bounds-points-end c).Start in
+    omega (arith, c.byte-km.ensures, t.head.most, t.long.room)
+
 pub points-points-requires : goal.points-points-requires
 points-points-requires c =
     let t = told (goal.at.points-points-requires c).Start in
-    (rw c.byte-km.ensures t.head.most, t.long.room, there form128 _ _ t)
-
-pub overflow_add-km : goal.overflow_add-km
-overflow_add-km c = omega (arith, c.byte-km.ensures, (told (goal.at.overflow_add-km c).Start).head.most)
+    let k = c.byte-km.ensures in
+    part-there form128 _ _ 1 _ 5 (there form128 _ _ t) (omega (arith, k, t.head.most)) (omega (arith, k, t.head.most, t.long.room))
 
 pub overflow_add-km-2 : goal.overflow_add-km-2
 overflow_add-km-2 c = omega (arith, c.byte-km.ensures, (told (goal.at.overflow_add-km-2 c).Start).head.most)
 
-pub overflow_sub-count : goal.overflow_sub-count
-overflow_sub-count c = omega (arith, c.byte-km.ensures, range (goal.at.overflow_sub-count c).Start)
+pub slice_bounds-deciles-count : goal.slice_bounds-deciles-count
+slice_bounds-deciles-count c = omega (arith, c.byte-km.ensures, range (goal.at.slice_bounds-deciles-count c).Start)
+
+pub slice_bounds-deciles-start : goal.slice_bounds-deciles-start
+slice_bounds-deciles-start c = omega (arith, c.byte-km.ensures, range (goal.at.slice_bounds-deciles-start c).Start)
+
+pub slice_bounds-deciles-end : goal.slice_bounds-deciles-end
+slice_bounds-deciles-end c =
+    let s = (goal.at.slice_bounds-deciles-end c).Start in
+    omega (arith, c.byte-km.ensures, range s, (told s).head.most, (told s).long.room)
 
 pub deciles-deciles-requires : goal.deciles-deciles-requires
 deciles-deciles-requires c =
-    let t = told (goal.at.deciles-deciles-requires c).Start in
+    let s = (goal.at.deciles-deciles-requires c).Start in
+    let t = told s in
     let k = c.byte-km.ensures in
-    (omega (arith, k, t.head.most), omega (arith, k, range (goal.at.deciles-deciles-requires c).Start), t.long.room, there form128 _ _ t)
+    part-there form128 _ _ _ _ 48 (there form128 _ _ t) (omega (arith, k, range s)) (omega (arith, k, range s, t.head.most, t.long.room))
 
 pub returns : goal.returns
 unfolding circuit_of
 returns c =
-    rw (c.joined.ensures, c.deciles-deciles.ensures, c.points-points.ensures, c.byte-km.ensures)
+    let s = (goal.at.returns c).Start in
+    let t = told s in
+    let a = c.args in
+    let km = c.byte-km.result in
+    let k = c.byte-km.ensures in
+    let p = numbers-part form128 a.file.now a.c.order 1 (1 + km - 1) km 0 15 (add-sub_cancel_left 1 km) (omega (arith, k, t.head.most, t.long.room)) in
+    let n : ℕ = a.c.count - (1 + km) in
+    let d = numbers-part form128 a.file.now a.c.order (1 + km) n n 0 12 refl (omega (arith, k, range s, t.head.most, t.long.room)) in
+    rw (c.joined.ensures, c.deciles-deciles.ensures, d, c.points-points.ensures, p, k)

@@ -1,8 +1,8 @@
-use Prim.Native.Nat.{◌+◌, ◌*◌}
+use Prim.Native.Nat.{◌*◌}
 use mathlib.Core.Path.{refl}
 use native.Mathlib.Omega.{arith}
-use native.Mathlib.Nat.{one-mul}
-use lib.ListN.{get_or}
+use native.Mathlib.Nat.{zero-add, one-mul}
+use lib.ListN.{length, get_or}
 use Rattle.wide_circuit.specs.Wide.{form128}
 use Rattle.circuit.specs.Read.{numbers_of}
 use Rattle.records.proofs.Lists.{length_part}
@@ -14,31 +14,31 @@ unfolding numbers_of
 loop-i-init c = (omega arith, (refl, refl))
 
 pub overflow_mul-n : goal.overflow_mul-n
-overflow_mul-n c = omega (arith, c.requires.2 (1 + c.loop-i.i))
+overflow_mul-n c = omega (arith, c.requires.1 c.loop-i.i (omega arith))
 
 pub overflow_mul-n-in-loop-i : goal.overflow_mul-n-in-loop-i
-overflow_mul-n-in-loop-i c = omega (arith, c.requires.2 (1 + c.loop-i.i))
+overflow_mul-n-in-loop-i c = omega (arith, c.requires.1 c.loop-i.i (omega arith))
 
-pub overflow_add-n-in-loop-i : goal.overflow_add-n-in-loop-i
-overflow_add-n-in-loop-i c = omega (arith, c.requires.2 (1 + c.loop-i.i))
+pub overflow_add-n : goal.overflow_add-n
+overflow_add-n c = omega (arith, c.requires.1 c.loop-i.i (omega arith))
 
 pub slice_bounds-read_f2m3-end : goal.slice_bounds-read_f2m3-end
-slice_bounds-read_f2m3-end c = omega (arith, c.requires.2 (1 + c.loop-i.i))
+slice_bounds-read_f2m3-end c = omega (arith, c.requires.1 c.loop-i.i (omega arith))
 
 pub read_f2m3-requires : goal.read_f2m3-requires
 read_f2m3-requires c =
     let l = c.loop-i in
     let a = c.args in
-    let n = 128 * get_or a.order.now (1 + l.i) 0 in
-    (omega (arith, length_part n 128 a.file.now (c.requires.2 (1 + c.loop-i.i))), length_part l.i 1 l.out (omega arith))
+    let n = 128 * get_or a.records.now l.i 0 in
+    (omega (arith, length_part n 128 a.file.now (c.requires.1 l.i (omega arith))), length_part l.i 1 l.out (omega arith))
 
 pub loop-i-preserved : goal.loop-i-preserved
 loop-i-preserved c =
     let a = c.args in
     let l = c.loop-i in
-    rw one-mul at (read_next form128 a.file.now a.order.now 1 15 1 5 a.km l.i l.out l.invariant _ (omega arith) c.read_f2m3.ensures (omega arith))
+    rw one-mul at (read_next form128 a.file.now a.records.now 0 15 1 5 (length a.records.now) l.i l.out l.invariant c.read_f2m3.new.out (omega arith) (rw (zero-add l.i) c.read_f2m3.ensures) (omega arith))
 
 pub returns : goal.returns
 returns c =
     let a = c.args in
-    read-end form128 a.file.now a.order.now 1 15 1 5 a.km _ _ c.loop-i.invariant c.loop-i-test.false
+    read-end form128 a.file.now a.records.now 0 15 1 5 (length a.records.now) _ _ c.loop-i.invariant c.loop-i-test.false

@@ -1,0 +1,2 @@
+-- Answers in words that are lent.
+pub mod Words

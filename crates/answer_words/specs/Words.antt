@@ -1,0 +1,13 @@
+-- What an answer of one number leaves in the words lent for it.
+use Rattle.std.specs.Prelude.{List, ℕ, set, Result, Ok, Err}
+use Rattle.refusal.specs.declared.Refusal.{Refusal}
+
+-- the number in the first word; at a refusal every word as it was
+abbrev pub number_left : Result ℕ Refusal → List ℕ → List ℕ
+number_left (Ok n) out = set out 0 n
+number_left (Err r) out = out
+
+-- the number, 0 at a refusal
+abbrev pub number_in : Result ℕ Refusal → ℕ
+number_in (Ok n) = n
+number_in (Err r) = 0

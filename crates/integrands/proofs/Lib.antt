@@ -1,0 +1,2 @@
+-- Lists made by loops.
+pub mod InPlace

@@ -1,0 +1,2 @@
+-- The place of a layer in the tables.
+pub mod Places
