@@ -56,16 +56,6 @@ fn twice(n: u64, d: u64) -> u64
     ((q + q * g / 0x4_0000_0000) * 0x10_0000) >> (l - 37)
 }
 
-// a small function of its own, so that it compiles to no branch: which of the two is larger cannot be foreseen
-fn distance(m: u64, c: u64) -> u64
-    ensures { result ≡ pick (leb c m) (m - c) (c - m) }
-{
-    if c <= m {
-        return m - c;
-    }
-    c - m
-}
-
 // ln (m / 2^23) in units of 2^-56
 // Stays: that m has 24 digits is asked of three functions of this file, each of which reads it as a number; a type for it would
 // be made at three calls and opened at as many.
@@ -76,7 +66,7 @@ fn rest(m: u64) -> u64
     let i = (m - 7864320) / 0x10_0000;
     let c = (8 + i) * 0x10_0000;
     let y = eighth(i);
-    let a = twice(distance(m, c), m + c);
+    let a = twice(m.abs_diff(c), m + c);
     if c <= m {
         return y + a;
     }

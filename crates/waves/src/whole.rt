@@ -2,7 +2,7 @@
 ghost use Rattle.std.specs.Prelude.{◌≡◌, ◌+◌, ◌-◌, ◌*◌, ◌/◌, ◌%◌, ◌^◌, ◌<◌, ◌≤◌, leb};
 ghost use Rattle.std.specs.Int.Count.{count_leading_zeros};
 ghost use Rattle.series.specs.Series.{sine, cosine};
-ghost use Rattle.waves.specs.SinCos.{times, added, taken, ratio_of, sine_at, apart, sin_fold, cos_fold, sin_sign, cos_sign, mag_of, wave_bits};
+ghost use Rattle.waves.specs.SinCos.{times, added, taken, ratio_of, sine_at, sin_fold, cos_fold, sin_sign, cos_sign, mag_of, wave_bits};
 ghost use Rattle.fixed.specs.Fixed.{pick};
 
 use fixed::{pack, scaled};
@@ -74,18 +74,11 @@ fn choose(x: u64, limit: u64, a: u64, b: u64) -> u64
     b
 }
 
-// the distance of two numbers
-fn distance(x: u64, y: u64) -> u64
-    ensures { result ≡ apart x y }
-{
-    choose(x, y, y, x) - choose(x, y, x, y)
-}
-
 // the angle onto which x / 2^61, up to 4, is folded for its sine
 fn sin_fold(x: u64) -> u64
     ensures { result ≡ sin_fold x }
 {
-    choose(x, 3622009729038561421, x, distance(x, 7244019458077122842))
+    choose(x, 3622009729038561421, x, x.abs_diff(7244019458077122842))
 }
 
 // and for its cosine
@@ -96,7 +89,7 @@ fn cos_fold(x: u64) -> u64
     choose(
         x,
         7244019458077122842,
-        distance(x, 3622009729038561421),
+        x.abs_diff(3622009729038561421),
         10866029187115684264 - x,
     )
 }
