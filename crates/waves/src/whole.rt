@@ -64,21 +64,14 @@ fn sine_at(sign: u32, r: u64) -> u32
     sign * 0x8000_0000 + size
 }
 
-// a up to the limit, b beyond. Both are there already, so this compiles to no branch, which random angles would mispredict.
-fn choose(x: u64, limit: u64, a: u64, b: u64) -> u64
-    ensures { result ≡ pick (leb x limit) a b }
-{
-    if x <= limit {
-        return a;
-    }
-    b
-}
-
 // the angle onto which x / 2^61, up to 4, is folded for its sine
 fn sin_fold(x: u64) -> u64
     ensures { result ≡ sin_fold x }
 {
-    choose(x, 3622009729038561421, x, x.abs_diff(7244019458077122842))
+    if x <= 3622009729038561421 {
+        return x;
+    }
+    x.abs_diff(7244019458077122842)
 }
 
 // and for its cosine
@@ -86,12 +79,10 @@ fn cos_fold(x: u64) -> u64
     requires { x ≤ 2 ^ 63 }
     ensures { result ≡ cos_fold x }
 {
-    choose(
-        x,
-        7244019458077122842,
-        x.abs_diff(3622009729038561421),
-        10866029187115684264 - x,
-    )
+    if x <= 7244019458077122842 {
+        return x.abs_diff(3622009729038561421);
+    }
+    10866029187115684264 - x
 }
 
 // the sign of the sine, 1 for minus, where t is that of x
