@@ -92,6 +92,8 @@ fn guess(sqcos: f32, fvv: f32) -> u32
 }
 
 // From this number on an answer says that the cell is in doubt.
+// Stays: the doubt is a bit of the guess's own word, added to it with no branch; an Option for each of the thirty-two places of a row
+// would take twice the room and a test at each.
 pub const IN_DOUBT: u32 = 0x8000_0000;
 
 // 0 where the test is passed, else `IN_DOUBT`.

@@ -68,6 +68,7 @@ fn near_digits(t: u32, q: f32) -> u32
 }
 
 // Whether b is the pattern of a float that is above zero, finite and not subnormal: 1, else 0.
+// Stays: numbers, here and in `right`, since `passed` counts eighty tests with no branch and compares the count once.
 fn normal(b: u32) -> u64
     ensures { (result ≤ 1) × ((result ≡ 1) → Normal b) }
 {

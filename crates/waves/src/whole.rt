@@ -86,6 +86,7 @@ fn cos_fold(x: u64) -> u64
 }
 
 // the sign of the sine, 1 for minus, where t is that of x
+// Stays: a sign is the first bit of a pattern, taken off x's and put before the answer's, as a number at both ends.
 fn sin_sign(t: u32, x: u64) -> u32
     requires { t ≤ 1 }
     ensures { result ≡ sin_sign t x }
