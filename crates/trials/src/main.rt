@@ -102,6 +102,7 @@ fn same(a: f32, b: f32) -> bool {
     scalar::bits(a) == scalar::bits(b)
 }
 
+// Stays: two profiles that are compared, no two columns of one.
 fn differing_densities(a: &[f32; 50], b: &[f32; 50]) -> usize {
     a.iter().zip(b.iter()).filter(|x| !same(*x.0, *x.1)).count()
 }
