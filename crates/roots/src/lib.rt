@@ -1,7 +1,7 @@
 // Forty square roots at a time. Each is guessed with floats and tested by whole numbers, in loops with
 // no branch and no call, so that the compiler makes vector instructions of them. Where one of the
 // forty guesses is not proved right by its test, all are worked out one by one.
-// Stays: lists of forty side by side (patterns b, guesses q and g), since vector instructions take one kind of number from a list,
+// Stays: lists of forty side by side (patterns b and guesses g), since vector instructions take one kind of number from a list,
 // and a list of records would have to be taken apart first.
 #![tactic(auto)]
 
@@ -26,45 +26,6 @@ fn folded(b: u32) -> u32
     ensures { result < 2 ^ 24 }
 {
     (b % 0x100_0000 + 0x80_0000) % 0x100_0000
-}
-
-// 1 over the root of that number, within five in a million: a pattern that falls by half of its
-// pattern, then two steps of Newton's rule.
-fn near_inverse(t: u32) -> f32
-    requires { t < 2 ^ 24 }
-{
-    let h = 0.5 * f32::from_bits(0x3f80_0000 + t);
-    let q = f32::from_bits(0x3f77_5a86 - t / 2);
-    let p = q * (1.5 - h * q * q);
-    p * (1.5 - h * p * p)
-}
-
-// The last 25 digits of a float's pattern, 0 of a NaN.
-fn last_digits(v: f64) -> u32 {
-    if v != v {
-        return 0;
-    }
-    (f64::to_bits(v) % 0x200_0000) as u32
-}
-
-// As an f64, 0 of a NaN.
-fn widened(q: f32) -> f64 {
-    if q != q {
-        return 0.0;
-    }
-    q as f64
-}
-
-// The root of that number from 1 over it, nearly: one step more, within four in 10^11. What is added
-// last leaves the root's 24 digits at the end of the sum's pattern.
-fn near_digits(t: u32, q: f32) -> u32
-    requires { t < 2 ^ 24 }
-{
-    let x = f64::from_bits(0x3ff0_0000_0000_0000 + t as u64 * 0x2000_0000);
-    let y = widened(q);
-    let a = x * y;
-    let c = 0.5 - 0.5 * (a * y);
-    last_digits((a + a * c) + 805306368.0)
 }
 
 // Whether b is the pattern of a float that is above zero, finite and not subnormal: 1, else 0.
@@ -106,15 +67,9 @@ fn patterns(x: &[f32; 40], b: &mut [u32; 40])
     }
 }
 
-fn near_inverses(b: &[u32; 40], q: &mut [f32; 40]) {
-    for (q, b) in q.iter_mut().zip(b) {
-        *q = near_inverse(folded(*b));
-    }
-}
-
-fn guesses(b: &[u32; 40], q: &[f32; 40], g: &mut [u32; 40]) {
-    for (g, (b, q)) in g.iter_mut().zip(b.iter().zip(q)) {
-        *g = near_digits(folded(*b), *q);
+fn guesses(b: &[u32; 40], g: &mut [u32; 40]) {
+    for (g, b) in g.iter_mut().zip(b) {
+        *g = scalar::near_root(folded(*b));
     }
 }
 
@@ -151,11 +106,9 @@ pub fn roots(x: &[f32; 40], out: &mut [f32; 40])
     ensures { out.new ≡ roots_into x.now out.old 40 }
 {
     let mut b = [0u32; 40];
-    let mut q = [0.0f32; 40];
     let mut g = [0u32; 40];
     patterns(x, &mut b);
-    near_inverses(&b, &mut q);
-    guesses(&b, &q, &mut g);
+    guesses(&b, &mut g);
     if passed(&b, &g) == 80 {
         pack(&b, &g, out);
         return;

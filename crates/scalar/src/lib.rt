@@ -10,6 +10,8 @@ ghost use Rattle.std.specs.Float.Ieee.{of_bits, to_bits};
 ghost use Rattle.scalar.specs.Scalar.{min_of, max_of, abs_of, trunc_of};
 ghost use Rattle.scalar.specs.Root.{sqrt_of};
 
+pub use root::near_root;
+
 // The float with the pattern b. `from_bits` is not defined at NaN's patterns: each of them gives
 // NaN here.
 pub fn number(b: u32) -> f32

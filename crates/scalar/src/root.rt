@@ -9,12 +9,12 @@ ghost use Rattle.scalar.specs.RootPattern.{root_pattern};
 
 // The digits of the root of the float from 1 to below 4 whose pattern is t above that of 1, as the machine takes it. No proof rests on
 // that: `rounded_root` tests the guess, and corrects any.
-fn near_root(t: u32) -> u64
+pub fn near_root(t: u32) -> u32
     requires { t < 2 ^ 24 }
     ensures { result < 2 ^ 25 }
 {
     let y = f32::from_bits(0x3f80_0000 + t).sqrt();
-    u64::from(0x80_0000 + f32::to_bits(y) % 0x80_0000)
+    0x80_0000 + f32::to_bits(y) % 0x80_0000
 }
 
 // The root of n, rounded, from any guess: mostly the guess itself. It is the r with n above r * r - r
@@ -47,7 +47,7 @@ fn root_pattern(e: u32) -> u32
     let m = 0x80_0000 + e % 0x80_0000;
     let scale = 0x80_0000 + e / 0x80_0000 % 2 * 0x80_0000;
     let n = m as u64 * scale as u64;
-    let digits = rounded_root(n, near_root(e % 0x100_0000));
+    let digits = rounded_root(n, u64::from(near_root(e % 0x100_0000)));
     e / 0x100_0000 * 0x80_0000 + digits as u32
 }
 
