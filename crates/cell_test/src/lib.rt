@@ -77,18 +77,12 @@ fn digits(v: f32) -> u32
     f32::to_bits(from_zero(v) + 12582912.0) % 0x40_0000
 }
 
-// A guess at the cell. A multiple of 1 over the root is within four in a hundred by its pattern; two
-// steps of Newton's rule bring it to 6 in 10^7. Their constants are those of the least error, and of
-// a thousand as the multiple at the end, so that no product is spent on a half or on kHz. No proof
-// rests on that: the test refuses a wrong guess.
+// A guess at the cell: the whole part of its kHz, with the root as the machine takes it. No proof rests on that: the test refuses a
+// wrong guess.
 fn guess(sqcos: f32, fvv: f32) -> u32
-    requires { T (f0_000001 ≤f sqcos) }
     ensures { result < 2 ^ 22 }
 {
-    let q0 = f32::from_bits(0x5f8a_c937 - f32::to_bits(sqcos) % 0x8000_0000 / 2);
-    let q1 = q0 * (7.5242507 - sqcos * q0 * q0);
-    let khz = fvv * q1 * (188.98823 - sqcos * q1 * q1);
-    digits(khz - 0.5)
+    digits(1000.0 * (fvv / sqcos.sqrt()) - 0.5)
 }
 
 // From this number on an answer says that the cell is in doubt.
