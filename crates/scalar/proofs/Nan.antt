@@ -23,7 +23,11 @@ nan-only nan e = refl
 nan-only (inf s) e = absurd (false≢true e)
 nan-only (fin s m f) e = absurd (false≢true e)
 
--- after the test `x != x`
+-- after the test `x.is_nan()`, with the answer t
+pub tested : (x : Float) (r t : Bool) → r ≡ is_nan x → r ≡ t → ne x x ≡ t
+tested x r t e f = differs-is-nan x ∙ sym e ∙ f
+
+-- where x differs from itself
 pub differs : (x : Float) → ne x x ≡ true → x ≡ nan
 differs x e = nan-only x (sym (differs-is-nan x) ∙ e)
 

@@ -11,26 +11,20 @@ ghost use Rattle.scalar.specs.Scalar.{min_of, max_of, abs_of, trunc_of};
 ghost use Rattle.scalar.specs.Root.{sqrt_of};
 
 pub use root::near_root;
+use std::num::{f32_from_bits_with_nan, f32_to_bits_with_nan};
 
-// The float with the pattern b. `from_bits` is not defined at NaN's patterns: each of them gives
-// NaN here.
+// The float with the pattern b; each of NaN's patterns gives NaN.
 pub fn number(b: u32) -> f32
     ensures { result ≡ of_bits binary32 b }
 {
-    if 0x7f80_0000 < b % 0x8000_0000 {
-        return 0.0 / 0.0;
-    }
-    f32::from_bits(b)
+    f32_from_bits_with_nan(b)
 }
 
-// The pattern of x; 0x7fc00000 at NaN, where `to_bits` is not defined.
+// The pattern of x; 0x7fc00000 at NaN.
 pub fn bits(x: f32) -> u32
     ensures { result ≡ to_bits binary32 x }
 {
-    if x != x {
-        return 0x7fc0_0000;
-    }
-    f32::to_bits(x)
+    f32_to_bits_with_nan(x)
 }
 
 // The smaller one. A NaN is dropped, and of two equal ones, -0 and +0 too, the first is the answer.
@@ -39,7 +33,7 @@ pub fn bits(x: f32) -> u32
 pub fn min(a: f32, b: f32) -> f32
     ensures { result ≡ min_of a b }
 {
-    if a != a {
+    if a.is_nan() {
         return b;
     }
     if b < a {
@@ -52,7 +46,7 @@ pub fn min(a: f32, b: f32) -> f32
 pub fn max(a: f32, b: f32) -> f32
     ensures { result ≡ max_of a b }
 {
-    if a != a {
+    if a.is_nan() {
         return b;
     }
     if b > a {
@@ -65,14 +59,7 @@ pub fn max(a: f32, b: f32) -> f32
 pub fn abs(x: f32) -> f32
     ensures { result ≡ abs_of x }
 {
-    if x < 0.0 {
-        return -x;
-    }
-    // -0 too
-    if x == 0.0 {
-        return 0.0;
-    }
-    x
+    x.abs()
 }
 
 // How far 32 digits are shifted down for the whole part to be left, by the exponent's field: out of
@@ -92,7 +79,7 @@ fn places(field: u32) -> u32
 pub fn trunc(x: f32) -> i32
     ensures { result ≡ trunc_of x }
 {
-    if x != x {
+    if x.is_nan() {
         return 0;
     }
     let b = f32::to_bits(x);
@@ -116,7 +103,7 @@ pub fn trunc(x: f32) -> i32
 pub fn sqrt(x: f32) -> f32
     ensures { result ≡ sqrt_of x }
 {
-    if x != x {
+    if x.is_nan() {
         return x;
     }
     let b = f32::to_bits(x);
