@@ -24,6 +24,8 @@ static EIGHTHS: [u64; 9] = [
     49946518145322873,
 ];
 
+// Stays: a function for each table, as `exponential::sixteenth` and those of `arc_entries`, which tells a caller the definition's
+// entry; a shared one would have each caller's proof open its whole table.
 #[tactic(auto, unfolding(crate::specs::Tables::eighths))]
 fn eighth(i: u64) -> u64
     requires { i < 9 }
@@ -41,8 +43,8 @@ fn excess(s: u64) -> u64
     u / 3 + u * u / 0x4_0000_0000 / 5
 }
 
-// Stays: n and d are the two numbers of a quotient, and no pair that is kept.
 // ln ((d + n) / (d - n)) in units of 2^-56. The quotient n / d has as many places as fit: it is in units of 2^-l.
+// Stays: n and d are the two numbers of a quotient, and no pair that is kept.
 fn twice(n: u64, d: u64) -> u64
     requires { (n ≤ 2 ^ 19) × (2 ^ 24 ≤ d) }
     ensures { result ≡ twice_of n d }

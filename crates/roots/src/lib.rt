@@ -38,6 +38,7 @@ fn normal(b: u32) -> u64
 
 // Whether the digits guessed are those of the root: 1, else 0. The square less r is below what is
 // rooted, and the square and r are not.
+// Stays: what is rooted is worked out as in `scalar::root`, whose exponent is moved by an odd number, so that its parity is the other.
 fn right(b: u32, g: u32) -> u64
     ensures { (result ≤ 1) × (result ≡ 1 → Right b (g % 2 ^ 25)) }
 {
@@ -57,7 +58,7 @@ fn packed(b: u32, g: u32) -> f32
     f32::from_bits((b + 0x3e80_0000) / 0x100_0000 * 0x80_0000 + g % 0x200_0000)
 }
 
-// Stays: so also the loops of `pack` and `one_by_one`. By `map` of an array it takes three times as long; and of the lists that a
+// Stays: so also the loops of `pack` and `one_by_one`, three of a line each, which a shared one would be handed. By `map` of an array it takes three times as long; and of the lists that a
 // `zip` with `iter_mut` leaves a proof knows the lengths alone, which is enough for guesses.
 fn patterns(x: &[f32; 40], b: &mut [u32; 40])
     ensures { (b.new ≡ put_each (λ k. to_bits binary32 (at x.now k)) b.old 40) × HeldByBits x.now 40 }

@@ -101,14 +101,11 @@ fn sin_sign(t: u32, x: u64) -> u32
 fn cos_sign(x: u64) -> u32
     ensures { result ≡ cos_sign x }
 {
-    if x <= 3622009729038561421 {
-        return 0;
-    }
-    1
+    u32::from(x > 3622009729038561421)
 }
 
 // |x| in units of 2^-61, for |x| up to 4
-// Stays: what is asked of a pattern a (0x3980_0000 ≤ a), here alone in this crate.
+// Stays: what is asked of a pattern a (0x3980_0000 ≤ a), once here; crate `arcs` asks it with other upper ends.
 fn magnitude(a: u32) -> u64
     requires { (0x3980_0000 ≤ a) × (a ≤ 0x4080_0000) }
     ensures { result ≡ mag_of a }
