@@ -22,7 +22,7 @@ pub struct Heights {
     // the walk's cursor after its last read; 0 where no walk ran
     pub cursor: usize,
     // the segment on which the true height was found; 50 where nothing was sought
-    // Stays: the 50 goes to callers in C as it is.
+    // Stays: the paper numbers the segments 0 to 49, and says 50 where nothing is sought.
     pub segment: u32,
 }
 
@@ -72,13 +72,12 @@ fn by_densities(p: Profile, ht: f32, fr: f32, segment: u32) -> Heights
 {
     let h0 = p.htr[0];
     let hrmz = ht * 0.5 * 1.0;
-    let mut ysq = [0.0f32; 40];
-    let cursor = gethp_densities(p, ht, fr, &mut ysq);
-    let hp = quadrature(&ysq);
+    let d = gethp_densities(p, ht, fr);
+    let hp = quadrature(&d.ysq);
     Heights {
         hp: h0 + hrmz * hp,
         ht: h0 + ht,
-        cursor,
+        cursor: d.cursor,
         segment,
     }
 }

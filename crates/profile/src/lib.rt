@@ -72,7 +72,7 @@ pub fn lecden_slot(s: IonoState, k: usize) -> IonoState
     let q = d.slot;
     let curves = d.curves;
     let htr = d.htr;
-    let fnsq = shape_densities::densities(curves, htr);
+    let fnsq = curves.densities(htr);
     let rises = rises_throughout(&htr);
     let mut r = write_slot(s, k, q);
     r.htr = htr;

@@ -67,7 +67,7 @@ impl Reading {
     }
 
     // The segment of a reading, from 0: the lower of its two nodes' numbers.
-    // Stays: one of two numbers that go with a case, not the case's own, which `kind` gives.
+    // Stays: the paper numbers the segments 0 to 49, and a case has its own number too, which `kind` gives.
     #[tactic(auto, unfolding(crate::specs::Scan::segment_number))]
     pub fn segment_number(self) -> u32
         ensures { result ≡ segment_number self }
@@ -98,6 +98,7 @@ pub fn scan(from: &[f32; 50], to: &[f32; 50], probe: f32) -> Reading
 }
 
 // A number found by a search, and the segment that it was found on.
+// Stays: the paper numbers the segments 0 to 49, and says 50 where nothing is sought.
 #[derive(Clone, Copy, Debug, PartialEq)]
 pub struct Found {
     pub value: f32,
@@ -126,18 +127,13 @@ pub struct Read {
 pub fn climb(htr: &[f32; 50], zi: f32, ih: usize) -> usize
     ensures { result ≡ climb_of htr.now zi ih }
 {
-    // Stays: the answer is where it stops, found by the height above that place.
-    for on in ih..49 {
-        let next = on + 1;
-        if !(zi >= htr[next]) {
-            return on;
-        }
-    }
-    ih.max(49)
+    (ih..49)
+        .find(|on| !(zi >= htr[*on + 1]))
+        .unwrap_or(ih.max(49))
 }
 
 // A profile lent to be read.
-// Stays: `rises` is said of the heights, and no value hangs on it.
+// Stays: `rises` is the Rust's `htr_rises`, a mark beside the heights: it says of htr whether it rises.
 #[derive(Clone, Copy)]
 pub struct Profile<'a> {
     // fifty heights in km

@@ -54,13 +54,13 @@ fn first(c: Candidates, density: f32) -> Mark
     Mark::F2
 }
 
-// Stays: the shapes c and the height h, as in crate `shape_densities`.
+// Stays: the shapes c and the height h are no one thing: the loop has the same shapes at fifty heights.
 fn mark_at(c: Curves, fnd: f32, h: f32) -> Mark
     requires { fnd ≡ fnd_of c h }
     ensures { result ≡ mark_of c h }
 {
-    let shapes = shape_densities::density::candidates(c, fnd, h);
-    let density = shape_densities::density::largest(shapes);
+    let shapes = c.candidates(fnd, h);
+    let density = shapes.largest();
     if density == 0.0 {
         return Mark::Gap;
     }
@@ -77,7 +77,7 @@ pub fn no_marks() -> [Mark; 50]
 fn marks_on(c: Curves, htr: [f32; 50]) -> [Mark; 50]
     ensures { result ≡ map (mark_of c) htr }
 {
-    let fnd = shape_densities::tails(c, htr);
+    let fnd = c.tails(htr);
     let mut marks = no_marks();
     // Stays: three lists by one index, and two zips inside each other are no plainer.
     for ih in 0..50 {

@@ -115,15 +115,9 @@ pub fn reshaped(s: Slot, f: F1Shape) -> Slot
     ensures { result ≡ reshaped_of s f }
 {
     Slot {
-        fi0: s.fi0,
-        fi1: s.fi1,
-        fi2: s.fi2,
-        yi0: s.yi0,
         yi1: f.yi1,
-        yi2: s.yi2,
-        hi0: s.hi0,
         hi1: f.hi1,
-        hi2: s.hi2,
         fsec: f.fsec,
+        ..s
     }
 }

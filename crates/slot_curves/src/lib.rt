@@ -7,6 +7,7 @@ mod grid;
 ghost use Rattle.std.specs.Prelude.{◌≡◌};
 ghost use Rattle.slot_curves.specs.Draw.{tail_of, curves_of, drawn_of};
 
+pub use grid::fill;
 use shape_densities::Curves;
 
 // One slot's layers, the Rust's `fi[k][0]` as `fi0`.

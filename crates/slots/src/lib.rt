@@ -35,10 +35,8 @@ fn set_points(s: IonoState, params: [LayerParams; 5], n: usize) -> IonoState
     ensures { result ≡ points_set s params n }
 {
     let mut t = s;
-    // Stays: k is the point's row in the tables too.
-    for k in 0..n {
-        let p = params[k];
-        t = set_point(t, k, p);
+    for (k, p) in params[..n].iter().enumerate() {
+        t = set_point(t, k, *p);
     }
     t
 }

@@ -1,6 +1,6 @@
 -- Four maxima, in the Rust's order.
 use Rattle.shape_densities.specs.Density.{largest_of}
-use Rattle.shape_densities.proofs.density.largest.Goals as goal
+use Rattle.shape_densities.proofs.Candidates.largest.Goals as goal
 
 pub returns : goal.returns
 unfolding largest_of
