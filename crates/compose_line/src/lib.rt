@@ -102,12 +102,11 @@ fn all_words(line: &[u8]) -> Result<Option<Row>, Fault>
     ensures { result ≡ with_words blank_row (words_of line.now) }
 {
     let mut row = None;
-    let mut at = words::word_start(line, 0);
-    // Stays: nothing is counted; `split` would give an empty word between two blanks.
-    while at < line.len() {
-        let e = words::word_end(line, at);
-        row = Some(word(row, &line[at..e])?);
-        at = words::word_start(line, e);
+    for w in line
+        .split(|b| words::is_blank(*b))
+        .filter(|w| !w.is_empty())
+    {
+        row = Some(word(row, w)?);
     }
     Ok(row)
 }
