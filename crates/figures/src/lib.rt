@@ -21,7 +21,7 @@ pub enum Printed {
 
 // n / d to the nearest whole number, an exact half to the even one.
 // Stays: n and d are a quotient's two numbers, and no pair that is kept.
-fn nearest(n: u64, d: u64) -> u64
+pub fn nearest(n: u64, d: u64) -> u64
     requires { 0 < d }
     ensures { result ≡ nearest_of n d }
 {

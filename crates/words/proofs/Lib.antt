@@ -2,3 +2,4 @@
 pub mod Runs
 pub mod Equal
 pub mod Split
+pub mod Parts

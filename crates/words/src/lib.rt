@@ -6,7 +6,7 @@ ghost use Rattle.first_difference.specs.Difference.{same_bytes};
 ghost use Rattle.words.specs.Words.{blank, run, in_word, other};
 
 #[tactic(auto, unfolding(crate::specs::Words::blank))]
-fn is_blank(b: u8) -> bool
+pub fn is_blank(b: u8) -> bool
     ensures { result ≡ blank b }
 {
     b == b' ' || b == b'\t' || b == b'\r' || b == b'\n'
