@@ -2,7 +2,7 @@
 // Stays: the record r is the part of the file itself, so its readers take it with a place `at`, or with the words `out` that they fill.
 #![tactic(auto)]
 
-ghost use Rattle.std.specs.Prelude.{◌≡◌, ◌+◌, ◌*◌, ◌≤◌, ◌<◌, length, get_or};
+ghost use Rattle.std.specs.Prelude.{◌≡◌, ◌+◌, ◌*◌, ◌≤◌, ◌<◌, length, get_or, drop};
 ghost use Rattle.records.specs.Record.{half_at, word_at, record_words, all_zero, fits};
 
 // How a file is laid out: bytes in a record, the kind of record 0, and the words that a point has after its fifteen. Which three
@@ -67,13 +67,13 @@ pub fn word(r: &[u8], at: usize) -> u32
     u32::from_le_bytes([r[at], r[at + 1], r[at + 2], r[at + 3]])
 }
 
-// The words from byte 4 on, as many as `out` holds.
-pub fn words(r: &[u8], out: &mut [u32])
-    requires { 4 + 4 * length out.old ≤ length r.now }
-    ensures { out.new ≡ record_words r.now (length out.old) }
+// The words after the first `skip`, of those from byte 4 on, as many as `out` holds.
+pub fn words(r: &[u8], skip: usize, out: &mut [u32])
+    requires { 4 + 4 * (skip + length out.old) ≤ length r.now }
+    ensures { out.new ≡ drop skip (record_words r.now (skip + length out.old)) }
 {
     for (i, w) in out.iter_mut().enumerate() {
-        *w = word(r, 4 + 4 * i);
+        *w = word(r, 4 + 4 * (skip + i));
     }
 }
 
