@@ -37,6 +37,8 @@ pub fn slots(c: circuit::Circuit) -> IonoState
     slots::ionset(s).unwrap_or(s)
 }
 
+// Stays: that km is 5 at most holds of a circuit that was read and is asked where its words are taken; a `Circuit` may hold any
+// number, which the writer refuses.
 fn circuit_muf(c: circuit::Circuit, s: IonoState) -> Result<MufAnswer, Refusal>
     requires { c.km ≤ 5 }
     ensures { result ≡ muf_of c s }

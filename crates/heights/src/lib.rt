@@ -20,6 +20,7 @@ pub struct Heights {
     pub hp: f32,
     pub ht: f32,
     // the walk's cursor after its last read; 0 where no walk ran
+    // Stays: a number, since the paper gives 0 there.
     pub cursor: usize,
     // the segment on which the true height was found; 50 where nothing was sought
     // Stays: the paper numbers the segments 0 to 49, and says 50 where nothing is sought.

@@ -9,6 +9,7 @@ ghost use Rattle.scalar.specs.Literals.{f1};
 ghost use Rattle.integrands.specs.Integrands.{share_of, integrand_of};
 
 // Each density becomes its share of `fr`, cut at 0.9999; a NaN becomes 0.9999.
+// Stays: three loops of a line each, here and below; a shared one would be handed its line, and be longer.
 pub fn shares(densities: &mut [f32; 40], fr: f32)
     ensures { densities.new ≡ map (λ d. share_of d fr) densities.old }
 {

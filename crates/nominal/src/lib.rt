@@ -88,6 +88,7 @@ fn nominal(points: &[LayerParams], f2m3: &[f32], es: &[EsParams], gcd: f32, gcdk
     let esmuf = lowest_es(es, gcd, gcdkm);
     let z = e_lines::zero_line();
     let layers = [z, z, z, z];
+    // Stays: -1 and 0 are the Rust's, which has no F1 and no mode here.
     MufHour {
         emuf,
         f1muf: -1.0,

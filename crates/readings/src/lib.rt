@@ -7,6 +7,7 @@ ghost use Rattle.readings.specs.Scan.{segment_of, scan_of, value_of, reading_kin
 ghost use Rattle.readings.specs.Cursor.{climb_of, read_on_of};
 
 // The segment from (from0, to0) to (from1, to1): does it hold the probe, and with which number.
+// Stays: the line through two nodes is written out at each place, as in the Rust.
 pub fn segment(from0: f32, from1: f32, to0: f32, to1: f32, probe: f32) -> Option<f32>
     ensures { result ≡ segment_of from0 from1 to0 to1 probe }
 {

@@ -125,6 +125,7 @@ pub fn es_row(a: EsSearch, k: usize, row: EsRow, c: PathNumbers) -> Result<EsSea
 }
 
 // No row controls yet.
+// Stays: 1000 is where the Rust starts, and a row at or above it does not count; so in `nominal`.
 pub fn es_start() -> EsSearch
     ensures { result ≡ start_of }
 {
