@@ -143,7 +143,7 @@ fn regular_lines(
 {
     let x = tangents::tangent_frequencies(l, c.gcdkm);
     let e = e_lines::e_line(t, x.fxe, c.gcdkm, c.amind)?;
-    let f2 = layer_mufs::f2_line(t, l, x, f2d, clat, clck, c)?;
+    let f2 = layer_mufs::f2_line(t, l, x.f2, f2d, clat, clck, c)?;
     let f1 = layer_mufs::f1_line(t, l, x.fx1, e, c)?;
     Ok(RegularLines { e, f1, f2 })
 }
