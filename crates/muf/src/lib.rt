@@ -19,7 +19,7 @@ use slot_curves::Slot;
 use sporadic::{EsRow, EsSearch, Rewrite};
 
 // The lines of the regular layers.
-#[derive(Clone, Copy)]
+#[derive(Clone, Copy, Debug, PartialEq)]
 pub struct RegularLines {
     pub e: LayerMuf,
     pub f1: LayerMuf,
@@ -33,7 +33,7 @@ pub struct Mode {
     pub modmuf: i32,
 }
 
-#[derive(Clone, Copy)]
+#[derive(Clone, Copy, Debug, PartialEq)]
 pub struct MufHour {
     pub emuf: f32,
     pub f1muf: f32,
@@ -53,7 +53,7 @@ pub struct MufHour {
 }
 
 // The hour, and the state as `lecden` of the controlling slot left it.
-#[derive(Clone, Copy)]
+#[derive(Clone, Copy, Debug, PartialEq)]
 pub struct MufAnswer {
     pub hour: MufHour,
     pub state: IonoState,
@@ -149,7 +149,7 @@ fn regular_lines(
 }
 
 // What is written into which row, once the hour is known.
-#[derive(Clone, Copy)]
+#[derive(Clone, Copy, Debug, PartialEq)]
 pub struct AnswerAndRow {
     pub answer: MufAnswer,
     pub rewrite: Option<Rewrite>,
