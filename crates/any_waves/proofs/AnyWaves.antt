@@ -32,7 +32,7 @@ use Rattle.tangents.specs.Tangents.{tangents_of}
 use Rattle.e_lines.specs.Lines.{tenth_of, layer_line_of, read_with, e_heights_with, e_line_by, e_line_with}
 use Rattle.layer_mufs.specs.Lines.{f2_heights_with, bent_of, f2_bent_of, f2_line_by, f2_line_with, f1_found_of, f1_own_by, f1_own_with, f1_line_by, f1_line_with}
 use Rattle.layer_mufs.specs.declared.PathNumbers.{PathNumbers}
-use Rattle.tangents.specs.declared.Tangents.{Tangents}
+use Rattle.tangents.specs.declared.F2Tangent.{F2Tangent}
 use Rattle.e_lines.specs.declared.HeightPair.{HeightPair}
 use Rattle.sporadic.specs.Sporadic.{ray_of, taken_of, hop_by, row_by, es_row_of, start_of, next_by, es_from}
 use Rattle.sporadic.specs.declared.EsRay.{EsRay}
@@ -110,14 +110,14 @@ module _ (w : Waves) (alike : OursWhereSmall w) where
     e-so find t fxe = let h = e_heights_with find t fxe in ap (λ (g : Result HopGeometry Refusal). e_line_by g h fxe) (geometry-so h.hp h.ht true)
 
     -- by the hop count that the geometry comes of
-    f2-by : (o : Result Float Refusal) (l : Slot) (h : HeightPair) (x : Tangents) (f2d : List Float) (clat clck : Float) → hops_of c.gcdkm c.amind h.hp ≡ o → f2_line_over_by (geometry_by o c.gcdkm h.hp h.ht false) w l h x f2d clat clck c ≡ f2_line_by (geometry_by o c.gcdkm h.hp h.ht false) l h x f2d clat clck c
+    f2-by : (o : Result Float Refusal) (l : Slot) (h : HeightPair) (x : F2Tangent) (f2d : List Float) (clat clck : Float) → hops_of c.gcdkm c.amind h.hp ≡ o → f2_line_over_by (geometry_by o c.gcdkm h.hp h.ht false) w l h x f2d clat clck c ≡ f2_line_by (geometry_by o c.gcdkm h.hp h.ht false) l h x f2d clat clck c
     unfolding hop_geometry_of
     f2-by (Ok n) l h x f2d clat clck e =
         let g = hop_geometry_of c.gcdkm n h.hp h.ht false in
         ap (λ (b : Round). f2_bent_of f2d b h.ht x.fx2 n c.ssn clat clck) (bent-so l.fi2 x.fx2 h g (λ hp. small.takeoff h.hp n g.cpsi g.spsi hp false e))
     f2-by (Err r) l h x f2d clat clck e = refl
 
-    f2-so : (find : Finder) (t : IonoState) (l : Slot) (x : Tangents) (f2d : List Float) (clat clck : Float) → f2_line_over w find t l x f2d clat clck c ≡ f2_line_with find t l x f2d clat clck c
+    f2-so : (find : Finder) (t : IonoState) (l : Slot) (x : F2Tangent) (f2d : List Float) (clat clck : Float) → f2_line_over w find t l x f2d clat clck c ≡ f2_line_with find t l x f2d clat clck c
     unfolding f2_line_over f2_line_with geometry_of
     f2-so find t l x f2d clat clck =
         let h = f2_heights_with find t l x in
@@ -159,12 +159,12 @@ module _ (w : Waves) (alike : OursWhereSmall w) where
         let whole : LayerMuf → LayerMuf → LayerMuf → Result RegularLines Refusal = λ e f2 f1. Ok (record { e = e; f1 = f1; f2 = f2 }) in
         let last : LayerMuf → LayerMuf → Result RegularLines Refusal = λ e f2. found_then (f1_line_with find t l x.fx1 e c.gcdkm c.amind) (whole e f2) in
         let lastOver : LayerMuf → LayerMuf → Result RegularLines Refusal = λ e f2. found_then (f1_line_over w find t l x.fx1 e c.gcdkm c.amind) (whole e f2) in
-        let next : LayerMuf → Result RegularLines Refusal = λ e. found_then (f2_line_with find t l x f2d clat clck c) (last e) in
-        let nextOver : LayerMuf → Result RegularLines Refusal = λ e. found_then (f2_line_over w find t l x f2d clat clck c) (lastOver e) in
+        let next : LayerMuf → Result RegularLines Refusal = λ e. found_then (f2_line_with find t l x.f2 f2d clat clck c) (last e) in
+        let nextOver : LayerMuf → Result RegularLines Refusal = λ e. found_then (f2_line_over w find t l x.f2 f2d clat clck c) (lastOver e) in
         ap (λ (a : Result LayerMuf Refusal). found_then a nextOver) (e-so find t x.fxe)
         ∙ then-so (e_line_with find t x.fxe c.gcdkm c.amind) nextOver next
-        (λ (e : LayerMuf). ap (λ (a : Result LayerMuf Refusal). found_then a (lastOver e)) (f2-so find t l x f2d clat clck)
-        ∙ then-so (f2_line_with find t l x f2d clat clck c) (lastOver e) (last e)
+        (λ (e : LayerMuf). ap (λ (a : Result LayerMuf Refusal). found_then a (lastOver e)) (f2-so find t l x.f2 f2d clat clck)
+        ∙ then-so (f2_line_with find t l x.f2 f2d clat clck c) (lastOver e) (last e)
         (λ (f2 : LayerMuf). ap (λ (a : Result LayerMuf Refusal). found_then a (whole e f2)) (f1-so find t l x.fx1 e)))
 
     -- ---- Es

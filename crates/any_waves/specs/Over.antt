@@ -24,7 +24,7 @@ use Rattle.tangents.specs.Tangents.{tangents_of}
 use Rattle.e_lines.specs.Lines.{tenth_of, layer_line_of, read_with, e_heights_with, e_line_by}
 use Rattle.layer_mufs.specs.Lines.{f2_heights_with, f2_bent_of}
 use Rattle.layer_mufs.specs.declared.PathNumbers.{PathNumbers}
-use Rattle.tangents.specs.declared.Tangents.{Tangents}
+use Rattle.tangents.specs.declared.F2Tangent.{F2Tangent}
 use Rattle.e_lines.specs.declared.HeightPair.{HeightPair}
 use Rattle.sporadic.specs.Sporadic.{taken_of, start_of, next_by}
 use Rattle.sporadic.specs.declared.EsRay.{EsRay}
@@ -93,11 +93,11 @@ bent_over w fc fx h g =
 unfoldable pub e_line_over : Waves → Finder → IonoState → Float → Float → Float → Result LayerMuf Refusal
 e_line_over w find t fxe gcdkm amind = let h = e_heights_with find t fxe in e_line_by (geometry_over w gcdkm amind h.hp h.ht true) h fxe
 
-abbrev pub f2_line_over_by : Result HopGeometry Refusal → Waves → Slot → HeightPair → Tangents → List Float → Float → Float → PathNumbers → Result LayerMuf Refusal
+abbrev pub f2_line_over_by : Result HopGeometry Refusal → Waves → Slot → HeightPair → F2Tangent → List Float → Float → Float → PathNumbers → Result LayerMuf Refusal
 f2_line_over_by (Ok g) w l h x f2d clat clck c = f2_bent_of f2d (bent_over w l.fi2 x.fx2 h g) h.ht x.fx2 g.xhops c.ssn clat clck
 f2_line_over_by (Err r) w l h x f2d clat clck c = Err r
 
-unfoldable pub f2_line_over : Waves → Finder → IonoState → Slot → Tangents → List Float → Float → Float → PathNumbers → Result LayerMuf Refusal
+unfoldable pub f2_line_over : Waves → Finder → IonoState → Slot → F2Tangent → List Float → Float → Float → PathNumbers → Result LayerMuf Refusal
 f2_line_over w find t l x f2d clat clck c =
     let h = f2_heights_with find t l x in
     f2_line_over_by (geometry_over w c.gcdkm c.amind h.hp h.ht false) w l h x f2d clat clck c
@@ -126,7 +126,7 @@ unfoldable pub regular_over : Waves → Finder → IonoState → Slot → List F
 regular_over w find t l f2d clat clck c =
     let x = tangents_of l c.gcdkm in
     found_then (e_line_over w find t x.fxe c.gcdkm c.amind)
-    (λ e. found_then (f2_line_over w find t l x f2d clat clck c)
+    (λ e. found_then (f2_line_over w find t l x.f2 f2d clat clck c)
     (λ f2. found_then (f1_line_over w find t l x.fx1 e c.gcdkm c.amind)
     (λ f1. Ok (record { e = e; f1 = f1; f2 = f2 }))))
 

@@ -11,7 +11,7 @@ use hops::{HopGeometry, Ray, Round};
 use layers::{IonoState, LayerMuf};
 use refusal::Refusal;
 use slot_curves::Slot;
-use tangents::Tangents;
+use tangents::F2Tangent;
 
 // The numbers of a circuit: path length in radians and in kilometres, least takeoff angle in
 // degrees, sunspot number.
@@ -31,7 +31,7 @@ pub struct Deviations {
 }
 
 // Parabolic F2 over a parabolic E layer.
-fn parabolic(l: Slot, x: Tangents) -> HeightPair
+fn parabolic(l: Slot, x: F2Tangent) -> HeightPair
     ensures { result ≡ parabolic_of l x }
 {
     let bend = parabolas::bendy_at(l.fi2, l.yi2, x.fx2);
@@ -44,7 +44,7 @@ fn parabolic(l: Slot, x: Tangents) -> HeightPair
 }
 
 // By parabolas only if F1 is missing: the closed form is of E and F2 alone.
-fn f2_heights(t: IonoState, l: Slot, x: Tangents) -> HeightPair
+fn f2_heights(t: IonoState, l: Slot, x: F2Tangent) -> HeightPair
     ensures { result ≡ f2_heights_with gethp_of t l x }
 {
     if layers::profile_only(t) {
@@ -121,7 +121,7 @@ fn f2_bent(
 pub fn f2_line(
     t: IonoState,
     l: Slot,
-    x: Tangents,
+    x: F2Tangent,
     f2d: &[f32],
     clat: f32,
     clck: f32,

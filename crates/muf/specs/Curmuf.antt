@@ -35,7 +35,7 @@ unfoldable pub regular_with : Finder → IonoState → Slot → List Float → F
 regular_with find t l f2d clat clck c =
     let x = tangents_of l c.gcdkm in
     found_then (e_line_with find t x.fxe c.gcdkm c.amind)
-    (λ e. found_then (f2_line_with find t l x f2d clat clck c)
+    (λ e. found_then (f2_line_with find t l x.f2 f2d clat clck c)
     (λ f2. found_then (f1_line_with find t l x.fx1 e c.gcdkm c.amind)
     (λ f1. Ok (record { e = e; f1 = f1; f2 = f2 }))))
 

@@ -19,7 +19,7 @@ use slot_curves::Slot;
 use sporadic::{EsRow, EsSearch, Rewrite};
 
 // The lines of the regular layers.
-#[derive(Clone, Copy)]
+#[derive(Clone, Copy, Debug, PartialEq)]
 pub struct RegularLines {
     pub e: LayerMuf,
     pub f1: LayerMuf,
@@ -33,7 +33,7 @@ pub struct Mode {
     pub modmuf: i32,
 }
 
-#[derive(Clone, Copy)]
+#[derive(Clone, Copy, Debug, PartialEq)]
 pub struct MufHour {
     pub emuf: f32,
     pub f1muf: f32,
@@ -53,7 +53,7 @@ pub struct MufHour {
 }
 
 // The hour, and the state as `lecden` of the controlling slot left it.
-#[derive(Clone, Copy)]
+#[derive(Clone, Copy, Debug, PartialEq)]
 pub struct MufAnswer {
     pub hour: MufHour,
     pub state: IonoState,
@@ -143,13 +143,13 @@ fn regular_lines(
 {
     let x = tangents::tangent_frequencies(l, c.gcdkm);
     let e = e_lines::e_line(t, x.fxe, c.gcdkm, c.amind)?;
-    let f2 = layer_mufs::f2_line(t, l, x, f2d, clat, clck, c)?;
+    let f2 = layer_mufs::f2_line(t, l, x.f2, f2d, clat, clck, c)?;
     let f1 = layer_mufs::f1_line(t, l, x.fx1, e, c)?;
     Ok(RegularLines { e, f1, f2 })
 }
 
 // What is written into which row, once the hour is known.
-#[derive(Clone, Copy)]
+#[derive(Clone, Copy, Debug, PartialEq)]
 pub struct AnswerAndRow {
     pub answer: MufAnswer,
     pub rewrite: Option<Rewrite>,

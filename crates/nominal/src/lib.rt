@@ -16,7 +16,7 @@ fn lowest_e(points: &[LayerParams]) -> f32
 {
     let mut ec = 1000.0;
     for p in points {
-        ec = nominal_factors::lower_e(ec, p.fi[0]);
+        ec = nominal_factors::lower(ec, p.fi[0]);
     }
     ec
 }
@@ -29,7 +29,7 @@ fn lowest_f2(points: &[LayerParams], f2m3: &[f32], flfc: f32) -> f32
     let mut f2muf = 1000.0;
     for (k, p) in points.iter().enumerate() {
         let fmuf = nominal_factors::f2_at(p.fi[2], f2m3[k], flfc);
-        f2muf = nominal_factors::lower_f2(f2muf, fmuf);
+        f2muf = nominal_factors::lower(f2muf, fmuf);
     }
     f2muf
 }
@@ -42,6 +42,8 @@ fn hop(gcdkm: f32, hs: f32) -> f32
 }
 
 // The row's turn: at a probability of reflection of 0.5, so by its median.
+// Stays: gcd and gcdkm, here and below, are the Rust's own two; the MUF's `PathNumbers` has an angle and a
+// sunspot number besides, which `nommuf` is not given.
 fn lower_es(esmuf: f32, row: EsParams, gcd: f32, gcdkm: f32) -> f32
     ensures { result ≡ es_step esmuf row gcd gcdkm }
 {
@@ -52,11 +54,7 @@ fn lower_es(esmuf: f32, row: EsParams, gcd: f32, gcdkm: f32) -> f32
     }
     let hs = row.hs;
     let ray = sporadic::es_ray(hs, hop(gcdkm, hs), gcd);
-    let esd = fs1 * ray.secp;
-    if esmuf > esd {
-        return esd;
-    }
-    esmuf
+    nominal_factors::lower(esmuf, fs1 * ray.secp)
 }
 
 // The lowest MUF of Es over the rows, 1000 where none reflects.

@@ -22,7 +22,7 @@ use Rattle.tangents.specs.Tangents.{tangents_of}
 use Rattle.e_lines.specs.Lines.{read_with, e_heights_with, e_line_by, e_line_with}
 use Rattle.layer_mufs.specs.Lines.{f2_heights_with, bent_of, both_by, deviations_of, f2_bent_by, f2_bent_of, f2_line_by, f2_line_with, f1_own_by, f1_own_with, f1_line_by, f1_line_with}
 use Rattle.layer_mufs.specs.declared.PathNumbers.{PathNumbers}
-use Rattle.tangents.specs.declared.Tangents.{Tangents}
+use Rattle.tangents.specs.declared.F2Tangent.{F2Tangent}
 use Rattle.e_lines.specs.declared.HeightPair.{HeightPair}
 use Rattle.layer_mufs.specs.declared.Deviations.{Deviations}
 use Rattle.controlling_slot.proofs.Small.{controlling-small}
@@ -94,14 +94,14 @@ module _ (P : Refusal → Type 0) (input : P Refusal.MufInput) (hops : P Refusal
   bent-by (Ok sig) b ht fx x p = tt
   bent-by (Err r) b ht fx x p = p
 
-  f2-by : (g : Result HopGeometry Refusal) (l : Slot) (h : HeightPair) (x : Tangents) (f2d : List Float) (clat clck : Float) (c : PathNumbers) → eqb (length f2d) 576 ≡ true → IfErr g P → IfErr (f2_line_by g l h x f2d clat clck c) P
+  f2-by : (g : Result HopGeometry Refusal) (l : Slot) (h : HeightPair) (x : F2Tangent) (f2d : List Float) (clat clck : Float) (c : PathNumbers) → eqb (length f2d) 576 ≡ true → IfErr g P → IfErr (f2_line_by g l h x f2d clat clck c) P
   unfolding f2_bent_of
   f2-by (Ok g) l h x f2d clat clck c e p =
       let b = bent_of l.fi2 x.fx2 h g in
       bent-by (deviations_of f2d b.fob c.ssn clat clck) b h.ht x.fx2 g.xhops (deviations-in f2d b.fob c.ssn clat clck e)
   f2-by (Err r) l h x f2d clat clck c e p = p
 
-  f2-in : (find : Finder) (t : IonoState) (l : Slot) (x : Tangents) (f2d : List Float) (clat clck : Float) (c : PathNumbers) → eqb (length f2d) 576 ≡ true → IfErr (f2_line_with find t l x f2d clat clck c) P
+  f2-in : (find : Finder) (t : IonoState) (l : Slot) (x : F2Tangent) (f2d : List Float) (clat clck : Float) (c : PathNumbers) → eqb (length f2d) 576 ≡ true → IfErr (f2_line_with find t l x f2d clat clck c) P
   unfolding f2_line_with
   f2-in find t l x f2d clat clck c e =
       let h = f2_heights_with find t l x in
@@ -129,7 +129,7 @@ module _ (P : Refusal → Type 0) (input : P Refusal.MufInput) (hops : P Refusal
   regular-in find t l f2d clat clck c h =
       let x = tangents_of l c.gcdkm in
       then-in (e_line_with find t x.fxe c.gcdkm c.amind) _ (e-in find t x.fxe c.gcdkm c.amind)
-      (λ (e : LayerMuf). then-in (f2_line_with find t l x f2d clat clck c) _ (f2-in find t l x f2d clat clck c h)
+      (λ (e : LayerMuf). then-in (f2_line_with find t l x.f2 f2d clat clck c) _ (f2-in find t l x.f2 f2d clat clck c h)
       (λ (f2 : LayerMuf). then-in (f1_line_with find t l x.fx1 e c.gcdkm c.amind) _ (f1-in find t l x.fx1 e c.gcdkm c.amind) (λ (f1 : LayerMuf). tt)))
 
   -- ---- Es

@@ -32,9 +32,9 @@ ray_of hs hop gcd =
 -- esmuf - esd > 0: row k has the lowest MUF so far. The hop count is kept either way.
 abbrev pub taken_by : Bool → EsSearch → ℕ → EsRow → EsRay → Float → Float → EsSearch
 taken_by true a k row ray hop esd =
-    record { esmuf = esd; ksx = k; tdelx = ray.tdel; secpx = ray.secp; hop = hop; fs0 = row.fs0; fs1 = row.fs1; fs2 = row.fs2; hs = row.hs }
+    record { esmuf = esd; ksx = k; ray = ray; hop = hop; row = row }
 taken_by false a k row ray hop esd =
-    record { esmuf = a.esmuf; ksx = a.ksx; tdelx = a.tdelx; secpx = a.secpx; hop = hop; fs0 = a.fs0; fs1 = a.fs1; fs2 = a.fs2; hs = a.hs }
+    record { esmuf = a.esmuf; ksx = a.ksx; ray = a.ray; hop = hop; row = a.row }
 
 unfoldable pub taken_of : EsSearch → ℕ → EsRow → EsRay → Float → EsSearch
 taken_of a k row ray hop = let esd = row.fs1 *f ray.secp in taken_by (a.esmuf -f esd >f f0) a k row ray hop esd
@@ -51,12 +51,19 @@ row_by false a k row c = hop_by (hops_of c.gcdkm c.amind row.hs) a k row c
 unfoldable pub es_row_of : EsSearch → ℕ → EsRow → PathNumbers → Result EsSearch Refusal
 es_row_of a k row c = row_by (row.fs1 ≤f f0) a k row c
 
+-- no row, no ray
+abbrev pub no_row : EsRow
+no_row = record { fs0 = f0; fs1 = f0; fs2 = f0; hs = f0 }
+
+abbrev pub no_ray : EsRay
+no_ray = record { tdel = f0; secp = f0 }
+
 unfoldable pub start_of : EsSearch
-start_of = record { esmuf = f1000; ksx = 0; tdelx = f0; secpx = f0; hop = f0; fs0 = f0; fs1 = f0; fs2 = f0; hs = f0 }
+start_of = record { esmuf = f1000; ksx = 0; ray = no_ray; hop = f0; row = no_row }
 
 -- the search, of +0 beside a refusal
 abbrev pub no_search : EsSearch
-no_search = record { esmuf = f0; ksx = 0; tdelx = f0; secpx = f0; hop = f0; fs0 = f0; fs1 = f0; fs2 = f0; hs = f0 }
+no_search = record { esmuf = f0; ksx = 0; ray = no_ray; hop = f0; row = no_row }
 
 abbrev pub step_value : Result EsSearch Refusal → EsSearch
 step_value (Ok a) = a
@@ -91,15 +98,15 @@ sigl4_of xes sigb sigu4 = let zdif = f0_1 in sigl4_by (xes +f zdif <f f0) (xes -
 -- fe is the Rust's s.fi[ks][0]; `rewrite` is what it writes to es[ksx].fs[0]
 unfoldable pub es_found_of : EsSearch → Float → EsLine
 es_found_of a fe =
-    let sigu4 = (a.fs2 -f a.fs1) /f f1_28 in
-    let sigb = (a.fs1 -f a.fs0) /f f1_28 in
+    let sigu4 = (a.row.fs2 -f a.row.fs1) /f f1_28 in
+    let sigb = (a.row.fs1 -f a.row.fs0) /f f1_28 in
     let fzero = f0_1 in
-    let sigz = (a.fs1 -f fzero) /f f3_1 in
-    let xes = fe -f a.fs0 in
+    let sigz = (a.row.fs1 -f fzero) /f f3_1 in
+    let xes = fe -f a.row.fs0 in
     let sigl4 = min_of (sigl4_of xes sigb sigu4) sigz in
     record {
-      line = layer_line_of (sigl4 *f a.secpx) (sigu4 *f a.secpx) (atan_of a.tdelx) a.hs a.hs a.fs1 a.hop a.esmuf;
-      rewrite = Some (record { ksx = a.ksx; lower = a.fs1 -f f1_28 *f sigl4 });
+      line = layer_line_of (sigl4 *f a.ray.secp) (sigu4 *f a.ray.secp) (atan_of a.ray.tdel) a.row.hs a.row.hs a.row.fs1 a.hop a.esmuf;
+      rewrite = Some (record { ksx = a.ksx; lower = a.row.fs1 -f f1_28 *f sigl4 });
     }
 
 -- esmuf - 1000 >= 0, the start's MUF: no row controls

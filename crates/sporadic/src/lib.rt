@@ -46,13 +46,9 @@ pub struct EsRay {
 pub struct EsSearch {
     pub esmuf: f32,
     pub ksx: usize,
-    pub tdelx: f32,
-    pub secpx: f32,
+    pub ray: EsRay,
     pub hop: f32,
-    pub fs0: f32,
-    pub fs1: f32,
-    pub fs2: f32,
-    pub hs: f32,
+    pub row: EsRow,
 }
 
 // The row whose lower decile is written anew, and that decile.
@@ -63,7 +59,7 @@ pub struct Rewrite {
 }
 
 // The Es line, and what is written into its row if one controls.
-#[derive(Clone, Copy)]
+#[derive(Clone, Copy, Debug, PartialEq)]
 pub struct EsLine {
     pub line: LayerMuf,
     pub rewrite: Option<Rewrite>,
@@ -89,26 +85,12 @@ fn es_taken(a: EsSearch, k: usize, row: EsRow, ray: EsRay, hop: f32) -> EsSearch
         return EsSearch {
             esmuf: esd,
             ksx: k,
-            tdelx: ray.tdel,
-            secpx: ray.secp,
+            ray,
             hop,
-            fs0: row.fs0,
-            fs1: row.fs1,
-            fs2: row.fs2,
-            hs: row.hs,
+            row,
         };
     }
-    EsSearch {
-        esmuf: a.esmuf,
-        ksx: a.ksx,
-        tdelx: a.tdelx,
-        secpx: a.secpx,
-        hop,
-        fs0: a.fs0,
-        fs1: a.fs1,
-        fs2: a.fs2,
-        hs: a.hs,
-    }
+    EsSearch { hop, ..a }
 }
 
 // One row's turn: passed over where its median is at most 0.
@@ -132,13 +114,17 @@ pub fn es_start() -> EsSearch
     EsSearch {
         esmuf: 1000.0,
         ksx: 0,
-        tdelx: 0.0,
-        secpx: 0.0,
+        ray: EsRay {
+            tdel: 0.0,
+            secp: 0.0,
+        },
         hop: 0.0,
-        fs0: 0.0,
-        fs1: 0.0,
-        fs2: 0.0,
-        hs: 0.0,
+        row: EsRow {
+            fs0: 0.0,
+            fs1: 0.0,
+            fs2: 0.0,
+            hs: 0.0,
+        },
     }
 }
 
@@ -176,23 +162,16 @@ fn lower_spread(xes: f32, sigb: f32, sigu4: f32) -> f32
 fn es_found(a: EsSearch, fe: f32) -> EsLine
     ensures { result ≡ es_found_of a fe }
 {
-    let sigu4 = (a.fs2 - a.fs1) / 1.28;
-    let sigb = (a.fs1 - a.fs0) / 1.28;
-    let sigz = (a.fs1 - 0.1) / 3.1;
-    let xes = fe - a.fs0;
+    let EsRow { fs0, fs1, fs2, hs } = a.row;
+    let EsRay { tdel, secp } = a.ray;
+    let sigu4 = (fs2 - fs1) / 1.28;
+    let sigb = (fs1 - fs0) / 1.28;
+    let sigz = (fs1 - 0.1) / 3.1;
+    let xes = fe - fs0;
     let sigl4 = scalar::min(lower_spread(xes, sigb, sigu4), sigz);
-    let lower = a.fs1 - 1.28 * sigl4;
-    let del = arcs::atan(a.tdelx);
-    let line = e_lines::line(
-        sigl4 * a.secpx,
-        sigu4 * a.secpx,
-        del,
-        a.hs,
-        a.hs,
-        a.fs1,
-        a.hop,
-        a.esmuf,
-    );
+    let lower = fs1 - 1.28 * sigl4;
+    let del = arcs::atan(tdel);
+    let line = e_lines::line(sigl4 * secp, sigu4 * secp, del, hs, hs, fs1, a.hop, a.esmuf);
     EsLine {
         line,
         rewrite: Some(Rewrite { ksx: a.ksx, lower }),

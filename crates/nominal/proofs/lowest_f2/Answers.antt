@@ -9,4 +9,4 @@ loop-k-init c = refl
 
 pub loop-k-preserved : goal.loop-k-preserved
 unfolding f2muf_of
-loop-k-preserved c = rw (add-one c.loop-k.k, c.lower_f2-f2muf.ensures, c.f2_at-fmuf.ensures, c.loop-k.invariant)
+loop-k-preserved c = rw (add-one c.loop-k.k, c.lower-f2muf.ensures.f2, c.f2_at-fmuf.ensures, c.loop-k.invariant)
