@@ -119,11 +119,10 @@ unfolding begun
 row_first (Some k) = record { each = each-zero (2 ^ 32) 15 (omega arith); all = refl }
 row_first None = tt
 
-row_field : (r : Row) (p : ℕ) → Fifteen r → Of Fifteen (field_word r p)
+row_field : (r : Row) (p : Option ℕ) → Fifteen r → Of Fifteen (field_word r p)
 unfolding field_word named
-row_field r p s =
-    known Fifteen (ltb p 15) _ _
-    (λ e. known Fifteen (get_or r.missing p false) _ _ (λ e. record { each = s.each; all = s.all }) (λ e. tt)) (λ e. tt)
+row_field r None s = tt
+row_field r (Some p) s = known Fifteen (get_or r.missing p false) _ _ (λ e. record { each = s.each; all = s.all }) (λ e. tt)
 
 row_word : (r : Option Row) (w : List ℕ) → OfSome Fifteen r → Of Fifteen (with_word r w)
 unfolding with_word

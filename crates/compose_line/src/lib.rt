@@ -133,6 +133,6 @@ fn ended(row: Option<Row>) -> Result<Option<Row>, Fault>
 pub fn read(line: &[u8]) -> Result<Option<Row>, Fault>
     ensures { result ≡ row_of line.now }
 {
-    let e = words::until(line, 0, b'#');
+    let e = words::until(line, b'#');
     ended(all_words(&line[..e])?)
 }

@@ -3,8 +3,7 @@
 
 mod given;
 
-ghost use Rattle.std.specs.Prelude.{◌≡◌, ◌+◌, ◌≤◌, ◌<◌, min, length, drop};
-ghost use Rattle.words.specs.Words.{run, other};
+ghost use Rattle.std.specs.Prelude.{◌≡◌};
 ghost use Rattle.compose_text.specs.Draft.{no_draft, is_shape, with_path, with_point, with_deciles, with_row, with_line, at_line, is_whole, ended_draft, composed_of};
 
 use circuit::Circuit;
@@ -29,51 +28,41 @@ fn is_shape(b: u32) -> bool
 fn with_path(draft: Option<Draft>, values: [u32; 15]) -> Result<Draft, Fault>
     ensures { result ≡ with_path draft values }
 {
-    match draft {
-        Some(_) => Err(Fault::SecondPath),
-        None => {
-            if is_shape(values[0]) {
-                return Ok(given::path(values));
-            }
-            Err(Fault::BadShape)
-        }
+    if draft.is_some() {
+        return Err(Fault::SecondPath);
     }
+    if !is_shape(values[0]) {
+        return Err(Fault::BadShape);
+    }
+    Ok(given::path(values))
 }
 
 #[tactic(auto, unfolding(crate::specs::Draft::with_point))]
 fn with_point(draft: Option<Draft>, values: [u32; 15]) -> Result<Draft, Fault>
     ensures { result ≡ with_point draft values }
 {
-    match draft {
-        None => Err(Fault::NoPathYet),
-        Some(d) => {
-            if d.twelves != 0 {
-                return Err(Fault::PointTooLate);
-            }
-            if d.circuit.km < 5 {
-                return Ok(given::point(d, values));
-            }
-            Err(Fault::TooManyPoints)
-        }
+    let d = draft.ok_or(Fault::NoPathYet)?;
+    if d.twelves != 0 {
+        return Err(Fault::PointTooLate);
     }
+    if d.circuit.km >= 5 {
+        return Err(Fault::TooManyPoints);
+    }
+    Ok(given::point(d, values))
 }
 
 #[tactic(auto, unfolding(crate::specs::Draft::with_deciles))]
 fn with_deciles(draft: Option<Draft>, values: [u32; 15]) -> Result<Draft, Fault>
     ensures { result ≡ with_deciles draft values }
 {
-    match draft {
-        None => Err(Fault::NoPointYet),
-        Some(d) => {
-            if d.circuit.km == 0 {
-                return Err(Fault::NoPointYet);
-            }
-            if d.twelves < 48 {
-                return Ok(given::deciles(d, values));
-            }
-            Err(Fault::TooManyDeciles)
-        }
+    let d = draft.ok_or(Fault::NoPointYet)?;
+    if d.circuit.km == 0 {
+        return Err(Fault::NoPointYet);
     }
+    if d.twelves >= 48 {
+        return Err(Fault::TooManyDeciles);
+    }
+    Ok(given::deciles(d, values))
 }
 
 #[tactic(auto, unfolding(crate::specs::Draft::with_row))]
@@ -109,18 +98,14 @@ fn is_whole(twelves: usize) -> bool
 fn ended(draft: Option<Draft>) -> Result<Circuit, Fault>
     ensures { result ≡ ended_draft draft }
 {
-    match draft {
-        None => Err(Fault::NoPath),
-        Some(d) => {
-            if d.circuit.km == 0 {
-                return Err(Fault::NoPoint);
-            }
-            if is_whole(d.twelves) {
-                return Ok(d.circuit);
-            }
-            Err(Fault::TooFewDeciles)
-        }
+    let d = draft.ok_or(Fault::NoPath)?;
+    if d.circuit.km == 0 {
+        return Err(Fault::NoPoint);
     }
+    if !is_whole(d.twelves) {
+        return Err(Fault::TooFewDeciles);
+    }
+    Ok(d.circuit)
 }
 
 // What is wrong, and in which line.
@@ -130,28 +115,14 @@ fn at_line<T>(line: usize, answer: Result<T, Fault>) -> Result<T, Wrong>
     answer.map_err(|fault| Wrong { line, fault })
 }
 
-// Past the line feed that ends the line, or the end.
-// Stays: `text` and `at`, the place where a line starts in it.
-fn line_end(text: &[u8], at: usize) -> usize
-    requires { at < length text.now }
-    ensures { (result ≤ length text.now) × (at < result) × (result ≡ min (at + run (other 10) (drop at text.now) + 1) (length text.now)) }
-{
-    let e = words::until(text, at, b'\n');
-    (e + 1).min(text.len())
-}
-
 pub fn compose(text: &[u8]) -> Result<Circuit, Wrong>
     ensures { result ≡ composed_of text.now }
 {
     let mut draft = None;
     let mut line = 1;
-    let mut at = 0;
-    // Stays: each turn goes to the end of a line, its line feed in it; `split` has lines without, and one after the last feed.
-    while at < text.len() {
-        let e = line_end(text, at);
-        draft = at_line(line, with_line(draft, &text[at..e]))?;
+    for words in text.split_inclusive(|b| *b == b'\n') {
+        draft = at_line(line, with_line(draft, words))?;
         line += 1;
-        at = e;
     }
     at_line(line, ended(draft))
 }

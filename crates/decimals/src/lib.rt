@@ -55,7 +55,7 @@ fn parts(minus: bool, whole: &[u8], rest: &[u8]) -> Option<u32>
 fn unsigned(minus: bool, u: &[u8]) -> Option<u32>
     ensures { result ≡ unsigned_of minus u.now }
 {
-    let p = words::until(u, 0, b'.');
+    let p = words::until(u, b'.');
     let e = (p + 1).min(u.len());
     parts(minus, &u[..p], &u[e..])
 }
