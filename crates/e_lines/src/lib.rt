@@ -98,6 +98,7 @@ fn e_heights(t: IonoState, fxe: f32) -> HeightPair
     }
 }
 
+// Stays: heights and geometry come one after the other, here and for the lines of F2 and F1, and a refused geometry leaves none.
 fn e_found(g: HopGeometry, h: HeightPair, fxe: f32) -> LayerMuf
     ensures { result ≡ e_found_of g h fxe }
 {

@@ -23,6 +23,7 @@ pub struct HopGeometry {
 
 // What the rounds of one layer hold to: critical frequency, tangent frequency, heights, and the
 // geometry of the first pass.
+// Stays: the seven numbers that a round reads, out of the eleven of a geometry and its heights, by the Rust's names.
 #[derive(Clone, Copy, Debug, PartialEq)]
 pub struct Ray {
     pub fc: f32,
