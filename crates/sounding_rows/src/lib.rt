@@ -1,11 +1,11 @@
 // The heights of the thirty rows, and the segments of the true ones. With a negative `iedp` all are `gethp`'s. Otherwise the ten E
 // rows are a table's; the others have true heights by `xlin`, and virtual ones by parabolas, or by
 // `gethp` if there is an F1.
-// Stays: s, k and fv are handed on as in the Rust, and `rises` beside them: the heights are tested once
+// Stays: s, k and fv are handed on as in the Rust, s with what is said of its heights: they are tested once
 // for all rows.
 #![tactic(auto)]
 
-ghost use Rattle.std.specs.Prelude.{◌≡◌, ◌+◌, ◌*◌, ◌<◌, Float, false, replicate};
+ghost use Rattle.std.specs.Prelude.{◌≡◌, ◌+◌, ◌*◌, ◌<◌, Float, false, true, replicate};
 ghost use Rattle.scalar.specs.F32.{◌>f◌, at};
 ghost use Rattle.scalar.specs.Literals.{f0};
 ghost use Rattle.heights.specs.Gethp.{gethp_of};
@@ -28,27 +28,36 @@ const HPE: [f32; 30] = [
     0.0, 0.0, 0.0, 0.0, 0.0, 0.0, 0.0, 0.0, 0.0, 0.0, 0.0, 0.0, 0.0, 0.0, 0.0, 0.0,
 ];
 
-// The two columns of heights, and that of the segments.
+// A state, and what the rising test says of its heights.
 #[derive(Clone, Copy, Debug, PartialEq)]
-pub struct Columns {
-    pub hprim: [f32; 30],
-    pub htrue: [f32; 30],
-    pub segment: [u32; 30],
+pub struct Tested {
+    pub s: IonoState,
+    pub rises: bool,
+    pub ghost told: { rises ≡ rises_of s.htr },
+}
+
+fn make(fv: [f32; 30], hprim: [f32; 30], htrue: [f32; 30], segment: [u32; 30]) -> Ionogram
+    ensures { result ≡ made fv hprim htrue segment }
+{
+    Ionogram {
+        fvert: fv,
+        hprim,
+        htrue,
+        afac: [0.0; 30],
+        segment,
+    }
 }
 
 // All thirty rows off the profile.
-fn by_profile(s: IonoState, rises: bool, fv: [f32; 30]) -> Columns
-    requires { rises ≡ rises_of s.htr }
-    ensures { (result.hprim ≡ rows_of (λ f. (gethp_of s f).hp) fv 0 (replicate 30 f0) 30)
-        × (result.htrue ≡ rows_of (λ f. (gethp_of s f).ht) fv 0 (replicate 30 f0) 30)
-        × (result.segment ≡ rows_of (λ f. (gethp_of s f).segment) fv 0 (replicate 30 0) 30) }
+fn by_profile(t: Tested, fv: [f32; 30]) -> Ionogram
+    ensures { result ≡ rows_by true gethp_of t.s 0 fv }
 {
     let p = Profile {
-        htr: &s.htr,
-        fnsq: &s.fnsq,
-        rises,
+        htr: &t.s.htr,
+        fnsq: &t.s.fnsq,
+        rises: t.rises,
     };
-    let exact = s.exact_virtual_height;
+    let exact = t.s.exact_virtual_height;
     let mut hprim = [0.0; 30];
     let mut htrue = [0.0; 30];
     let mut segment = [0; 30];
@@ -59,11 +68,7 @@ fn by_profile(s: IonoState, rises: bool, fv: [f32; 30]) -> Columns
         htrue[i] = h.ht;
         segment[i] = h.segment;
     }
-    Columns {
-        hprim,
-        htrue,
-        segment,
-    }
+    make(fv, hprim, htrue, segment)
 }
 
 fn true_by_profile(s: IonoState, f: f32) -> Found
@@ -119,51 +124,41 @@ fn rows_from_ten<F: Fn(f32) -> f32>(start: [f32; 30], fv: [f32; 30], row: F) -> 
 }
 
 // With an F1 off the profile, since the closed form of E and F2 leaves it out.
-fn virtual_rows(s: IonoState, k: usize, rises: bool, fv: [f32; 30]) -> [f32; 30]
-    requires { (k < 3) × (rises ≡ rises_of s.htr) }
-    ensures { result ≡ rows_of (λ f. virtual_by (at s.fi (3 * k + 1) >f f0) gethp_of s k f) fv 10 Rows.HPE 20 }
+fn virtual_rows(t: Tested, k: usize, fv: [f32; 30]) -> [f32; 30]
+    requires { k < 3 }
+    ensures { result ≡ rows_of (λ f. virtual_by (at t.s.fi (3 * k + 1) >f f0) gethp_of t.s k f) fv 10 Rows.HPE 20 }
 {
-    if s.fi[3 * k + 1] > 0.0 {
+    if t.s.fi[3 * k + 1] > 0.0 {
         let p = Profile {
-            htr: &s.htr,
-            fnsq: &s.fnsq,
-            rises,
+            htr: &t.s.htr,
+            fnsq: &t.s.fnsq,
+            rises: t.rises,
         };
-        let exact = s.exact_virtual_height;
+        let exact = t.s.exact_virtual_height;
         return rows_from_ten(HPE, fv, |f| heights::gethp_read(p, exact, f).hp);
     }
-    rows_from_ten(HPE, fv, |f| virtual_by_parabola(s, k, f))
-}
-
-fn make(fv: [f32; 30], hprim: [f32; 30], htrue: [f32; 30], segment: [u32; 30]) -> Ionogram
-    ensures { result ≡ made fv hprim htrue segment }
-{
-    Ionogram {
-        fvert: fv,
-        hprim,
-        htrue,
-        afac: [0.0; 30],
-        segment,
-    }
+    rows_from_ten(HPE, fv, |f| virtual_by_parabola(t.s, k, f))
 }
 
 // Where `iedp` is not negative.
-fn by_table(s: IonoState, k: usize, rises: bool, fv: [f32; 30]) -> Ionogram
-    requires { (k < 3) × (rises ≡ rises_of s.htr) }
-    ensures { result ≡ rows_by false gethp_of s k fv }
+fn by_table(t: Tested, k: usize, fv: [f32; 30]) -> Ionogram
+    requires { k < 3 }
+    ensures { result ≡ rows_by false gethp_of t.s k fv }
 {
-    let t = true_rows(s, fv);
-    make(fv, virtual_rows(s, k, rises, fv), t.htrue, t.segment)
+    let columns = true_rows(t.s, fv);
+    make(fv, virtual_rows(t, k, fv), columns.htrue, columns.segment)
 }
 
 pub fn rows(s: IonoState, k: usize, fv: [f32; 30]) -> Ionogram
     requires { k < 3 }
     ensures { result ≡ rows_with gethp_of s k fv }
 {
-    let rises = profile::rises_throughout(&s.htr);
+    let t = Tested {
+        s,
+        rises: profile::rises_throughout(&s.htr),
+    };
     if layers::profile_only(s) {
-        let c = by_profile(s, rises, fv);
-        return make(fv, c.hprim, c.htrue, c.segment);
+        return by_profile(t, fv);
     }
-    by_table(s, k, rises, fv)
+    by_table(t, k, fv)
 }
