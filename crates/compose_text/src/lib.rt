@@ -23,7 +23,8 @@ fn is_shape(b: u32) -> bool
     b == 0 || b == 0x3f80_0000
 }
 
-// Stays: a draft and a line's `values`, which three kinds of line test in orders of their own.
+// Stays: `draft` and `values` travel together through the three kinds of line, which test them in orders of their own; a record of
+// both would be made for one call and be no plainer.
 #[tactic(auto, unfolding(crate::specs::Draft::with_path))]
 fn with_path(draft: Option<Draft>, values: [u32; 15]) -> Result<Draft, Fault>
     ensures { result ≡ with_path draft values }

@@ -1,5 +1,5 @@
 // What `compose` prints of a text with each thing that can be wrong. The stored output has the texts of the definition.
-// Stays: functions of our own and no `Display` that put a text on a page, for the reason in crate `lines`; loops that only count how often a line is put.
+// Stays: functions of our own and no `Display`, for the reason in crate `lines`; loops that only count how often a line is put.
 #![tactic(auto)]
 
 use lines::Page;

@@ -38,12 +38,13 @@ fn digit(n: u64, k: usize) -> u8
 }
 
 // The last k digits of n, zeros in front too.
+// Stays: a loop over the digits' places, from the first digit down; each is worked out from n, and no list of them is kept.
 fn put_digits<const N: usize>(page: &mut Page<N>, k: usize, n: u64)
     requires { k ≤ 9 }
     ensures { page.new ≡ with_text N page.old (last_digits 10 k n) }
 {
-    for i in 0..k {
-        page.put_byte(digit(n, k - 1 - i));
+    for i in (0..k).rev() {
+        page.put_byte(digit(n, i));
     }
 }
 
