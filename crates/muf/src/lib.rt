@@ -33,7 +33,7 @@ pub struct Mode {
     pub modmuf: i32,
 }
 
-#[derive(Clone, Copy)]
+#[derive(Clone, Copy, Debug, PartialEq)]
 pub struct MufHour {
     pub emuf: f32,
     pub f1muf: f32,
