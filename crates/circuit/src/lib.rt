@@ -18,7 +18,8 @@ use refusal::Refusal;
 
 // A point is fifteen words: fi, yi, hi and Es fs, three each, hs, clat, clck. The words past the km points are no part of the
 // circuit: the reader leaves them zero, the writer does not look at them.
-// Stays: `shape` is a number, as `km` is, since a caller may hand any to the writer, which refuses it by number.
+// Stays: `shape` is a number, as `km` is: callers in C hand any to the writer, which refuses what is none by its number. The words
+// are arrays beside their counts, as the file and callers in C have them, in fixed memory.
 #[derive(Clone, Copy, Debug, PartialEq, Eq)]
 pub struct Circuit {
     pub km: usize,
@@ -55,7 +56,7 @@ pub fn has_deciles(c: Circuit) -> bool
 }
 
 // Word j of point i, as the number whose bits it is.
-// Stays: i and j count points and words of a point, as in the definition.
+// Stays: i and j are the definition's two numbers; a record of them, made for one call, is no plainer.
 pub fn point_number(points: &[u32; 75], i: usize, j: usize) -> f32
     requires { (i < 5) × (j < 15) }
     ensures { result ≡ point_number points.now i j }

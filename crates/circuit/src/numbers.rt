@@ -18,7 +18,7 @@ pub fn all_zero(s: &[u32]) -> bool
 }
 
 // Of each record of a list the `width` words after its first `skip`, one record after the other, and zeros after them.
-// Stays: which records, which words of each, and which part of the file a record is, are three choices of the caller's.
+// Stays: a caller states its records, the two numbers, and how a record is found; a record of these, made for one call, is no plainer.
 pub fn numbers_of<const N: usize, F: Fn(&[u8], usize) -> &[u8] + Copy>(
     file: &[u8],
     records: &[usize],
@@ -60,7 +60,8 @@ fn joined(head: &[u8], points: [u32; 75], deciles: [u32; 576]) -> Circuit
 }
 
 // The circuit of a file along its chain c, each record by the part of the file that is its own.
-// Stays: the file and its chain c, since the chain of a file is numbers alone, which others show and follow without it.
+// Stays: the file beside its chain c, which is numbers alone, copied and shown without it; a record of both, made for this one
+// call, is no plainer.
 pub fn read_along<F: Fn(&[u8], usize) -> &[u8] + Copy>(file: &[u8], c: Chain, part: F) -> Circuit
     requires { (o : Form) × Fit o × (chain_of o file.now ≡ Ok c) × Parts (F.pre part) (F.post part) o }
     ensures { (o : Form) → Fit o → chain_of o file.now ≡ Ok c → Parts (F.pre part) (F.post part) o → result ≡ circuit_of o file.now c }

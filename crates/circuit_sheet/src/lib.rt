@@ -19,8 +19,10 @@ pub struct SlotRows {
 
 // The rows of a slot that is not there are +0, and it has no marks.
 // Stays: a count beside three slots, since memory is fixed and the count is the state's `kfx`, by which
-// the Rust goes over them.
-#[derive(Clone, Copy)]
+// the Rust goes over them. That it is at most three holds of the sheet of any file; those who print a
+// sheet ask for it, and it is no ghost field: `answered_of` makes a sheet of any state, and would have
+// to be handed a proof of it, which is no plainer to read.
+#[derive(Clone, Copy, Debug, PartialEq)]
 pub struct Sheet {
     pub hour: MufHour,
     pub slots: usize,
@@ -63,7 +65,9 @@ fn no_slot() -> SlotRows
     }
 }
 
-// The rows and marks of slot k, with cells of its own. Stays: s, k and nang go on to the slot sheet.
+// The rows and marks of slot k, with cells of its own.
+// Stays: s, k and nang are handed on to the slot sheet, which has them one by one as the Rust's calls do; a record of them, made
+// here and taken apart there, is no plainer.
 fn slot_rows(s: IonoState, k: usize, nang: usize, lines: [LayerMuf; 4]) -> SlotRows
     ensures { result ≡ slot_rows_of s k nang lines }
 {

@@ -1,6 +1,7 @@
 // What `sheet` prints of files of one to five points and of both shapes, of every refusal that a file can
 // meet, of NaN, and at the edges of the `call` field. The stored output is what the paper and the Rust say.
-// Stays: a file f and its record n, since a trial changes one record of a file at a time.
+// Stays: a file f and its record n, since a trial changes one record of a file at a time. That n is below 64 is asked: a checked
+// place is no plainer, and would print another trial where the number is wrong.
 #![tactic(auto)]
 
 ghost use Rattle.std.specs.Prelude.{◌+◌, ◌<◌, ◌≤◌};
