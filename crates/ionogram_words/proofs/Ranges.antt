@@ -9,7 +9,8 @@ use Rattle.scalar.specs.F32.{◌-f◌, ◌<f◌, ◌>f◌, ◌≥f◌, at}
 use Rattle.scalar.specs.Literals.{f0, f0_01, f8_5, f10}
 use Rattle.scalar.specs.Scalar.{abs_of}
 use Rattle.layers.specs.declared.IonoState.{IonoState}
-use Rattle.scan_angles.specs.Angles.{ANG, NANGX, distance_step_of, raised_by, raised_from, angle_count_by, angle_count_of, scan_by, sang_of, scan_value}
+use Rattle.scan_angles.specs.Angles.{ANG, NANGX, distance_step_of, raised_by, raised_from, angle_count_by, angle_count_of, scan_by, sang_of}
+use Rattle.answer_words.specs.Words.{number_in}
 use Rattle.selmod.specs.Selmod.{slot_if, selmod_of}
 use Rattle.scan_angles.proofs.Counts.{step_range, nangx-range}
 
@@ -31,11 +32,11 @@ count-range : (amind : Float) (iang : ℕ) → iang ≤ 40 → angle_count_of am
 unfolding angle_count_of
 count-range amind iang h = count_by (amind >f f0) (at ANG (iang - 1) -f f10 -f amind <f f0) amind iang h
 
-scan-by : (b : Bool) (amind : Float) (id : ℕ) → id ≤ 8 → scan_value (scan_by b amind id) ≤ 40
+scan-by : (b : Bool) (amind : Float) (id : ℕ) → id ≤ 8 → number_in (scan_by b amind id) ≤ 40
 scan-by true amind id h = omega arith
 scan-by false amind id h = count-range amind (get_or NANGX (id - 1) 0) (nangx-range (id - 1) (omega arith)).1
 
-pub angles-range : (gcdkm amind : Float) → scan_value (sang_of gcdkm amind) ≤ 40
+pub angles-range : (gcdkm amind : Float) → number_in (sang_of gcdkm amind) ≤ 40
 unfolding sang_of
 angles-range gcdkm amind = scan-by (eqb (distance_step_of gcdkm) 0) amind (distance_step_of gcdkm) (step_range gcdkm)
 

@@ -11,7 +11,8 @@ use lib.ListN.{length}
 use Rattle.records.specs.Record.{all_zero}
 use Rattle.records.specs.declared.Form.{Form}
 use Rattle.circuit.specs.declared.Circuit.{Circuit}
-use Rattle.circuit_write.specs.Written.{decile_records, size_of, good_of, write_answer_by, write_answer_of, length_in}
+use Rattle.circuit_write.specs.Written.{decile_records, size_of, good_of, write_answer_by, write_answer_of}
+use Rattle.answer_words.specs.Words.{number_in}
 
 few : (b : Bool) (km : ℕ) → km ≤ 5 → 1 + km + decile_records b ≤ 54
 few true km h = omega arith
@@ -26,11 +27,11 @@ middle true false c e = e
 middle false true c e = refl
 middle false false c e = e
 
-short-by : (o : Form) → o.size ≤ 128 → (good room : Bool) (c : Circuit) → good_of c ≡ good → length_in (write_answer_by good room (size_of o c)) ≤ 6912
+short-by : (o : Form) → o.size ≤ 128 → (good room : Bool) (c : Circuit) → good_of c ≡ good → number_in (write_answer_by good room (size_of o c)) ≤ 6912
 short-by o s false room c e = omega arith
 short-by o s true false c e = omega arith
 short-by o s true true c e = sized o.size (1 + c.km + decile_records (all_zero c.deciles)) s (few (all_zero c.deciles) c.km (leb-true c.km 5 (middle (leb 1 c.km) (leb c.km 5) (leb c.shape 1) e)))
 
-pub short : (o : Form) → o.size ≤ 128 → (c : Circuit) (out : List ℕ) → length_in (write_answer_of o c out) ≤ 6912
+pub short : (o : Form) → o.size ≤ 128 → (c : Circuit) (out : List ℕ) → number_in (write_answer_of o c out) ≤ 6912
 unfolding write_answer_of
 short o s c out = short-by o s (good_of c) (leb (size_of o c) (length out)) c refl
