@@ -47,10 +47,7 @@ fn parabolic(l: Slot, x: F2Tangent) -> HeightPair
 fn f2_heights(t: IonoState, l: Slot, x: F2Tangent) -> HeightPair
     ensures { result ≡ f2_heights_with gethp_of t l x }
 {
-    if layers::profile_only(t) {
-        return HeightPair::from(heights::gethp(t, x.fx2));
-    }
-    if l.fi1 > 0.0 {
+    if layers::profile_only(t) || l.fi1 > 0.0 {
         return HeightPair::from(heights::gethp(t, x.fx2));
     }
     parabolic(l, x)

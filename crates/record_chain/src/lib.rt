@@ -41,28 +41,17 @@ impl<'a> File<'a> {
         &self.bytes[from..from + self.form.size]
     }
 
+    #[tactic(auto, using(records::proofs::Lists::rest), unfolding(crate::specs::Chain::head_good))]
     fn head_good(&self) -> bool
         requires { self.now.form.size ≤ length self.now.bytes.now }
         ensures { result ≡ head_good self.now.form (record_at self.now.form self.now.bytes.now 0) }
     {
         let r = self.record(0);
-        if records::half(r, 0) != self.form.first {
-            return false;
-        }
-        let km = records::byte(r, 4);
-        if km < 1 {
-            return false;
-        }
-        if km > 5 {
-            return false;
-        }
-        if records::byte(r, 5) > 1 {
-            return false;
-        }
-        if !records::all_zero(&r[6..8]) {
-            return false;
-        }
-        records::all_zero(&r[24..])
+        records::half(r, 0) == self.form.first
+            && (1..=5).contains(&records::byte(r, 4))
+            && records::byte(r, 5) <= 1
+            && records::all_zero(&r[6..8])
+            && records::all_zero(&r[24..])
     }
 
     // The step out of record `at`, after the records of `order`: to no record, or to one that is there and was not met before.

@@ -1,7 +1,7 @@
 // The reflectrix: for each angle of the scan thirty cells, the oblique frequency of each row in
 // whole kHz.
-// Stays: ion, nang and cells are the Rust's, and thirty cells an angle lie one after the other, as a
-// caller in C lends them.
+// Stays: ion and nang are the Rust's; cells are lent, thirty an angle one after the other, as a
+// caller in C has them.
 ghost use Rattle.std.specs.Prelude.{◌≡◌, map, ◌*◌, ◌≤◌, Float, length};
 ghost use Rattle.scalar.specs.F32.{◌+f◌, ◌*f◌};
 ghost use Rattle.constants.specs.Constants;
@@ -45,10 +45,7 @@ pub fn fobby(ion: Ionogram, nang: usize, cells: &mut [i32]) -> Result<(), Refusa
     ensures value { result ≡ fobby_outcome nang cells.old }
     ensures cells_after { cells.new ≡ cells_after ion nang cells.old }
 {
-    if nang > 40 {
-        return Err(Refusal::Reflectrix);
-    }
-    if cells.len() < 30 * nang {
+    if nang > 40 || cells.len() < 30 * nang {
         return Err(Refusal::Reflectrix);
     }
     angles(ion, nang, cells);

@@ -1,11 +1,11 @@
 // The heights of the thirty rows, and the segments of the true ones. With a negative `iedp` all are `gethp`'s. Otherwise the ten E
 // rows are a table's; the others have true heights by `xlin`, and virtual ones by parabolas, or by
 // `gethp` if there is an F1.
-// Stays: s, k and fv are handed on as in the Rust, s with what is said of its heights: they are tested once
-// for all rows.
+// Stays: s, k and fv are handed from one to the next, where the Rust has one function in which they are
+// at hand, and s with what is said of its heights: they are tested once for all rows.
 #![tactic(auto)]
 
-ghost use Rattle.std.specs.Prelude.{◌≡◌, ◌+◌, ◌*◌, ◌<◌, Float, false, true, replicate};
+ghost use Rattle.std.specs.Prelude.{◌≡◌, ◌+◌, ◌*◌, ◌<◌, ◌++◌, Float, false, true, replicate};
 ghost use Rattle.scalar.specs.F32.{◌>f◌, at};
 ghost use Rattle.scalar.specs.Literals.{f0};
 ghost use Rattle.heights.specs.Gethp.{gethp_of};
@@ -18,14 +18,12 @@ use layers::IonoState;
 use readings::{Found, Profile};
 use reflectrix::Ionogram;
 
-const HTE: [f32; 30] = [
-    70.00, 84.51, 88.52, 93.00, 94.26, 95.71, 97.68, 100.27, 104.22, 107.19, 0.0, 0.0, 0.0, 0.0,
-    0.0, 0.0, 0.0, 0.0, 0.0, 0.0, 0.0, 0.0, 0.0, 0.0, 0.0, 0.0, 0.0, 0.0, 0.0, 0.0,
+const HTE: [f32; 10] = [
+    70.00, 84.51, 88.52, 93.00, 94.26, 95.71, 97.68, 100.27, 104.22, 107.19,
 ];
 
-const HPE: [f32; 30] = [
-    70.00, 87.40, 94.00, 98.68, 100.20, 102.65, 107.15, 113.74, 125.25, 140.03, 0.0, 0.0, 0.0, 0.0,
-    0.0, 0.0, 0.0, 0.0, 0.0, 0.0, 0.0, 0.0, 0.0, 0.0, 0.0, 0.0, 0.0, 0.0, 0.0, 0.0,
+const HPE: [f32; 10] = [
+    70.00, 87.40, 94.00, 98.68, 100.20, 102.65, 107.15, 113.74, 125.25, 140.03,
 ];
 
 // A state, and what the rising test says of its heights.
@@ -88,7 +86,8 @@ fn true_rows(s: IonoState, fv: [f32; 30]) -> TrueColumns
     ensures htrue_value { result.htrue ≡ rows_of (λ f. true_by_profile s f) fv 10 Rows.HTE 20 }
     ensures segment_value { result.segment ≡ rows_of (λ f. segment_by_profile s f) fv 10 (replicate 30 unsearched) 20 }
 {
-    let mut htrue = HTE;
+    let mut htrue = [0.0; 30];
+    htrue[..10].copy_from_slice(&HTE);
     let mut segment = [50; 30];
     // Stays: two columns are written at a row.
     for i in 0..20 {
@@ -110,12 +109,13 @@ fn virtual_by_parabola(s: IonoState, k: usize, f: f32) -> f32
     s.hi[f2] - s.yi[f2] + bend + (lag - 2.0 * s.yi[e])
 }
 
-// Ten rows as they stand at the start, and the twenty after them, each by its frequency.
-fn rows_from_ten<F: Fn(f32) -> f32>(start: [f32; 30], fv: [f32; 30], row: F) -> [f32; 30]
+// Ten rows of a table, and the twenty after them, each by its frequency.
+fn rows_from_ten<F: Fn(f32) -> f32>(start: [f32; 10], fv: [f32; 30], row: F) -> [f32; 30]
     requires { F.IsAlwaysCallable row }
-    ensures { (g : Float → Float) → ((f h : Float) → F.post row f h → h ≡ g f) → result ≡ rows_of g fv 10 start 20 }
+    ensures { (g : Float → Float) → ((f h : Float) → F.post row f h → h ≡ g f) → result ≡ rows_of g fv 10 (start ++ replicate 20 f0) 20 }
 {
-    let mut rows = start;
+    let mut rows = [0.0; 30];
+    rows[..10].copy_from_slice(&start);
     // Stays: a turn writes one list from the place of another.
     for i in 0..20 {
         rows[10 + i] = row(fv[10 + i]);
