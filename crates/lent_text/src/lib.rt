@@ -6,6 +6,7 @@ ghost use Rattle.lent_text.specs.Left.{bytes_of, left_by};
 
 use refusal::Refusal;
 
+// Stays: bytes and a word, as callers in C lend them.
 // Answers 0, or the number of the refusal, and then leaves every lent byte and word as it was.
 pub fn text_into(text: Result<&[u8], Refusal>, out: &mut [u8], words: &mut [u32]) -> u32
     requires { (1 ≤ length words.old) × IfOk text (λ t. (length t.now ≤ length out.old) × (length t.now < 0x1_0000_0000)) }
