@@ -41,6 +41,7 @@ fn put_deciles<const N: usize>(page: &mut Page<N>, lines: usize) {
 }
 
 // The last line of each of these texts is blank, up to the page's end.
+// Stays: a page made and printed in each of these functions, since each page has a size of its own.
 fn six_points() {
     let mut page: Page<512> = Page::new();
     put_start(&mut page);

@@ -6,6 +6,7 @@ ghost use Rattle.line_words.specs.Lines.{line_of_words, lines_of_words};
 
 use layers::LayerMuf;
 
+// Stays: words and a place in them, as callers in C lend the four lines.
 fn line_of(w: &[u32], i: usize) -> LayerMuf
     requires { i + 11 ≤ length w.now }
     ensures { result ≡ line_of_words w.now i }

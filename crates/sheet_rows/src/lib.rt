@@ -1,5 +1,6 @@
 // The thirty rows of a slot, as lines of text put on a page.
-// Stays: functions of our own and no `Display`, for the reason in crate `lines`.
+// Stays: functions of our own and no `Display`, for the reason in crate `lines`; `ion` and `i` are a row, since the ionogram has its
+// rows by columns, as the Rust has.
 #![tactic(auto, using(lines::proofs::Placing::putting))]
 
 ghost use Rattle.std.specs.Prelude.{◌≡◌, ◌<◌};
