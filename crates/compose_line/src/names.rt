@@ -3,12 +3,12 @@ ghost use Rattle.std.specs.Prelude.{◌≡◌, ◌<◌, IfSome};
 ghost use Rattle.std.specs.List.{list_any};
 ghost use Rattle.compose_line.specs.Names.{line_kind_of, path_place, point_place, field_place_of, width_of, wanted_of, at_once};
 
-// The kinds of a line, numbered as those of the file's records.
+// The kinds of a line.
 #[derive(Clone, Copy, Debug, PartialEq, Eq)]
 pub enum LineKind {
-    Path = 1,
-    Point = 2,
-    Deciles = 3,
+    Path,
+    Point,
+    Deciles,
 }
 
 #[tactic(auto, using(crate::proofs::Spelled::is_path, crate::proofs::Spelled::path_spelled, crate::proofs::Spelled::is_point, crate::proofs::Spelled::point_spelled, crate::proofs::Spelled::is_deciles, crate::proofs::Spelled::deciles_spelled), unfolding(crate::specs::Names::line_kind_of))]
