@@ -1,5 +1,5 @@
-// The cells of one angle, guessed together. The loops run over thirty-two places and have no branch,
-// so that four places are worked out at once.
+// The cells of one angle, guessed together. The loops of the guesses run over thirty-two places and have
+// no branch.
 // Stays: they count a place, since a turn reads or writes up to five lists there, and cells lie thirty
 // an angle where the guesses have thirty-two; a caller in C lends the cells.
 #![tactic(auto)]
@@ -20,8 +20,8 @@ pub fn padded(x: [f32; 30]) -> [f32; 32]
     r
 }
 
-// What a function gives of each of thirty-two numbers. Stays: an array's own `map` is no loop that is
-// unrolled and done four places at a time, and a scan takes two hundredths longer by it.
+// What a function gives of each of thirty-two numbers. Stays: by an array's own `map` a scan takes two
+// hundredths longer.
 pub fn each<F: Fn(f32) -> f32>(x: [f32; 32], f: F) -> [f32; 32]
     requires { F.IsAlwaysCallable f }
     ensures { (i : ℕ) → i < 32 → F.post f (number_at x i) (number_at result i) }

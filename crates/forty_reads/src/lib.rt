@@ -31,6 +31,7 @@ static XT: [f32; 20] = [
     0.9982377097,
 ];
 
+// Stays: `ib`, 0 or 1, is the Rust's second index of `ysq[ig][ib]`.
 fn node(x: f32, ib: usize) -> f32
     ensures { result ≡ zg_by (eqb ib 0) x }
 {

@@ -84,6 +84,7 @@ fn by_densities(p: Profile, ht: f32, fr: f32, segment: u32) -> Heights
 }
 
 // Whether the exact rule is used: it is asked for, and the reflecting height is above the lowest one.
+// Stays: `exact` is the Rust's `numerics.exact_virtual_height`, a mark of its state.
 fn rule_used(exact: bool, ht: f32) -> bool
     ensures { result ≡ (exact && (ht >f f0)) }
 {

@@ -1,6 +1,6 @@
 // What the forty densities of the Gauss rule come to: each over the squared frequency, cut, and 1 over
-// the root of what it leaves of 1. Forty at a time, in loops that the compiler makes vector
-// instructions of.
+// the root of what it leaves of 1. Each step is a loop of its own over all forty, so that the compiler
+// makes vector instructions of the differences and of the divisions of 1.
 #![tactic(auto)]
 
 ghost use Rattle.std.specs.Prelude.{◌≡◌, map};

@@ -9,6 +9,7 @@ ghost use Rattle.layers.specs.State.{profile_only, zero_state, with_iedp, with_i
 pub mod owners;
 
 // The regular layers over a control point: in each list E first, then F1, then F2.
+// Stays: fi, yi and hi side by side are the Rust's record, lent to callers by columns.
 #[derive(Clone, Copy, Debug, PartialEq)]
 pub struct LayerParams {
     // critical frequency in MHz; an F1 of 0 is no F1
@@ -37,6 +38,7 @@ pub enum Owner {
 }
 
 // The tables are flat: `fi[3 * k + i]`, layer i of point or slot k, is the Rust's `fi[k][i]`.
+// Stays: three tables side by side, and htr beside fnsq, are the Rust's state, lent to callers by columns.
 #[derive(Clone, Copy, Debug, PartialEq)]
 pub struct IonoState {
     pub fi: [f32; 15],
@@ -65,7 +67,7 @@ pub struct IonoState {
 }
 
 // A layer's MUF line.
-#[derive(Clone, Copy, Debug, PartialEq)]
+#[derive(Clone, Copy, Debug, Default, PartialEq)]
 pub struct LayerMuf {
     pub sigl: f32,
     pub sigu: f32,
@@ -87,6 +89,8 @@ pub struct LayerMuf {
 }
 
 // Every number +0, nothing set.
+// Stays: of a list `Default` promises each element and no equation with the list, which the proof would
+// have to make of each; the zeros are shorter.
 pub fn zero_state() -> IonoState
     ensures { result ≡ zero_state }
 {

@@ -1,9 +1,9 @@
 // `alosfv`: a factor of deviative loss for each of an ionogram's thirty rows. A layer's own rows
 // have zero up to the true height at its MUF; the two rows of a cusp between layers have one at any
 // height.
-// Stays: names, order and grouping of the numbers are the Rust's, and a row is two heights lent apart,
-// since an ionogram handed down for each would be copied each time. A loop over rows reads two columns
-// at a row and writes a third.
+// Stays: s, k, ion and layers are the Rust's own parameters, and a row is two heights handed on apart, since
+// an ionogram handed down for each would be copied each time. A loop over rows reads two columns at a row
+// and writes a third.
 #![tactic(auto)]
 
 ghost use Rattle.std.specs.Prelude.{◌≡◌, ◌+◌, ◌<◌, ◌≤◌};

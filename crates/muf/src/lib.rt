@@ -109,6 +109,7 @@ fn hour(m: RegularLines, es: LayerMuf, ks: usize) -> MufHour
     }
 }
 
+// Stays: as `layers::zero_state`, since an hour has a list of lines.
 pub fn zero_hour() -> MufHour
     ensures { result ≡ zero_hour }
 {

@@ -37,7 +37,8 @@ fn place(i: usize, k: usize) -> Result<usize, Refusal>
 
 // How much the virtual height of a frequency is raised by the parabolic layer `i` of slot `k` that
 // reflects it.
-// Stays: `bendy` and `pen` are two names of the Rust, and `s`, `i`, `k` and `f` its parameters.
+// Stays: `bendy` and `pen` are two entries of the Rust, each with a formula of its own behind the same test,
+// and `s`, `i`, `k` and `f` are their parameters there.
 pub fn bendy(s: IonoState, i: usize, k: usize, f: f32) -> Result<f32, Refusal>
     ensures { result ≡ bendy_answer s i k f }
 {

@@ -29,7 +29,7 @@ fn set_point(mut s: IonoState, k: usize, p: LayerParams) -> IonoState
     s
 }
 
-// Stays: the state s and how many points or slots, n, of which the loops take the first.
+// Stays: s and n, here and at `settle_slots`, are the Rust's state and the bound of its loops.
 fn set_points(s: IonoState, params: [LayerParams; 5], n: usize) -> IonoState
     requires { n ≤ 5 }
     ensures { result ≡ points_set s params n }

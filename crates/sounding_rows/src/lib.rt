@@ -76,6 +76,7 @@ fn true_by_profile(s: IonoState, f: f32) -> Found
 }
 
 // The column of true heights and that of their segments.
+// Stays: side by side, as the columns of an ionogram.
 #[derive(Clone, Copy, Debug, PartialEq)]
 pub struct TrueColumns {
     pub htrue: [f32; 30],
