@@ -9,15 +9,15 @@ use Rattle.aligned.specs.Ascii.{ascii}
 use Rattle.aligned.proofs.Widths.{right-most}
 use Rattle.shapes.specs.declared.Mark.{Mark}
 use Rattle.mark_text.proofs.Lengths.{name}
-use Rattle.run_text.specs.RunText.{mark_at, begins_at, ends_at, start_text, end_text, run_text, runs_text}
+use Rattle.run_text.specs.RunText.{start_at, end_at, mark_at, begins_at, ends_at, start_text, end_text, run_text, runs_text}
 
 start : (b : Bool) (i : ℕ) → AtMost (start_text b i) 6
-unfolding start_text
+unfolding start_text start_at
 start true i = right-most 2 (decimal_of (i + 1)) then word (ascii " to ")
 start false i = record { most = omega arith }
 
 end : (b : Bool) (i : ℕ) (m : Mark) → AtMost (end_text b i m) 16
-unfolding end_text
+unfolding end_text end_at
 end true i m = right-most 2 (decimal_of (i + 1)) then word (ascii "  ") then name m then line-feed
 end false i m = record { most = omega arith }
 
