@@ -136,3 +136,10 @@ is_clck w h a b c d = is w (99 ∷ 108 ∷ 99 ∷ 107 ∷ []) (h, (a, (b, (c, (d
 
 pub clck_spelled : (w : List ℕ) → same_bytes w (99 ∷ 108 ∷ 99 ∷ 107 ∷ []) ≡ true → Spelled w (99 ∷ 108 ∷ 99 ∷ 107 ∷ [])
 clck_spelled w h = rw (same w _ h) (search rules)
+
+-- ---- those that a word is compared with together
+pub ruleset line_kinds = (is_path, path_spelled, is_point, point_spelled, is_deciles, deciles_spelled)
+
+pub ruleset path_names = (is_shape, shape_spelled, is_gcd, gcd_spelled, is_gcdkm, gcdkm_spelled, is_amind, amind_spelled, is_ssn, ssn_spelled)
+
+pub ruleset point_names = (is_fi, fi_spelled, is_yi, yi_spelled, is_hi, hi_spelled, is_fs, fs_spelled, is_hs, hs_spelled, is_clat, clat_spelled, is_clck, clck_spelled)

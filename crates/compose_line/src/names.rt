@@ -11,7 +11,7 @@ pub enum LineKind {
     Deciles,
 }
 
-#[tactic(auto, using(crate::proofs::Spelled::is_path, crate::proofs::Spelled::path_spelled, crate::proofs::Spelled::is_point, crate::proofs::Spelled::point_spelled, crate::proofs::Spelled::is_deciles, crate::proofs::Spelled::deciles_spelled), unfolding(crate::specs::Names::line_kind_of))]
+#[tactic(auto, using(crate::proofs::Spelled::line_kinds), unfolding(crate::specs::Names::line_kind_of))]
 pub fn kind(w: &[u8]) -> Option<LineKind>
     ensures { result ≡ line_kind_of w.now }
 {
@@ -23,7 +23,7 @@ pub fn kind(w: &[u8]) -> Option<LineKind>
     }
 }
 
-#[tactic(auto, using(crate::proofs::Spelled::is_shape, crate::proofs::Spelled::shape_spelled, crate::proofs::Spelled::is_gcd, crate::proofs::Spelled::gcd_spelled, crate::proofs::Spelled::is_gcdkm, crate::proofs::Spelled::gcdkm_spelled, crate::proofs::Spelled::is_amind, crate::proofs::Spelled::amind_spelled, crate::proofs::Spelled::is_ssn, crate::proofs::Spelled::ssn_spelled), unfolding(crate::specs::Names::path_place))]
+#[tactic(auto, using(crate::proofs::Spelled::path_names), unfolding(crate::specs::Names::path_place))]
 fn path_place(w: &[u8]) -> Option<usize>
     ensures value { result ≡ path_place w.now }
     ensures below { IfSome result (λ p. p < 15) }
@@ -38,7 +38,7 @@ fn path_place(w: &[u8]) -> Option<usize>
     }
 }
 
-#[tactic(auto, using(crate::proofs::Spelled::is_fi, crate::proofs::Spelled::fi_spelled, crate::proofs::Spelled::is_yi, crate::proofs::Spelled::yi_spelled, crate::proofs::Spelled::is_hi, crate::proofs::Spelled::hi_spelled, crate::proofs::Spelled::is_fs, crate::proofs::Spelled::fs_spelled, crate::proofs::Spelled::is_hs, crate::proofs::Spelled::hs_spelled, crate::proofs::Spelled::is_clat, crate::proofs::Spelled::clat_spelled, crate::proofs::Spelled::is_clck, crate::proofs::Spelled::clck_spelled), unfolding(crate::specs::Names::point_place))]
+#[tactic(auto, using(crate::proofs::Spelled::point_names), unfolding(crate::specs::Names::point_place))]
 fn point_place(w: &[u8]) -> Option<usize>
     ensures value { result ≡ point_place w.now }
     ensures below { IfSome result (λ p. p < 15) }

@@ -120,10 +120,10 @@ pub fn compose(text: &[u8]) -> Result<Circuit, Wrong>
     ensures { result ≡ composed_of text.now }
 {
     let mut draft = None;
-    let mut line = 1;
-    for words in text.split_inclusive(|b| *b == b'\n') {
-        draft = at_line(line, with_line(draft, words))?;
-        line += 1;
+    let mut number = 1;
+    for line in text.split_inclusive(|b| *b == b'\n') {
+        draft = at_line(number, with_line(draft, line))?;
+        number += 1;
     }
-    at_line(line, ended(draft))
+    at_line(number, ended(draft))
 }

@@ -6,9 +6,9 @@ use Rattle.first_difference.specs.Lines.{lines_of}
 use Rattle.compose_text.specs.Draft.{with_lines, composed_of}
 use Rattle.compose_text.proofs.compose.Given as goal
 
-abbrev pub invariant-loop-words : goal.invariant-loop-words
-invariant-loop-words l =
+abbrev pub invariant-loop-line : goal.invariant-loop-line
+invariant-loop-line l =
     record {
-      counted : l.line + length l.words-iterator.rest.now ≤ length l.text + 1;
-      circuit : with_lines l.draft l.line (lines_of l.words-iterator.rest.now) ≡ composed_of l.text;
+      counted : l.number + length l.line-iterator.rest.now ≤ length l.text + 1;
+      circuit : with_lines l.draft l.number (lines_of l.line-iterator.rest.now) ≡ composed_of l.text;
     }
