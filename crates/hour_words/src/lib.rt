@@ -43,7 +43,7 @@ fn head_into(h: MufHour, out: &mut [u32])
     let ks = h.ks;
     port_state::floats_into(&x, out, 0);
     out[8] = port_state::word(modmuf);
-    out[9] = (ks % 0x1_0000_0000) as u32;
+    out[9] = port_state::count(ks);
 }
 
 pub fn hour_into(h: MufHour, out: &mut [u32])

@@ -1,5 +1,5 @@
 // Heights for callers in any language: words in, words out. Each function answers 0, or the number of its refusal, and then leaves every lent word as it was.
-// Stays: lists of words lent side by side, and a pair for each rule (`port_gethp` and `port_gethp_scan`, `port_bendy` and `port_pen`), as callers in C have and name them. What the exports share is `state_with_room` and the words of the answer.
+// Stays: lists of words lent side by side, as callers in C have them.
 #![tactic(auto)]
 
 ghost use Rattle.std.specs.Prelude.{◌≡◌, ℕ, ◌≤◌, length, Float, IfOk, Result};

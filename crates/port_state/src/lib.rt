@@ -4,7 +4,7 @@
 
 ghost use Rattle.std.specs.Prelude.{◌≡◌, ℕ, ◌+◌, ◌*◌, ◌≤◌, ◌<◌, length};
 ghost use Rattle.port_state.specs.Words.{floats_of, floats_into, signed_of, word_of, count_word};
-ghost use Rattle.port_state.specs.State.{state_words, state_of, tables_into, profile_into, counts_into, flags_into, owner_into, exact_into, state_into};
+ghost use Rattle.port_state.specs.State.{state_words, state_of, state_into};
 ghost use Rattle.port_state.specs.Owners.{owner_of_word, word_of_owner};
 ghost use Rattle.port_state.specs.Ports.{point_of, points_of, rows_of};
 
@@ -106,73 +106,24 @@ pub fn count(n: usize) -> u32
     (n % 0x1_0000_0000) as u32
 }
 
-// Stays: beside `profile_into`, a list of fields with their places; what the two share is `floats_into`.
-#[tactic(auto, unfolding(crate::specs::State::tables_into))]
-fn tables_into(s: IonoState, w: &mut [u32])
-    requires { state_words ≤ length w.old }
-    ensures { w.new ≡ tables_into s w.old }
-{
-    floats_into(&s.fi, w, 0);
-    floats_into(&s.yi, w, 15);
-    floats_into(&s.hi, w, 30);
-}
-
-#[tactic(auto, unfolding(crate::specs::State::profile_into))]
-fn profile_into(s: IonoState, w: &mut [u32])
-    requires { state_words ≤ length w.old }
-    ensures { w.new ≡ profile_into s w.old }
-{
-    floats_into(&s.htr, w, 47);
-    floats_into(&s.fnsq, w, 97);
-    floats_into(&s.fsecv, w, 148);
-}
-
-#[tactic(auto, unfolding(crate::specs::State::counts_into))]
-fn counts_into(s: IonoState, w: &mut [u32])
-    requires { state_words ≤ length w.old }
-    ensures { w.new ≡ counts_into s w.old }
-{
-    w[45] = count(s.km);
-    w[46] = count(s.kfx);
-}
-
-#[tactic(auto, unfolding(crate::specs::State::flags_into, crate::specs::Words::flag_of))]
-fn marks_into(s: IonoState, w: &mut [u32])
-    requires { state_words ≤ length w.old }
-    ensures { w.new ≡ flags_into s w.old }
-{
-    w[147] = u32::from(s.htr_rises);
-    w[151] = word(s.iedp);
-    w[152] = u32::from(s.ielect);
-}
-
-#[tactic(auto, unfolding(crate::specs::State::owner_into))]
-fn owner_into(s: IonoState, w: &mut [u32])
-    requires { state_words ≤ length w.old }
-    ensures { w.new ≡ owner_into s w.old }
-{
-    w[153] = owner_word(s.owner);
-}
-
-#[tactic(auto, unfolding(crate::specs::State::exact_into, crate::specs::Words::flag_of))]
-fn exact_into(s: IonoState, w: &mut [u32])
-    requires { state_words ≤ length w.old }
-    ensures { w.new ≡ exact_into s w.old }
-{
-    w[154] = u32::from(s.exact_virtual_height);
-}
-
-#[tactic(auto, unfolding(crate::specs::State::state_into))]
+#[tactic(auto, unfolding(crate::specs::State::state_into, crate::specs::State::tables_into, crate::specs::State::profile_into, crate::specs::State::counts_into, crate::specs::State::flags_into, crate::specs::State::owner_into, crate::specs::State::exact_into, crate::specs::Words::flag_of))]
 pub fn state_into(s: IonoState, w: &mut [u32])
     requires { state_words ≤ length w.old }
     ensures { w.new ≡ state_into s w.old }
 {
-    tables_into(s, w);
-    profile_into(s, w);
-    counts_into(s, w);
-    marks_into(s, w);
-    owner_into(s, w);
-    exact_into(s, w);
+    floats_into(&s.fi, w, 0);
+    floats_into(&s.yi, w, 15);
+    floats_into(&s.hi, w, 30);
+    floats_into(&s.htr, w, 47);
+    floats_into(&s.fnsq, w, 97);
+    floats_into(&s.fsecv, w, 148);
+    w[45] = count(s.km);
+    w[46] = count(s.kfx);
+    w[147] = u32::from(s.htr_rises);
+    w[151] = word(s.iedp);
+    w[152] = u32::from(s.ielect);
+    w[153] = owner_word(s.owner);
+    w[154] = u32::from(s.exact_virtual_height);
 }
 
 // The first n of five rows, the rest as `zero`.
@@ -182,9 +133,8 @@ pub fn rows_of<T: Copy, F: Fn(usize) -> T>(n: usize, zero: T, row: F) -> [T; 5]
     ensures { (of : ℕ → T) → ((k : ℕ) (r : T) → F.post row k r → r ≡ of k) → result ≡ rows_of of zero n }
 {
     let mut l = [zero; 5];
-    // Stays: k is the row's place in what it is read from too.
-    for k in 0..n {
-        l[k] = row(k);
+    for (k, r) in l[..n].iter_mut().enumerate() {
+        *r = row(k);
     }
     l
 }
