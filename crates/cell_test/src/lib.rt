@@ -12,11 +12,7 @@ ghost use Rattle.cell_test.specs.Cell.{khz_of, sqcos_of, tame, low_of, high_of, 
 pub fn squared_cosine(sphe: f32) -> f32
     ensures { (result ≡ sqcos_of sphe) × T (f0_000001 ≤f result) × T (result ≤f f1) }
 {
-    let sqcos = 1.0 - sphe * sphe;
-    if sqcos >= 0.000001 {
-        return sqcos;
-    }
-    0.000001
+    scalar::max(1.0 - sphe * sphe, 0.000001)
 }
 
 // The cell itself, with a root and a division.
@@ -30,16 +26,11 @@ pub fn khz(fvv: f32, sqcos: f32) -> i32
 }
 
 // A frequency at which the test can be trusted.
+#[tactic(auto, unfolding(crate::specs::Cell::tame))]
 fn is_tame(fvv: f32) -> bool
     ensures { result ≡ tame fvv }
 {
-    if fvv == 0.0 {
-        return true;
-    }
-    if fvv >= 0.0009765625 {
-        return fvv <= 1024.0;
-    }
-    false
+    fvv == 0.0 || fvv >= 0.0009765625 && fvv <= 1024.0
 }
 
 // What the square of a number that is not above the cell, by the square of the cosine, is at most.
@@ -65,10 +56,7 @@ pub fn high(fvv: f32) -> f32
 fn from_zero(v: f32) -> f32
     ensures { T (real result) }
 {
-    if v > 0.0 {
-        return v;
-    }
-    0.0
+    if v > 0.0 { v } else { 0.0 }
 }
 
 // The nearest whole number, as the last 22 digits of a sum's pattern.

@@ -72,7 +72,7 @@ pub fn es_ray(hs: f32, hop: f32, gcd: f32) -> EsRay
     let tdel = (waves::cos(psi) - RZ / (RZ + hs)) / waves::sin(psi);
     let cdel = 1.0 / scalar::sqrt(1.0 + tdel * tdel);
     let sphe = RZ * cdel / (RZ + hs);
-    let secp = 1.0 / scalar::sqrt(1.0 - sphe * sphe);
+    let secp = hops::secant(sphe);
     EsRay { tdel, secp }
 }
 
