@@ -5,6 +5,10 @@
 ghost use Rattle.std.specs.Prelude.{◌≡◌, ◌+◌, ◌*◌, ◌≤◌, ◌<◌, length, get_or, drop};
 ghost use Rattle.records.specs.Record.{half_at, word_at, record_words, all_zero, fits};
 
+// The bytes that a program reads of a file in the paper's form: a record more than the longest, so that a longer one is seen to be
+// too long.
+pub const INPUT: usize = 4160;
+
 // How a file is laid out: bytes in a record, the kind of record 0, and the words that a point has after its fifteen. Which three
 // numbers are fit is a law about any three (`Fit`), so readers and writers ask for it, and the type does not hold it.
 #[derive(Clone, Copy, Debug, PartialEq, Eq)]

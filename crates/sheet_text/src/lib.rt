@@ -8,11 +8,8 @@ ghost use Rattle.sheet_text.specs.SheetText.{sheet_text, text_by, answered_text}
 
 use circuit_sheet::Sheet;
 use lines::Page;
+pub use records::INPUT;
 use refusal::Refusal;
-
-// The bytes that a program reads: a record more than the longest file, so that a longer one is seen to be
-// too long.
-pub const INPUT: usize = 4160;
 
 // The bytes of a page: a text of three slots has room.
 pub const ROOM: usize = 8192;
@@ -48,8 +45,5 @@ pub fn answer(file: &[u8]) -> Result<Page<ROOM>, Refusal>
 pub fn sheet_text(file: &[u8]) -> Page<ROOM>
     ensures { result ≡ sheet_text file.now }
 {
-    match answer(file) {
-        Ok(text) => text,
-        Err(r) => refused(r),
-    }
+    answer(file).unwrap_or_else(refused)
 }
