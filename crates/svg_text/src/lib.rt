@@ -10,7 +10,8 @@ use lines::Page;
 use shapes::Mark;
 use svg_points::Place;
 
-// Stays: neither the mark nor the bytes are types of this crate, so no `From` can stand here.
+// Stays: neither the mark nor its word is a type of this crate, so no `From` can stand here, and a trait of our own for one match is
+// no plainer.
 #[tactic(auto, unfolding(crate::specs::Pieces::id_of))]
 fn id(m: Mark) -> &'static [u8]
     ensures { result.now ≡ id_of m }
