@@ -9,6 +9,7 @@ use layers::IonoState;
 use refusal::Refusal;
 
 // Fifty heights in km, and at each the square of the plasma frequency, in MHz².
+// Stays: two columns, since they are the state's `htr` and `fnsq`, which are the Rust's.
 #[derive(Clone, Copy, Debug, PartialEq)]
 pub struct Profile {
     pub htr: [f32; 50],
