@@ -74,7 +74,8 @@ pub fn f2_at(f2: f32, m3: f32, flfc: f32) -> f32
     f2 + flfc * (four - f2)
 }
 
-// A point's turn in the lowest MUF of F2.
+// A point's turn in the lowest MUF of F2. Stays: not `scalar::min`, which answers otherwise where the lowest
+// so far is a NaN.
 pub fn lower_f2(f2muf: f32, fmuf: f32) -> f32
     ensures { result ≡ f2_step f2muf fmuf }
 {
@@ -84,7 +85,8 @@ pub fn lower_f2(f2muf: f32, fmuf: f32) -> f32
     f2muf
 }
 
-// The circuit's MUF: E's where the two are equal.
+// The circuit's MUF: E's where the two are equal. Stays: not `scalar::max`, which answers otherwise where
+// F2's is a NaN.
 pub fn greater(emuf: f32, f2muf: f32) -> f32
     ensures { result ≡ allmuf_of emuf f2muf }
 {
