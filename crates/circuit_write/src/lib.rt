@@ -20,6 +20,7 @@ fn records(c: &Circuit) -> usize
     1 + c.km
 }
 
+// Stays: no `Option`, since 0 is how the file says that no record follows.
 fn next_in(n: usize, i: usize) -> usize
     requires { i < n }
     ensures { result ≡ next_in n i }

@@ -3,10 +3,25 @@
 // into slots by `ionset` (crate `slots`).
 #![tactic(auto)]
 
-ghost use Rattle.std.specs.Prelude.{◌≡◌};
+ghost use Rattle.std.specs.Prelude.{◌≡◌, ◌<◌, IfOk};
+ghost use Rattle.layers.specs.Slots.{slot_number_of};
 ghost use Rattle.layers.specs.State.{profile_only, zero_state, with_iedp, with_ielect, with_exact};
 
+use refusal::Refusal;
+
 pub mod owners;
+
+// A slot's number, of three; above 2 it is refused.
+#[tactic(auto, unfolding(crate::specs::Slots::slot_number_of))]
+pub fn slot_number(k: usize) -> Result<(), Refusal>
+    ensures value { result ≡ slot_number_of k }
+    ensures within { IfOk result (λ u. k < 3) }
+{
+    if k > 2 {
+        return Err(Refusal::SlotNumber);
+    }
+    Ok(())
+}
 
 // The regular layers over a control point: in each list E first, then F1, then F2.
 // Stays: fi, yi and hi side by side are the Rust's record, lent to callers by columns.
@@ -30,6 +45,7 @@ pub struct EsParams {
 }
 
 // Whose profile a state has: nobody's, a slot's, or one supplied from outside.
+// Stays: nobody is one of the cases, with a number of its own, and no `Option`.
 #[derive(Clone, Copy, Debug, PartialEq, Eq)]
 pub enum Owner {
     None,
@@ -56,9 +72,12 @@ pub struct IonoState {
     pub htr_rises: bool,
     // the slots' `FSECV`; where a slot has no F1 `lecden` leaves its number alone
     pub fsecv: [f32; 3],
-    // below zero the profile alone gives heights, else tables and parabolas do where they can
+    // below zero the profile alone gives heights, else tables and parabolas do where they can.
+    // Stays: the Rust's number, of which only the sign is read.
     pub iedp: i32,
-    // set where the profile came from outside, which makes `lecden` do nothing
+    // set where the profile came from outside, which makes `lecden` do nothing.
+    // Stays: the Rust's, beside `owner`: while it is set the stored owner does not count, and must not
+    // change.
     pub ielect: bool,
     // whose profile it is, as stored: `owners::owner_of` says what counts
     pub owner: Owner,
@@ -112,7 +131,8 @@ pub fn zero_state() -> IonoState
 }
 
 // The shape that a circuit file asks for, or an INTEGRATE card.
-// Stays: three setters, here and below, of one line each; one for all would have to be told the field.
+// Stays: five setters, here, in `owners` and in crate `losses`, of one line each; one for all would have
+// to be told the field.
 pub fn with_iedp(mut s: IonoState, iedp: i32) -> IonoState
     ensures { result ≡ with_iedp s iedp }
 {

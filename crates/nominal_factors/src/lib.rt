@@ -75,7 +75,8 @@ pub fn f2_at(f2: f32, m3: f32, flfc: f32) -> f32
     f2 + flfc * (four - f2)
 }
 
-// The circuit's MUF: E's where the two are equal.
+// The circuit's MUF: E's where the two are equal. Stays: not `scalar::max`, which answers otherwise where
+// F2's is a NaN.
 pub fn greater(emuf: f32, f2muf: f32) -> f32
     ensures { result ≡ allmuf_of emuf f2muf }
 {

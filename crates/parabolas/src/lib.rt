@@ -25,6 +25,7 @@ pub fn pen_at(fi: f32, yi: f32, f: f32) -> f32
 }
 
 // The place of layer i of slot k in the tables, where there is one.
+// Stays: not by `layers::slot_number`, since a layer's number is refused with the slot's.
 fn place(i: usize, k: usize) -> Result<usize, Refusal>
     ensures value { result ≡ layer_answer_by (ltb 2 i) (ltb 2 k) (3 * k + i) }
     ensures within { IfOk result (λ (n : ℕ). n < 15) }

@@ -84,8 +84,6 @@ pub fn lecden_slot(s: IonoState, k: usize) -> IonoState
 pub fn lecden(s: IonoState, k: usize) -> Result<IonoState, Refusal>
     ensures { result ≡ lecden_answer s k }
 {
-    if k < 3 {
-        return Ok(lecden_slot(s, k));
-    }
-    Err(Refusal::SlotNumber)
+    layers::slot_number(k)?;
+    Ok(lecden_slot(s, k))
 }

@@ -33,6 +33,8 @@ struct File<'a> {
 
 impl<'a> File<'a> {
     // Record n, as its part of the file.
+    // Stays: that record n is there is asked here and of the two below that read one. A chain keeps
+    // numbers, and a type for such a number would be made at each step.
     fn record(&self, n: usize) -> &'a [u8]
         requires { self.now.form.size * n + self.now.form.size ≤ length self.now.bytes.now }
         ensures { result.now ≡ record_at self.now.form self.now.bytes.now n }
@@ -114,8 +116,8 @@ impl<'a> File<'a> {
 }
 
 // The chain of a file, or where it is turned away.
-// Stays: `Fit o` is asked here, and not held by the form: that it holds is a law about any three numbers, which a form could not state
-// of itself.
+// Stays: `Fit o` is asked here, since `every-fit` (crate `statement_checks`) speaks of any three numbers, and a `Form` that held the fact
+// could not be written down there.
 pub fn follow_form(o: Form, file: &[u8]) -> Result<Chain, Refusal>
     requires { Fit o }
     ensures { result ≡ chain_of o file.now }

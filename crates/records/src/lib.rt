@@ -28,7 +28,7 @@ pub enum Kind {
 }
 
 // The paper's form.
-// Stays: a function, beside the other form's, since a constant promises nothing of its value.
+// Stays: a function, beside the other form's: a constant has no contract, so a wrong number in it would not be refused in this crate.
 pub fn form64() -> Form
     ensures { result ≡ Rattle.records.specs.Record.form64 }
 {

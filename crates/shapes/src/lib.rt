@@ -10,9 +10,10 @@ ghost use Rattle.shapes.specs.Marks.{first_of, mark_of, unmarked, marks_of};
 use layers::IonoState;
 use shape_densities::{Candidates, Curves};
 
+// Stays: no mark is one of the cases, with a number and a word of its own, and no `Option`.
 #[derive(Clone, Copy, Debug, PartialEq, Eq)]
 pub enum Mark {
-    // of a supplied profile, and beside a refusal
+    // of a supplied profile, and of a slot that is not there
     None = 0,
     // the exponential tail from the D region up to E
     Tail = 1,
@@ -79,7 +80,8 @@ fn marks_on(c: Curves, htr: [f32; 50]) -> [Mark; 50]
 {
     let fnd = c.tails(htr);
     let mut marks = no_marks();
-    // Stays: three lists by one index, and two zips inside each other are no plainer.
+    // Stays: a turn writes one list from two, and of what `iter_mut` under a zip leaves a proof knows the
+    // lengths alone.
     for ih in 0..50 {
         marks[ih] = mark_at(c, fnd[ih], htr[ih]);
     }

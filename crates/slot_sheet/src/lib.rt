@@ -31,9 +31,7 @@ pub fn slot_sheet(
     ensures value { result ≡ slot_sheet_of s k nang layers cells.old }
     ensures cells_after { cells.new ≡ sheet_cells_of s k nang cells.old }
 {
-    if k > 2 {
-        return Err(Refusal::SlotNumber);
-    }
+    layers::slot_number(k)?;
     let marks = shapes::marks_slot(s, k);
     let t = profile::lecden_slot(s, k);
     let ion = sounding::genion_slot(t, k);

@@ -63,6 +63,7 @@ fn layer_from(mut s: IonoState, k: usize, p: usize, i: usize) -> IonoState
     s
 }
 
+// Stays: two and three slots apart, as in the Rust.
 fn two_slots(mut s: IonoState) -> IonoState
     ensures { result ≡ two_slots s }
 {

@@ -27,7 +27,8 @@ fn tangent_ratio(y: f32, h: f32) -> f32
     1.0 / scalar::sqrt(1.0 + 0.5 * y / h)
 }
 
-// 0 without an F1; a NaN counts as none.
+// 0 without an F1; a NaN counts as none. Stays: the 0 is the Rust's, and an `Option` could not say of a
+// NaN that it is none here and an F1 to `f1_line`.
 fn f1_tangent(l: Slot) -> f32
     ensures { result ≡ fx1_of l }
 {
