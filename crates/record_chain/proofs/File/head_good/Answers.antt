@@ -1,6 +1,6 @@
 -- Each path is the clause that its tests choose; each call is what its contract says.
 use Rattle.record_chain.specs.Chain.{head_good}
-use Rattle.records.proofs.Lists.{rest}
+use Rattle.std.proofs.lemmas.List.{take_rest}
 use borrow.Author.Tests.{eq-eqb, le-leb, lt-leb, ne_eqb}
 use Rattle.record_chain.proofs.File.head_good.Goals as goal
 
@@ -26,4 +26,4 @@ returns-then-not-all_zero c = rw (← c.record-r.ensures, ← c.half.ensures, eq
 
 pub returns : goal.returns
 unfolding head_good
-returns c = rw (← c.record-r.ensures, ← c.half.ensures, eq-eqb _ _ c.if-half-self.false, ← c.byte-km.ensures, le-leb _ _ c.if-km-lt1.false, le-leb _ _ c.if-km-gt5.false, ← c.byte.ensures, le-leb _ _ c.if-byte-gt1.false, ← c.all_zero.ensures, c.if-not-all_zero.false, ← rest 24 c.record-r.result.now, ← c.all_zero-2.ensures)
+returns c = rw (← c.record-r.ensures, ← c.half.ensures, eq-eqb _ _ c.if-half-self.false, ← c.byte-km.ensures, le-leb _ _ c.if-km-lt1.false, le-leb _ _ c.if-km-gt5.false, ← c.byte.ensures, le-leb _ _ c.if-byte-gt1.false, ← c.all_zero.ensures, c.if-not-all_zero.false, ← take_rest c.record-r.result.now 24, ← c.all_zero-2.ensures)
