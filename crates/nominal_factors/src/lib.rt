@@ -57,6 +57,7 @@ pub fn f2_factor(arc: f32) -> f32
 }
 
 // A point's turn in a lowest number over the points: E's critical frequency, F2's MUF. A NaN is left out.
+// Stays: not `scalar::min`, which answers otherwise where the lowest so far is a NaN.
 pub fn lower(lowest: f32, x: f32) -> f32
     ensures e { result ≡ ec_step lowest x }
     ensures f2 { result ≡ f2_step lowest x }

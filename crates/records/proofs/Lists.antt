@@ -1,28 +1,20 @@
 -- Facts on lists of bytes and words that several proofs cite.
 use Prim.Native.Nat.{ℕ, zero, suc, ◌+◌, ◌*◌, ◌-◌, ◌≤◌, ◌<◌}
 use mathlib.Core.Path.{◌≡◌, refl, ap, ◌∙◌, sym}
-use mathlib.Core.List.{List, [], ◌∷◌, ◌++◌, append_assoc, append-nil, map}
-use mathlib.Core.Bool.{Bool, true, false, ◌&&◌}
+use mathlib.Core.List.{List, [], ◌∷◌, ◌++◌, append_assoc, append-nil, map, map-append}
+use mathlib.Core.Bool.{true}
 use native.Mathlib.Omega.{arith}
 use native.Mathlib.Numerals.{add-one}
 use lib.ListN.{length, get_or, take, drop, set, length-append, length-drop, drop_of_length-le, replicate, length-map}
-use lib.Seq.{drop-cons, take_all, set_at, length-take-le}
+use lib.Seq.{drop-cons, set_at, length-take-le, take-suc, take-suc-set}
 use lib.Dec.{eqb}
 use borrow.Author.Tests.{eqb-true}
 use Rattle.std.specs.List.{list_all}
 use Rattle.std.proofs.lemmas.List.{drop-append-le}
 use Rattle.records.specs.declared.Form.{Form}
 use Rattle.records.specs.Record.{Fit, form64, all_zero, record_words, word_at, record_at}
-use native.Mathlib.Nat.{add-sub_cancel_left, sub-zero, zero-sub, suc-sub-suc}
-
--- the rest of a list from a start, as a part of a slice has it
-pub rest : (a : ℕ) (l : List ℕ) → take (length l - a) (drop a l) ≡ drop a l
-rest a l = take_all (length l - a) (drop a l) (simp length-drop (omega arith))
-
--- both parts of a test that holds
-pub both : (a b : Bool) → (a && b) ≡ true → (a ≡ true) × (b ≡ true)
-both true b e = (refl, e)
-both false b e = absurd (let z : ◌≡◌ {A = ℕ} 0 1 = cc in omega arith)
+use native.Mathlib.Nat.{add-sub_cancel_left}
+use Rattle.std.proofs.lemmas.Bool.{and_parts}
 
 -- looked through from the left, as the iterator's method does
 pub all-zero : (l : List ℕ) → list_all (λ (n : ℕ). eqb n 0) l ≡ all_zero l
@@ -74,11 +66,6 @@ pub part : (o : Form) (f : List ℕ) (n : ℕ)
     → take (o.size * n + o.size - o.size * n) (drop (o.size * n) f) ≡ record_at o f n
 part o f n = ap (λ (k : ℕ). take k (drop (o.size * n) f)) (add-sub_cancel_left (o.size * n) o.size)
 
-pub drop-replicate : (n k : ℕ) → drop {A = ℕ} k (replicate n 0) ≡ replicate (n - k) 0
-drop-replicate n zero = rw sub-zero
-drop-replicate zero (suc k) = rw zero-sub
-drop-replicate (suc n) (suc k) = rw suc-sub-suc (drop-replicate n k)
-
 pub length_part : (a w : ℕ) (l : List ℕ) → a + w ≤ length l → length (take (a + w - a) (drop a l)) ≡ w
 length_part a w l h = rw (add-sub_cancel_left a w) (length-take-le w (drop a l) (simp length-drop (omega arith)))
 
@@ -87,7 +74,7 @@ pub zeros : (l : List ℕ) → all_zero l ≡ true → l ≡ replicate (length l
 unfolding all_zero
 zeros [] e = refl
 zeros (x ∷ l) e =
-    let t = both (eqb x 0) (all_zero l) e in
+    let t = and_parts (eqb x 0) (all_zero l) e in
     let h = eqb-true x 0 t.0 in
     let k = zeros l t.1 in
     cc
