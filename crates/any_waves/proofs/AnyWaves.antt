@@ -43,6 +43,7 @@ use Rattle.angles.specs.Angles.{Small, AllSmall}
 use Rattle.angles.proofs.Angles.{never-refused-13}
 use Rattle.any_waves.specs.Over.{Waves, hop_ratio_over, hops_over, sphe_over, hop_geometry_over, geometry_over_by, geometry_over, round_over, rounds_over, bent_over, e_line_over, f2_line_over_by, f2_line_over, f1_found_over, f1_own_over_by, f1_own_over, f1_line_over_by, f1_line_over, regular_over, ray_over, hop_over_by, row_over_by, es_row_over, es_from_over, muf_at_slot_over, muf_from_search_over_by, muf_of_rows_over}
 use Rattle.any_waves.specs.AnyWaves.{OursWhereSmall, AnyWaves, marked, MarkUnmet}
+use Rattle.std.proofs.lemmas.Bool.{and_parts}
 
 -- every takeoff angle of a geometry's psi is small
 abbrev GoodRay : Float → Float → Float → Type 0
@@ -209,11 +210,6 @@ module _ (w : Waves) (alike : OursWhereSmall w) where
         ap (λ (x : Result RegularLines Refusal). regular_by x t l ks step) (regular-so find t l f2d clat clck)
 
   -- where it is refused 9 nothing is looked at
-  and_both : (a b : Bool) → (a && b) ≡ true → (a ≡ true) × (b ≡ true)
-  and_both true b e = (refl, e)
-  and_both false true e = (e, refl)
-  and_both false false e = (e, e)
-
   not-above : (b : Bool) → amin_by b ≡ true → b ≡ false
   not-above true e = sym e
   not-above false e = refl
@@ -230,8 +226,8 @@ pub any-waves : AnyWaves
 unfolding muf_of_rows_over muf_of_rows_with muf_from_search_with in_domain
 any-waves w alike find s n row f2d clat clck c p q r =
     search-by w alike (in_domain c) (lists_reach (controlling_of s) (length f2d) (length clat) (length clck)) find s n row f2d clat clck c
-    (λ e. let a = and_both w alike (within_of c.gcdkm f40100 && within_of c.gcd f6_3) (amin_by (c.amind >f f90)) e in
-    let b = and_both w alike (within_of c.gcdkm f40100) (within_of c.gcd f6_3) a.0 in
+    (λ e. let a = and_parts (within_of c.gcdkm f40100 && within_of c.gcd f6_3) (amin_by (c.amind >f f90)) e in
+    let b = and_parts (within_of c.gcdkm f40100) (within_of c.gcd f6_3) a.0 in
     never-refused-13 c.gcd c.gcdkm c.amind p q r b.1 b.0 (not-above w alike (c.amind >f f90) a.1))
 
 marked-ours : (mark : Float) → OursWhereSmall (marked mark)
