@@ -43,7 +43,7 @@ impl<'a> File<'a> {
         &self.bytes[from..from + self.form.size]
     }
 
-    #[tactic(auto, using(records::proofs::Lists::rest), unfolding(crate::specs::Chain::head_good))]
+    #[tactic(auto, using(std::proofs::lemmas::List::take_rest), unfolding(crate::specs::Chain::head_good))]
     fn head_good(&self) -> bool
         requires { self.now.form.size ≤ length self.now.bytes.now }
         ensures { result ≡ head_good self.now.form (record_at self.now.form self.now.bytes.now 0) }
