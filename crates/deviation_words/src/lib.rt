@@ -13,7 +13,7 @@ use refusal::Refusal;
 pub fn f2dis(deciles: &[f32], numbers: &[u32], out: &mut [u32]) -> Result<(), Refusal>
     ensures { (answer_number result ≡ (f2dis_left deciles.now numbers.now out.old).number) × (out.new ≡ (f2dis_left deciles.now numbers.now out.old).words) }
 {
-    if numbers.len() < 5 || out.len() < 1 {
+    if numbers.len() < 5 || out.is_empty() {
         return Err(Refusal::Length);
     }
     let fmuf = scalar::number(numbers[0]);

@@ -20,7 +20,7 @@ pub fn port_sang(gcdkm: u32, amind: u32, out: &mut [u32]) -> u32
 fn selmod_into(state: &[u32], out: &mut [u32]) -> Result<(), Refusal>
     ensures { (answer_number result ≡ (port_selmod state.now out.old).number) × (out.new ≡ (port_selmod state.now out.old).words) }
 {
-    if state.len() < STATE_WORDS || out.len() < 1 {
+    if state.len() < STATE_WORDS || out.is_empty() {
         return Err(Refusal::Length);
     }
     let s = port_state::state_of(state);

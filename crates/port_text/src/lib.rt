@@ -12,7 +12,7 @@ use refusal::Refusal;
 fn sheet_text_into(file: &[u8], out: &mut [u8], length: &mut [u32]) -> Result<(), Refusal>
     ensures { (answer_number result ≡ (sheet_left file.now out.old length.old).number) × ((out.new ≡ (sheet_left file.now out.old length.old).bytes) × (length.new ≡ (sheet_left file.now out.old length.old).words)) }
 {
-    if out.len() < sheet_text::ROOM || length.len() < 1 {
+    if out.len() < sheet_text::ROOM || length.is_empty() {
         return Err(Refusal::Length);
     }
     let page = sheet_text::answer(file)?;

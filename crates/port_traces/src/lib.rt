@@ -26,7 +26,7 @@ fn compare_into(
     ensures difference_after { difference.new ≡ (port_compare a.now ah.now b.now bh.now khz.old which.old difference.old out.old).difference }
     ensures out_after { out.new ≡ (port_compare a.now ah.now b.now bh.now khz.old which.old difference.old out.old).out }
 {
-    if out.len() < 1 {
+    if out.is_empty() {
         return Err(Refusal::Length);
     }
     let count = traces::compare(a, ah, b, bh, khz, which, difference);
