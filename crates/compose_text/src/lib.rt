@@ -10,6 +10,7 @@ use circuit::Circuit;
 use compose_line::{Fault, LineKind, Row, Wrong};
 
 // What the lines say from that of the path on: the circuit so far, and the lines of deciles so far.
+// Stays: a count beside the circuit, whose words are flat and in fixed memory, as callers in C have them.
 #[derive(Clone, Copy, Debug, PartialEq, Eq)]
 pub struct Draft {
     pub circuit: Circuit,

@@ -39,11 +39,9 @@ fn head_into(h: MufHour, out: &mut [u32])
     let x = [
         h.emuf, h.f1muf, h.f2muf, h.esmuf, h.allmuf, h.fot, h.hpf, h.angmuf,
     ];
-    let modmuf = h.modmuf;
-    let ks = h.ks;
     port_state::floats_into(&x, out, 0);
-    out[8] = port_state::word(modmuf);
-    out[9] = port_state::count(ks);
+    out[8] = port_state::word(h.modmuf);
+    out[9] = port_state::count(h.ks);
 }
 
 pub fn hour_into(h: MufHour, out: &mut [u32])

@@ -1,5 +1,5 @@
 // States as words, so that any language can call the port: a float is its bits, an i32 its two's complement.
-// Stays: words `w` of any length are lent, as callers in C have them, so a function asks that a state's words are there, and takes the state `s` or the place `from` beside them.
+// Stays: words `w` of any length are lent, as callers in C have them, so a function asks that a state's words are there, and takes the state `s` beside them; and the place `from`, so that what is written is one equation over the whole list.
 #![tactic(auto)]
 
 ghost use Rattle.std.specs.Prelude.{◌≡◌, ℕ, ◌+◌, ◌*◌, ◌≤◌, ◌<◌, length};
