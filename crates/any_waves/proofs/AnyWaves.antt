@@ -36,7 +36,7 @@ use Rattle.tangents.specs.declared.F2Tangent.{F2Tangent}
 use Rattle.e_lines.specs.declared.HeightPair.{HeightPair}
 use Rattle.sporadic.specs.Sporadic.{ray_of, taken_of, hop_by, row_by, es_row_of, start_of, next_by, es_from}
 use Rattle.sporadic.specs.declared.EsRay.{EsRay}
-use Rattle.sporadic.specs.declared.EsRow.{EsRow}
+use Rattle.layers.specs.declared.EsParams.{EsParams}
 use Rattle.sporadic.specs.declared.EsSearch.{EsSearch}
 use Rattle.muf.specs.Curmuf.{within_of, amin_by, in_domain, lists_reach, found_then, regular_with, regular_by, muf_at_slot_with, muf_from_search_by, muf_from_search_with, muf_of_rows_with}
 use Rattle.angles.specs.Angles.{Small, AllSmall}
@@ -178,23 +178,23 @@ module _ (w : Waves) (alike : OursWhereSmall w) where
         let whole : Float → Float → EsRay = λ cpsi spsi. let tdel = (cpsi -f RZ /f (RZ +f hs)) /f spsi in let cdel = f1 /f sqrt_of (f1 +f tdel *f tdel) in let sphe = RZ *f cdel /f (RZ +f hs) in record { tdel = tdel; secp = f1 /f sqrt_of (f1 -f sphe *f sphe) } in
         ap (λ (y : Float). whole y (w.sine psi)) (alike psi is).1 ∙ ap (whole (cos_of psi)) (alike psi is).0
 
-    hop-by : (o : Result Float Refusal) (a : EsSearch) (k : ℕ) (row : EsRow) → hops_of c.gcdkm c.amind row.hs ≡ o → hop_over_by o w a k row c ≡ hop_by o a k row c
+    hop-by : (o : Result Float Refusal) (a : EsSearch) (k : ℕ) (row : EsParams) → hops_of c.gcdkm c.amind row.hs ≡ o → hop_over_by o w a k row c ≡ hop_by o a k row c
     hop-by (Ok x) a k row e = ap (λ (ray : EsRay). Ok (taken_of a k row ray x)) (ray-so row.hs row.hs x e)
     hop-by (Err r) a k row e = refl
 
-    row-by : (b : Bool) (a : EsSearch) (k : ℕ) (row : EsRow) → row_over_by b w a k row c ≡ row_by b a k row c
+    row-by : (b : Bool) (a : EsSearch) (k : ℕ) (row : EsParams) → row_over_by b w a k row c ≡ row_by b a k row c
     row-by true a k row = refl
     row-by false a k row = ap (λ (o : Result Float Refusal). hop_over_by o w a k row c) (hops-so row.hs) ∙ hop-by (hops_of c.gcdkm c.amind row.hs) a k row refl
 
-    row-so : (a : EsSearch) (k : ℕ) (row : EsRow) → es_row_over w a k row c ≡ es_row_of a k row c
+    row-so : (a : EsSearch) (k : ℕ) (row : EsParams) → es_row_over w a k row c ≡ es_row_of a k row c
     unfolding es_row_over es_row_of
-    row-so a k row = row-by (row.fs1 ≤f f0) a k row
+    row-so a k row = row-by (at row.fs 1 ≤f f0) a k row
 
     next-so : (step : Result EsSearch Refusal) (f g : EsSearch → Result EsSearch Refusal) → ((b : EsSearch) → f b ≡ g b) → next_by step f ≡ next_by step g
     next-so (Ok b) f g h = h b
     next-so (Err r) f g h = refl
 
-    es-so : (row : ℕ → EsRow) (n k : ℕ) (a : EsSearch) → es_from_over w row c n k a ≡ es_from row c n k a
+    es-so : (row : ℕ → EsParams) (n k : ℕ) (a : EsSearch) → es_from_over w row c n k a ≡ es_from row c n k a
     unfolding es_from_over es_from
     es-so row zero k a = refl
     es-so row (suc n) k a =
@@ -214,7 +214,7 @@ module _ (w : Waves) (alike : OursWhereSmall w) where
   not-above true e = sym e
   not-above false e = refl
 
-  search-by : (d r : Bool) (find : Finder) (s : IonoState) (n : ℕ) (row : ℕ → EsRow) (f2d clat clck : List Float) (c : PathNumbers) → (d ≡ true → AllSmall c.gcd c.gcdkm c.amind) → muf_from_search_over_by d r w find s (es_from_over w row c n 0 start_of) f2d clat clck c ≡ muf_from_search_by d r find s (es_from row c n 0 start_of) f2d clat clck c
+  search-by : (d r : Bool) (find : Finder) (s : IonoState) (n : ℕ) (row : ℕ → EsParams) (f2d clat clck : List Float) (c : PathNumbers) → (d ≡ true → AllSmall c.gcd c.gcdkm c.amind) → muf_from_search_over_by d r w find s (es_from_over w row c n 0 start_of) f2d clat clck c ≡ muf_from_search_by d r find s (es_from row c n 0 start_of) f2d clat clck c
   search-by true true find s n row f2d clat clck c small =
       let ks = controlling_of s in
       let k = small refl in

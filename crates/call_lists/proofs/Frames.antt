@@ -29,7 +29,7 @@ use Rattle.layer_mufs.specs.declared.PathNumbers.{PathNumbers}
 use Rattle.controlling_slot.proofs.Small.{controlling-small}
 use Rattle.sporadic.specs.Sporadic.{start_of, row_at, es_from}
 use Rattle.muf.specs.Curmuf.{in_domain, lists_reach, regular_with, found_muf_of, es_by, regular_by, muf_at_slot_with, muf_from_search_by, muf_from_search_with, muf_of_rows_with, taken_rows_by, row_count_of, flat_with, answer_by, rewrite_by}
-use Rattle.sporadic.specs.declared.EsRow.{EsRow}
+use Rattle.layers.specs.declared.EsParams.{EsParams}
 use Rattle.sporadic.specs.declared.EsSearch.{EsSearch}
 use Rattle.muf.specs.declared.RegularLines.{RegularLines}
 use Rattle.muf.specs.declared.MufAnswer.{MufAnswer}
@@ -128,7 +128,7 @@ done-by false r find s t step f2d clat clck c agree g fresh = (refl, refl, refl)
 picked : (d e : Bool) (k : ℕ) → d ≡ true → e ≡ true → pick_if (d && e) k ≡ Some k
 picked d e k hd he = rw (hd, he)
 
-done-follows : (find : Finder) (s t : IonoState) (n : ℕ) (row : ℕ → EsRow) (f2d clat clck : List Float) (c : PathNumbers) → ((k : ℕ) → pick_if (in_domain c && eqb (length f2d) 576) (controlling_of s) ≡ Some k → AgreesAt find t k) → Common s t → ((k : ℕ) → pick_if (in_domain c && eqb (length f2d) 576) (controlling_of s) ≡ Some k → slot_at t k ≡ slot_at s k) → Follows (muf_of_rows_with find t n row f2d clat clck c) (muf_of_rows_with gethp_of s n row f2d clat clck c) t (controlling_of s)
+done-follows : (find : Finder) (s t : IonoState) (n : ℕ) (row : ℕ → EsParams) (f2d clat clck : List Float) (c : PathNumbers) → ((k : ℕ) → pick_if (in_domain c && eqb (length f2d) 576) (controlling_of s) ≡ Some k → AgreesAt find t k) → Common s t → ((k : ℕ) → pick_if (in_domain c && eqb (length f2d) 576) (controlling_of s) ≡ Some k → slot_at t k ≡ slot_at s k) → Follows (muf_of_rows_with find t n row f2d clat clck c) (muf_of_rows_with gethp_of s n row f2d clat clck c) t (controlling_of s)
 unfolding muf_of_rows_with muf_from_search_with lists_reach
 done-follows find s t n row f2d clat clck c agree g fresh =
     let step = es_from row c n 0 start_of in
@@ -154,7 +154,7 @@ answered-by true true s step f2d clat clck c e = (refl, refl)
 answered-by true false s step f2d clat clck c e = absurd (not-both e)
 answered-by false r s step f2d clat clck c e = absurd (not-both e)
 
-done-picked : (s : IonoState) (n : ℕ) (row : ℕ → EsRow) (f2d clat clck : List Float) (c : PathNumbers) → is_ok (hour_in (muf_of_rows_with gethp_of s n row f2d clat clck c)) ≡ true → pick_if (in_domain c && eqb (length f2d) 576) (controlling_of s) ≡ Some (controlling_of s)
+done-picked : (s : IonoState) (n : ℕ) (row : ℕ → EsParams) (f2d clat clck : List Float) (c : PathNumbers) → is_ok (hour_in (muf_of_rows_with gethp_of s n row f2d clat clck c)) ≡ true → pick_if (in_domain c && eqb (length f2d) 576) (controlling_of s) ≡ Some (controlling_of s)
 unfolding muf_of_rows_with muf_from_search_with lists_reach
 done-picked s n row f2d clat clck c e =
     let k = controlling_of s in

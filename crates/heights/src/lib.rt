@@ -125,17 +125,25 @@ pub fn gethp_read(p: Profile, exact: bool, fxx: f32) -> Heights
     by_densities(p, ht, fr, segment)
 }
 
+// A state's profile, lent; `rises` is what a test says of its heights.
+pub fn lent(s: &IonoState, rises: bool) -> Profile<'_>
+    ensures htr { result.htr.now ≡ s.now.htr }
+    ensures fnsq { result.fnsq.now ≡ s.now.fnsq }
+    ensures rises { result.rises ≡ rises }
+{
+    Profile {
+        htr: &s.htr,
+        fnsq: &s.fnsq,
+        rises,
+    }
+}
+
 // The heights of the vertical frequency `fxx`, densities read by a walk or by scans: `gethp` where `rises` is what the rising test says of the state's heights, for a caller that asks for many frequencies on one profile.
 // Stays: `s` and `fxx` are the Rust's parameters, and `rises` goes beside `s` where the test is made once.
 pub fn gethp_rising(s: IonoState, rises: bool, fxx: f32) -> Heights
     ensures { result ≡ gethp_read_of s.exact_virtual_height rises s.htr s.fnsq fxx }
 {
-    let p = Profile {
-        htr: &s.htr,
-        fnsq: &s.fnsq,
-        rises,
-    };
-    gethp_read(p, s.exact_virtual_height, fxx)
+    gethp_read(lent(&s, rises), s.exact_virtual_height, fxx)
 }
 
 // The virtual and the true height of the vertical frequency `fxx`. The heights are tested here: the state's rising mark is not read.

@@ -13,10 +13,10 @@ pub mod lent;
 
 use crate::lent::Numbers;
 use layer_mufs::PathNumbers;
-use layers::{IonoState, LayerMuf};
+use layers::{EsParams, IonoState, LayerMuf};
 use refusal::Refusal;
 use slot_curves::Slot;
-use sporadic::{EsRow, EsSearch, Rewrite};
+use sporadic::{EsSearch, Rewrite};
 
 // The lines of the regular layers.
 #[derive(Clone, Copy, Debug, PartialEq)]
@@ -212,15 +212,13 @@ pub fn muf_from_search<L: Numbers>(
 }
 
 // Row k of numbers that stand four a row.
-fn flat_row<L: Numbers>(es: L, k: usize) -> EsRow
+fn flat_row<L: Numbers>(es: L, k: usize) -> EsParams
     requires there { 4 * k + 3 < length (L.floats es) }
     requires fits { 4 * k + 3 < 2 ^ 64 }
     ensures { result ≡ row_at (L.floats es) k }
 {
-    EsRow {
-        fs0: es.number(4 * k),
-        fs1: es.number(4 * k + 1),
-        fs2: es.number(4 * k + 2),
+    EsParams {
+        fs: [es.number(4 * k), es.number(4 * k + 1), es.number(4 * k + 2)],
         hs: es.number(4 * k + 3),
     }
 }

@@ -27,8 +27,8 @@ fn lowest_f2(points: &[LayerParams], f2m3: &[f32], flfc: f32) -> f32
     ensures { result ≡ f2muf_of points.now f2m3.now flfc (length points.now) }
 {
     let mut f2muf = 1000.0;
-    for (k, p) in points.iter().enumerate() {
-        let fmuf = nominal_factors::f2_at(p.fi[2], f2m3[k], flfc);
+    for (p, x) in points.iter().zip(f2m3) {
+        let fmuf = nominal_factors::f2_at(p.fi[2], *x, flfc);
         f2muf = nominal_factors::lower(f2muf, fmuf);
     }
     f2muf
@@ -84,9 +84,7 @@ fn nominal(points: &[LayerParams], f2m3: &[f32], es: &[EsParams], gcd: f32, gcdk
     let fot = scalar::max(0.85 * f2muf, emuf);
     let hpf = scalar::max(1.15 * f2muf, emuf);
     let esmuf = lowest_es(es, gcd, gcdkm);
-    let z = e_lines::zero_line();
-    let layers = [z, z, z, z];
-    // Stays: -1 and 0 are the Rust's, which has no F1 and no mode here.
+    // Stays: -1 is the Rust's, which has no F1 here.
     MufHour {
         emuf,
         f1muf: -1.0,
@@ -95,10 +93,7 @@ fn nominal(points: &[LayerParams], f2m3: &[f32], es: &[EsParams], gcd: f32, gcdk
         allmuf,
         fot,
         hpf,
-        angmuf: 0.0,
-        modmuf: 0,
-        layers,
-        ks: 0,
+        ..muf::zero_hour()
     }
 }
 

@@ -9,7 +9,6 @@ ghost use Rattle.port_heights.specs.Exports.{state_with_room, heights_left, geth
 use heights::Heights;
 use layers::IonoState;
 use port_state::STATE_WORDS;
-use readings::Profile;
 use refusal::Refusal;
 
 // The state, where it has its words and there is room for n of the answer.
@@ -61,11 +60,7 @@ fn reading(state: &[u32], zi: u32, out: &mut [u32]) -> Result<(), Refusal>
     ensures { (answer_number result ≡ (reading_left state.now zi out.old).number) × (out.new ≡ (reading_left state.now zi out.old).words) }
 {
     let s = state_with_room(state, out, 3)?;
-    let p = Profile {
-        htr: &s.htr,
-        fnsq: &s.fnsq,
-        rises: s.htr_rises,
-    };
+    let p = heights::lent(&s, s.htr_rises);
     height_words::reading_into(p.read_by_scan(scalar::number(zi)), out);
     Ok(())
 }

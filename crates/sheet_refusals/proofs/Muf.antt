@@ -27,7 +27,7 @@ use Rattle.e_lines.specs.declared.HeightPair.{HeightPair}
 use Rattle.layer_mufs.specs.declared.Deviations.{Deviations}
 use Rattle.controlling_slot.proofs.Small.{controlling-small}
 use Rattle.sporadic.specs.Sporadic.{hop_by, row_by, es_row_of, start_of, row_at, next_by, es_from}
-use Rattle.sporadic.specs.declared.EsRow.{EsRow}
+use Rattle.layers.specs.declared.EsParams.{EsParams}
 use Rattle.sporadic.specs.declared.EsSearch.{EsSearch}
 use Rattle.muf.specs.Hour.{mode_by, mode_of, hour_of}
 use Rattle.muf.specs.Curmuf.{in_domain, lists_reach, found_then, regular_with, found_muf_of, es_by, regular_by, muf_at_slot_with, muf_from_search_by, muf_from_search_with, muf_of_rows_with, row_count_of, flat_with, flat_of, answer_by, curmuf_of}
@@ -134,11 +134,11 @@ module _ (P : Refusal → Type 0) (input : P Refusal.MufInput) (hops : P Refusal
 
   -- ---- Es
 
-  hop-by : (o : Result Float Refusal) (a : EsSearch) (k : ℕ) (row : EsRow) (c : PathNumbers) → IfErr o P → IfErr (hop_by o a k row c) P
+  hop-by : (o : Result Float Refusal) (a : EsSearch) (k : ℕ) (row : EsParams) (c : PathNumbers) → IfErr o P → IfErr (hop_by o a k row c) P
   hop-by (Ok x) a k row c p = tt
   hop-by (Err r) a k row c p = p
 
-  row-by : (b : Bool) (a : EsSearch) (k : ℕ) (row : EsRow) (c : PathNumbers) → IfErr (row_by b a k row c) P
+  row-by : (b : Bool) (a : EsSearch) (k : ℕ) (row : EsParams) (c : PathNumbers) → IfErr (row_by b a k row c) P
   row-by true a k row c = tt
   row-by false a k row c = hop-by (hops_of c.gcdkm c.amind row.hs) a k row c (hops-in c.gcdkm c.amind row.hs)
 
@@ -146,10 +146,10 @@ module _ (P : Refusal → Type 0) (input : P Refusal.MufInput) (hops : P Refusal
   next-by (Ok a) f p q = q a
   next-by (Err r) f p q = p
 
-  es-in : (row : ℕ → EsRow) (c : PathNumbers) (n k : ℕ) (a : EsSearch) → IfErr (es_from row c n k a) P
+  es-in : (row : ℕ → EsParams) (c : PathNumbers) (n k : ℕ) (a : EsSearch) → IfErr (es_from row c n k a) P
   unfolding es_from es_row_of
   es-in row c zero k a = tt
-  es-in row c (suc n) k a = next-by (es_row_of a k (row k) c) (λ b. es_from row c n (k + 1) b) (row-by ((row k).fs1 ≤f f0) a k (row k) c) (λ b. es-in row c n (k + 1) b)
+  es-in row c (suc n) k a = next-by (es_row_of a k (row k) c) (λ b. es_from row c n (k + 1) b) (row-by (at (row k).fs 1 ≤f f0) a k (row k) c) (λ b. es-in row c n (k + 1) b)
 
   -- ---- the whole
 

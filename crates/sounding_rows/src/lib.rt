@@ -15,7 +15,7 @@ ghost use Rattle.sounding_rows.specs.Rows;
 ghost use Rattle.sounding_rows.specs.Rows.{rows_of, true_by_profile, segment_by_profile, virtual_by_parabola, virtual_by, made, rows_by, rows_with};
 
 use layers::IonoState;
-use readings::{Found, Profile};
+use readings::Found;
 use reflectrix::Ionogram;
 
 const HTE: [f32; 10] = [
@@ -50,11 +50,7 @@ fn make(fv: [f32; 30], hprim: [f32; 30], htrue: [f32; 30], segment: [u32; 30]) -
 fn by_profile(t: Tested, fv: [f32; 30]) -> Ionogram
     ensures { result ≡ rows_by true gethp_of t.s 0 fv }
 {
-    let p = Profile {
-        htr: &t.s.htr,
-        fnsq: &t.s.fnsq,
-        rises: t.rises,
-    };
+    let p = heights::lent(&t.s, t.rises);
     let exact = t.s.exact_virtual_height;
     let mut hprim = [0.0; 30];
     let mut htrue = [0.0; 30];
@@ -130,11 +126,7 @@ fn virtual_rows(t: Tested, k: usize, fv: [f32; 30]) -> [f32; 30]
     ensures { result ≡ rows_of (λ f. virtual_by (at t.s.fi (3 * k + 1) >f f0) gethp_of t.s k f) fv 10 Rows.HPE 20 }
 {
     if t.s.fi[3 * k + 1] > 0.0 {
-        let p = Profile {
-            htr: &t.s.htr,
-            fnsq: &t.s.fnsq,
-            rises: t.rises,
-        };
+        let p = heights::lent(&t.s, t.rises);
         let exact = t.s.exact_virtual_height;
         return rows_from_ten(HPE, fv, |f| heights::gethp_read(p, exact, f).hp);
     }

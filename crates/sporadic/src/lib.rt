@@ -2,36 +2,13 @@
 #![tactic(auto)]
 
 ghost use Rattle.std.specs.Prelude.{◌≡◌, ℕ, ◌<◌};
-ghost use Rattle.sporadic.specs.Sporadic.{as_es_row, ray_of, taken_of, es_row_of, start_of, es_from, Reads, sigl4_of, es_found_of, es_line_of};
+ghost use Rattle.sporadic.specs.Sporadic.{ray_of, taken_of, es_row_of, start_of, es_from, Reads, sigl4_of, es_found_of, es_line_of};
 ghost use Rattle.sporadic.specs.Says.{RowSays, RowsSay};
 
 use constants::RZ;
 use layer_mufs::PathNumbers;
 use layers::{EsParams, LayerMuf};
 use refusal::Refusal;
-
-// One Es row: the three frequencies of an `EsParams`, in its order, and the height.
-#[derive(Clone, Copy, Debug, PartialEq)]
-pub struct EsRow {
-    pub fs0: f32,
-    pub fs1: f32,
-    pub fs2: f32,
-    pub hs: f32,
-}
-
-impl From<EsParams> for EsRow {
-    ghost from_gives = { λ e row. row ≡ as_es_row e };
-
-    fn from(e: EsParams) -> EsRow {
-        let fs = e.fs;
-        EsRow {
-            fs0: fs[0],
-            fs1: fs[1],
-            fs2: fs[2],
-            hs: e.hs,
-        }
-    }
-}
 
 // A row's ray: the tangent of its takeoff angle, and the secant at the layer.
 #[derive(Clone, Copy, Debug, PartialEq)]
@@ -48,7 +25,7 @@ pub struct EsSearch {
     pub ksx: usize,
     pub ray: EsRay,
     pub hop: f32,
-    pub row: EsRow,
+    pub row: EsParams,
 }
 
 // The row whose lower decile is written anew, and that decile.
@@ -77,10 +54,10 @@ pub fn es_ray(hs: f32, hop: f32, gcd: f32) -> EsRay
 }
 
 // Row k controls where its MUF is the lowest so far.
-fn es_taken(a: EsSearch, k: usize, row: EsRow, ray: EsRay, hop: f32) -> EsSearch
+fn es_taken(a: EsSearch, k: usize, row: EsParams, ray: EsRay, hop: f32) -> EsSearch
     ensures { result ≡ taken_of a k row ray hop }
 {
-    let esd = row.fs1 * ray.secp;
+    let esd = row.fs[1] * ray.secp;
     if a.esmuf - esd > 0.0 {
         return EsSearch {
             esmuf: esd,
@@ -94,11 +71,11 @@ fn es_taken(a: EsSearch, k: usize, row: EsRow, ray: EsRay, hop: f32) -> EsSearch
 }
 
 // One row's turn: passed over where its median is at most 0.
-pub fn es_row(a: EsSearch, k: usize, row: EsRow, c: PathNumbers) -> Result<EsSearch, Refusal>
+pub fn es_row(a: EsSearch, k: usize, row: EsParams, c: PathNumbers) -> Result<EsSearch, Refusal>
     ensures value { result ≡ es_row_of a k row c }
     ensures row_says { RowSays result a k row c }
 {
-    if row.fs1 <= 0.0 {
+    if row.fs[1] <= 0.0 {
         return Ok(a);
     }
     let hop = hops::hop_count(c.gcdkm, c.amind, row.hs)?;
@@ -119,10 +96,8 @@ pub fn es_start() -> EsSearch
             secp: 0.0,
         },
         hop: 0.0,
-        row: EsRow {
-            fs0: 0.0,
-            fs1: 0.0,
-            fs2: 0.0,
+        row: EsParams {
+            fs: [0.0; 3],
             hs: 0.0,
         },
     }
@@ -130,10 +105,14 @@ pub fn es_start() -> EsSearch
 
 // The first n rows, in order, each as `row` reads it.
 // Stays: a row's number is what its reader is asked by, and what the search keeps of it.
-pub fn search<F: Fn(usize) -> EsRow>(row: F, n: usize, c: PathNumbers) -> Result<EsSearch, Refusal>
+pub fn search<F: Fn(usize) -> EsParams>(
+    row: F,
+    n: usize,
+    c: PathNumbers,
+) -> Result<EsSearch, Refusal>
     requires { (k : ℕ) → k < n → F.pre row k }
-    ensures value { (rows : ℕ → EsRow) → Reads (F.post row) n rows → result ≡ es_from rows c n 0 start_of }
-    ensures rows_say { (rows : ℕ → EsRow) → Reads (F.post row) n rows → RowsSay result rows c n 0 start_of }
+    ensures value { (rows : ℕ → EsParams) → Reads (F.post row) n rows → result ≡ es_from rows c n 0 start_of }
+    ensures rows_say { (rows : ℕ → EsParams) → Reads (F.post row) n rows → RowsSay result rows c n 0 start_of }
 {
     let mut a = es_start();
     for k in 0..n {
@@ -162,7 +141,8 @@ fn lower_spread(xes: f32, sigb: f32, sigu4: f32) -> f32
 fn es_found(a: EsSearch, fe: f32) -> EsLine
     ensures { result ≡ es_found_of a fe }
 {
-    let EsRow { fs0, fs1, fs2, hs } = a.row;
+    let EsParams { fs, hs } = a.row;
+    let [fs0, fs1, fs2] = fs;
     let EsRay { tdel, secp } = a.ray;
     let sigu4 = (fs2 - fs1) / 1.28;
     let sigb = (fs1 - fs0) / 1.28;

@@ -39,7 +39,8 @@ returns c =
     let g = c.well_formed.0.1.1.0.1.1.1.1.1.1.1.0 in
     let told : t.rises ≡ rises_of t.s.htr = search rules in
     let held = each-held t.s.htr g.0 g.1.1 in
-    let hprim = l.invariant.1 ∙ ap (rows_of _ _ _ _) e ∙ lent_rows (λ h. h.hp) t.s t.rises held told _ _ _ _ in
-    let htrue = l.invariant.2 ∙ ap (rows_of _ _ _ _) e ∙ lent_rows (λ h. h.ht) t.s t.rises held told _ _ _ _ in
-    let segment = l.invariant.3 ∙ ap (rows_of _ _ _ _) e ∙ lent_rows (λ h. h.segment) t.s t.rises held told _ _ _ _ in
+    let p = c.lent-p.ensures in
+    let hprim = (rw (p.htr, p.fnsq, p.rises) at l.invariant.1) ∙ ap (rows_of _ _ _ _) e ∙ lent_rows (λ h. h.hp) t.s t.rises held told _ _ _ _ in
+    let htrue = (rw (p.htr, p.fnsq, p.rises) at l.invariant.2) ∙ ap (rows_of _ _ _ _) e ∙ lent_rows (λ h. h.ht) t.s t.rises held told _ _ _ _ in
+    let segment = (rw (p.htr, p.fnsq, p.rises) at l.invariant.3) ∙ ap (rows_of _ _ _ _) e ∙ lent_rows (λ h. h.segment) t.s t.rises held told _ _ _ _ in
     rw (← hprim, ← htrue, ← segment) c.make.ensures
