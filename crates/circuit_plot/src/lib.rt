@@ -33,6 +33,8 @@ fn profile_at(s: IonoState, k: usize) -> Profile
     Profile { htr, fnsq }
 }
 
+// Stays: the calls written out. An array's `map` over the numbers asks at each of its calls that the slot's is below three, and the
+// closure would have to carry what each number is asked to be.
 fn profiles(s: IonoState) -> [Profile; 3]
     ensures { result ≡ profiles_of s }
 {

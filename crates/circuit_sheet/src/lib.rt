@@ -67,7 +67,8 @@ fn no_slot() -> SlotRows
 
 // The rows and marks of slot k, with cells of its own.
 // Stays: s, k and nang are handed on to the slot sheet, which has them one by one as the Rust's calls do; a record of them, made
-// here and taken apart there, is no plainer.
+// here and taken apart there, is no plainer. A `map_or` was tried: its closure copies the marks
+// out of the sheet, which takes a variable there as it does here, so it is no plainer either.
 fn slot_rows(s: IonoState, k: usize, nang: usize, lines: [LayerMuf; 4]) -> SlotRows
     ensures { result ≡ slot_rows_of s k nang lines }
 {
@@ -83,6 +84,8 @@ fn slot_rows(s: IonoState, k: usize, nang: usize, lines: [LayerMuf; 4]) -> SlotR
     no_slot()
 }
 
+// Stays: the calls written out. `map` over the three numbers was tried, and the goal did not close: the lemma on a `map` is of closures
+// that hold nothing, and this one holds s, nang and lines.
 fn answered(s: IonoState, nang: usize, hour: MufHour) -> Sheet
     ensures { result ≡ answered_of s nang hour }
 {

@@ -59,25 +59,22 @@ fn put_placed<const N: usize>(page: &mut Page<N>, places: usize, n: u64)
     put_digits(page, places, n);
 }
 
-// By the bits: a finite number's are below those of the infinities, a NaN's above.
 fn kind_of(v: f32) -> Kind
     ensures { result ≡ number_kind_of v }
 {
-    let b = scalar::bits(v);
-    let size = b % 0x8000_0000;
-    if size > 0x7f80_0000 {
+    if v.is_nan() {
         return Kind::NotANumber;
     }
-    if size == 0x7f80_0000 {
-        if b < 0x8000_0000 {
-            return Kind::Infinity;
+    if v.is_infinite() {
+        if v.is_sign_negative() {
+            return Kind::MinusInfinity;
         }
-        return Kind::MinusInfinity;
+        return Kind::Infinity;
     }
-    if b < 0x8000_0000 {
-        return Kind::Plus;
+    if v.is_sign_negative() {
+        return Kind::Minus;
     }
-    Kind::Minus
+    Kind::Plus
 }
 
 // n units after their sign, if they have one, at the right of so many characters.

@@ -94,19 +94,17 @@ fn minus(n: u64) -> Printed
 pub fn figure(v: f32) -> Printed
     ensures { result ≡ figure_of v }
 {
-    let b = scalar::bits(v);
-    let size = b % 0x8000_0000;
-    if size > 0x7f80_0000 {
+    if v.is_nan() {
         return Printed::NotANumber;
     }
-    if size == 0x7f80_0000 {
+    if v.is_infinite() {
         return Printed::Infinite;
     }
     let n = times(v, 10);
-    if b < 0x8000_0000 {
-        return plus(n);
+    if v.is_sign_negative() {
+        return minus(n);
     }
-    minus(n)
+    plus(n)
 }
 
 // The case's number.

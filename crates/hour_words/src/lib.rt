@@ -44,6 +44,8 @@ fn head_into(h: MufHour, out: &mut [u32])
     out[9] = port_state::count(h.ks);
 }
 
+// Stays: the four lines written out, since each call of `line_into` asks that its words are there, and a loop over the lines would
+// have to carry that, and what the lines before left.
 pub fn hour_into(h: MufHour, out: &mut [u32])
     requires { 54 ≤ length out.old }
     ensures { out.new ≡ hour_into h out.old }

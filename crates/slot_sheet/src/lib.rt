@@ -13,6 +13,7 @@ use shapes::Mark;
 
 // The ionogram of a slot, the marks of its fifty heights, and the state as `lecden` of the slot left
 // it.
+// Stays: a slot's sheet also leaves the state, and the sheet of a file keeps rows and marks alone of the slots.
 #[derive(Clone, Copy, Debug, PartialEq)]
 pub struct SlotSheet {
     pub state: IonoState,
