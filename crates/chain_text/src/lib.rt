@@ -30,6 +30,7 @@ fn put_chain<const N: usize>(page: &mut Page<N>, file: &[u8], chain: &Chain)
     requires { chain_of form64 file.now ≡ Ok chain.now }
     ensures { page.new ≡ with_text N page.old (followed_text file.now chain.now) }
 {
+    // Stays: n is the record's number, which the line says and at which its bytes stand; the list is of such numbers.
     for n in &chain.order[..chain.count] {
         put_step(page, *n, &file[64 * n..64 * n + 64]);
     }

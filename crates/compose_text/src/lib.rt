@@ -121,6 +121,7 @@ pub fn compose(text: &[u8]) -> Result<Circuit, Wrong>
     ensures { result ≡ composed_of text.now }
 {
     let mut draft = None;
+    // Stays: not by `enumerate`, since a fault of the whole text, found after the last line, is said of the next number.
     let mut number = 1;
     for line in text.split_inclusive(|b| *b == b'\n') {
         draft = at_line(number, with_line(draft, line))?;

@@ -57,7 +57,8 @@ fn quadrature(ysq: &[f32; 40]) -> f32
 {
     let mup = integrands::integrands(*ysq);
     let mut hp = 0.0;
-    // Stays: a weight and two integrands by one index, summed in the Rust's order.
+    // Stays: the loop is the Rust's, over `ig`. `WT.iter().zip(mup.chunks_exact(2))` keeps the order too, and is no plainer: the two
+    // integrands would be a list of two, of which it has to be shown that it is of two; the library has no lemma on chunks in a zip.
     for ig in 0..20 {
         let lower = 2 * ig;
         let upper = 2 * ig + 1;

@@ -31,6 +31,7 @@ pub struct Deviations {
 }
 
 // Parabolic F2 over a parabolic E layer.
+// Stays: `hp` is as `virtual_by_parabola` of sounding_rows; the Rust writes it out in each of its two modules.
 fn parabolic(l: Slot, x: F2Tangent) -> HeightPair
     ensures { result ≡ parabolic_of l x }
 {

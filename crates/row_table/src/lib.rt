@@ -12,6 +12,7 @@ use lines::Page;
 use reflectrix::Ionogram;
 
 // A number after two spaces.
+// Stays: width and places are those of `decimal_text::put_number`, and each column has its own.
 #[tactic(auto, using(lines::proofs::Placing::putting), unfolding(crate::specs::RowTable::number_column))]
 fn put_column<const N: usize>(page: &mut Page<N>, width: usize, places: usize, v: f32)
     requires { (width ≤ 10) × (places ≤ 9) }

@@ -93,12 +93,8 @@ pub fn marks_slot(s: IonoState, k: usize) -> [Mark; 50]
     requires { k < 3 }
     ensures { result ≡ marks_of s k }
 {
-    if profile::supplied(s) {
+    let Some(d) = profile::drawn(s, k) else {
         return no_marks();
-    }
-    let p = profile::slot_at(s, k);
-    let d = slot_curves::draw(p);
-    let curves = d.curves;
-    let htr = d.htr;
-    marks_on(curves, htr)
+    };
+    marks_on(d.curves, d.htr)
 }

@@ -45,7 +45,9 @@ fn set_word(f: &mut [u8; INPUT], at: usize, n: u32)
     f[at..at + 4].copy_from_slice(&n.to_le_bytes());
 }
 
-// Record n has this kind and next index. Stays: the kind is a byte, since a trial may write any.
+// Record n has this kind and next index.
+// Stays: the kind is a byte, since a trial may write any; f and n, here and below, are the file and which of its records is changed,
+// and the file is also changed at a byte, with no record named.
 fn set_record(f: &mut [u8; INPUT], n: usize, kind: u8, next: u8)
     requires { n < 65 }
 {

@@ -95,6 +95,7 @@ fn true_rows(s: IonoState, fv: [f32; 30]) -> TrueColumns
     TrueColumns { htrue, segment }
 }
 
+// Stays: as the `hp` of `parabolic` in layer_mufs; the Rust writes it out in each of its two modules.
 fn virtual_by_parabola(s: IonoState, k: usize, f: f32) -> f32
     requires { k < 3 }
     ensures { result ≡ virtual_by_parabola s k f }

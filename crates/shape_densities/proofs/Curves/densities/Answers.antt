@@ -7,7 +7,7 @@ use lib.Ieee.{nan}
 use lib.ListN.{length}
 use Rattle.shape_densities.specs.Density.{fnd_of, candidates_of, density_of}
 use Rattle.cases.proofs.Tabulate.{mapped, mapped-more, mapped-all}
-use Rattle.shape_densities.proofs.MapAt.{map_at}
+use Rattle.std.proofs.lemmas.List.{get_or-map}
 use Rattle.shape_densities.proofs.Curves.densities.Goals as goal
 
 pub loop-ih-init : goal.loop-ih-init
@@ -20,7 +20,7 @@ loop-ih-preserved c =
     let a = c.args in
     let i = c.loop-ih.ih in
     let h : i < length a.htr = search rules in
-    let e = map_at (fnd_of a.self) a.htr i h in (
+    let e = get_or-map (fnd_of a.self) a.htr i nan nan h in (
       omega arith,
       rw (c.largest-d.ensures, c.candidates.ensures, c.tails-fnd.ensures, e, c.loop-ih.invariant.1, add-one i)
           (mapped-more (density_of a.self) nan a.htr a.htr i h),
