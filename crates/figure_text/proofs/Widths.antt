@@ -11,6 +11,7 @@ use lib.Ieee.{Float, nan, inf, fin, up, down}
 use Rattle.io.specs.Digits.{hex_digit_ascii}
 use Rattle.lines.specs.Text.{space, tens_by, decimal_in, decimal_of}
 use Rattle.lines.proofs.Decimals.{length-decimal, length-below}
+use Rattle.lines.proofs.Sizes.{AtMost}
 use Rattle.figures.specs.declared.Printed.{Printed}
 use Rattle.figures.specs.Nearest.{nearest}
 use Rattle.figures.specs.Figure.{signed_tenths, figure_of}
@@ -74,6 +75,10 @@ unfolding figure_text figure_of
 figure-five nan = right-width 5 nan_word
 figure-five (inf s) = right-width 5 inf_word
 figure-five (fin s m e) = signed-five s (nearest (10 * m * up e) (down e))
+
+-- as the size of a part of a page
+pub figure-most : (x : Float) → AtMost (figure_text (figure_of x)) 5
+figure-most x = record { most = omega (arith, figure-five x) }
 
 four : (n : ℕ) → 1000 ≤ n → 4 ≤ length (decimal_of n)
 unfolding decimal_of
