@@ -94,6 +94,7 @@ fn either(s: u32, plus: u32, minus: u32) -> u32
 }
 
 // the pattern of h * 2^(e - 62), or of h * 2^-(e + 63)
+// Stays: a shift that rounds is one expression, written out here twice and once in `fixed`.
 fn packed(s: u32, e: u64, h: u64) -> u32
     requires { (s < 2) × (e ≤ 127 + s * 23) }
     ensures { result ≡ pick (ltb s 1) ((126 + e) * 2 ^ 23 + rounded_to24 h) (lowered e h) }

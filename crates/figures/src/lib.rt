@@ -37,6 +37,7 @@ pub fn nearest(n: u64, d: u64) -> u64
 }
 
 // What is not a u32 is 2^32.
+// Stays: a number past every u32, which callers turn away with all that is too large.
 fn kept(n: u64) -> u64
     ensures { result ≡ min n past }
 {
@@ -122,6 +123,7 @@ pub fn number(p: Printed) -> u32
 }
 
 // Its tenths, or 0 where it has none.
+// Stays: a number, since the case says whether there are any.
 pub fn tenths(p: Printed) -> u32
     ensures { result ≡ figure_tenths p }
 {

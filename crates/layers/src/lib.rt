@@ -54,7 +54,8 @@ pub enum Owner {
 }
 
 // The tables are flat: `fi[3 * k + i]`, layer i of point or slot k, is the Rust's `fi[k][i]`.
-// Stays: three tables side by side, and htr beside fnsq, are the Rust's state, lent to callers by columns.
+// Stays: three tables side by side, and htr beside fnsq, are the Rust's state, lent to callers by columns; and places are written as
+// 3 * k + i wherever the Rust writes its two indices, so that a reader finds them again.
 #[derive(Clone, Copy, Debug, PartialEq)]
 pub struct IonoState {
     pub fi: [f32; 15],

@@ -241,7 +241,8 @@ pub fn flat<L: Numbers>(
 
 // The MUF hour; `es` holds four numbers a row: three of `fs`, then `hs`. Only the controlling row's
 // lower decile is rewritten.
-// Stays: s, es, f2d, clat and clck are the Rust's own parameters, in its order; c is its last four.
+// Stays: s, es, f2d, clat and clck are the Rust's own parameters, in its order; es is flat, four numbers a row, as words are, and the
+// Rust's records are crate `muf_records`; c is its last four.
 pub fn curmuf(
     s: IonoState,
     es: &mut [f32],

@@ -112,7 +112,7 @@ fn path_taken(gcd: f32, gcdkm: f32) -> bool
 
 // The nominal hour of the first `count` points, their F2M3s and their Es rows; what stands past the
 // count is not read.
-// Stays: points, f2m3, es, gcd and gcdkm are the Rust's own parameters, in its order, with its count.
+// Stays: five places and a count, as the Rust's `fi`, `fs`, `hs` and `km`, here in records; f2m3, gcd and gcdkm are its own.
 pub fn nommuf(
     points: [LayerParams; 5],
     f2m3: &[f32],

@@ -1,6 +1,7 @@
 // The circuit file for callers in any language: words in, words out. Each function answers 0, or the number of its refusal, and then
 // leaves every lent word or byte as it was.
-// Stays: words and bytes lent side by side, read and written from a place on, and numbers answered, as callers in C have them.
+// Stays: words and bytes lent side by side, read and written from a place on, and numbers answered, as callers in C have them; beside
+// `port_state`, whose words are converted to floats one by one where these are copied.
 #![tactic(auto)]
 
 ghost use Rattle.std.specs.Prelude.{◌≡◌, ◌+◌, ◌≤◌, length};

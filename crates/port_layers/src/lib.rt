@@ -1,6 +1,7 @@
 // `from_layers`, `ionset`, `lecden` and whose profile a state has, for callers in any language: words in, words out.
 // Lengths are checked first; a refused call leaves every word.
 // Stays: lists of words lent side by side, of any length, as callers in C have them; so a function asks that a state's words are there.
+// `ionset_into` stands beside `lecden_into`: one function of both would be handed the rule, with all that may refuse it.
 #![tactic(auto)]
 
 ghost use Rattle.std.specs.Prelude.{◌≡◌, ◌≤◌, length};

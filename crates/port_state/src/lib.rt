@@ -69,6 +69,7 @@ fn owner_of_word(w: u32) -> Owner
 }
 
 // A slot above 2 has no word.
+// Stays: 0 to 4 are an owner's words in the layout that callers in C have.
 fn owner_word(o: Owner) -> u32
     ensures { result ≡ word_of_owner o }
 {
