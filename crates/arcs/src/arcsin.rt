@@ -160,8 +160,8 @@ fn asin_mag(a: u32) -> u64
 }
 
 // from the bit pattern of x to that of its arc sine
-// Stays: beside the arc tangent's, with which it shares tests and no numbers; one function for both would be handed four numbers and
-// a rule.
+// Stays: beside the arc tangent's: where the ranges end and what is answered past them differ, and one function for both would be
+// handed these and the rule.
 pub fn asin_bits(b: u32) -> u32
     ensures { result ≡ asin_bits b }
 {

@@ -1,6 +1,6 @@
 // The cells of one angle: all guessed together, and those in doubt worked out after. The loop of the
-// guesses runs over thirty-two places and has no `if`; today's compiler makes no vector instructions of
-// it, since floats are compared in it.
+// guesses runs over thirty-two places; today's compiler makes no vector instructions of it, since floats
+// are compared in it.
 // Stays: the loops count a place, since a turn reads or writes up to five lists there, and of what
 // `iter_mut` under a zip leaves a proof knows the lengths alone. Cells lie thirty an angle where the
 // guesses have thirty-two; a caller in C lends the cells.

@@ -1,5 +1,5 @@
-// A cell of the reflectrix without a root: a number is guessed, and a test of two products says
-// whether it is the cell.
+// A cell of the reflectrix: a number is guessed with the machine's root, and a test of two products
+// says whether it is the cell.
 #![tactic(auto)]
 
 ghost use Rattle.std.specs.Prelude.{◌≡◌, ◌^◌, ◌≤◌, ◌<◌, T};

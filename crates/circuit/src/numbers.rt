@@ -9,8 +9,8 @@ use crate::Circuit;
 use record_chain::Chain;
 
 // Whether every word is +0.
-// Stays: beside the one for bytes each is one call of the library's method, and one over both types, which had to name its
-// elements' zero by a trait, is no plainer.
+// Stays: this and the one for bytes (`records`) are each one call of the library's method; one over both types would have to name its
+// elements' zero by a trait.
 pub fn all_zero(s: &[u32]) -> bool
     ensures { result ≡ all_zero s.now }
 {

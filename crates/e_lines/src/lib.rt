@@ -86,7 +86,7 @@ fn e_heights(t: IonoState, fxe: f32) -> HeightPair
     }
 }
 
-// Stays: heights and geometry come one after the other, here and for the lines of F2 and F1, and a refused geometry leaves none.
+// Stays: g is worked out of h and may be refused, here and for the lines of F2 and F1, so that the two are no pair that is kept.
 fn e_found(g: HopGeometry, h: HeightPair, fxe: f32) -> LayerMuf
     ensures { result ≡ e_found_of g h fxe }
 {

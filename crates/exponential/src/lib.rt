@@ -61,6 +61,7 @@ fn power(r: u64) -> u64
 
 // What depends on the sign s of x alone stands in small functions of its own, which compile to no branch. Stays: s is the first bit
 // of x's pattern as a number, since `packed` moves a limit by a thousand times it.
+
 // r, or what it lacks to ln 2
 fn folded(s: u32, r: u64) -> u64
     requires { r < ln2 }

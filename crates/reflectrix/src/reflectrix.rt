@@ -10,7 +10,7 @@ use cell_rows::Rows;
 use constants::RZ;
 use refusal::Refusal;
 
-// The Earth's radius by the cosine of each angle of the scan.
+// The Earth's radius times the cosine of each angle of the scan.
 static RCOSD: [f32; 40] = [
     6370.0, 6369.7573, 6369.0298, 6366.1196, 6361.27, 6354.4834, 6345.7603, 6335.1045, 6308.0073,
     6273.225, 6230.8003, 6180.7837, 6123.237, 6058.23, 5985.842, 5906.161, 5819.284, 5725.3184,

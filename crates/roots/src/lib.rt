@@ -20,7 +20,7 @@ fn pattern(x: f32) -> u32
     scalar::bits(x)
 }
 
-// Of the number from 1 to below 4 with x's digits, from which x differs by a power of 4: the last 24
+// Of the number from 1 to below 4 with the digits of b's, which differ by a power of 4: the last 24
 // digits of its pattern, the exponent's last one among them.
 fn folded(b: u32) -> u32
     ensures { result < 2 ^ 24 }
@@ -29,7 +29,7 @@ fn folded(b: u32) -> u32
 }
 
 // Whether b is the pattern of a float that is above zero, finite and not subnormal: 1, else 0.
-// Stays: numbers, here and in `right`, since `passed` counts eighty tests with no branch and compares the count once.
+// Stays: numbers, here and in `right`: eighty tests are counted with no branch, and `roots` compares the count once.
 fn normal(b: u32) -> u64
     ensures { (result ≤ 1) × ((result ≡ 1) → Normal b) }
 {
@@ -38,7 +38,8 @@ fn normal(b: u32) -> u64
 
 // Whether the digits guessed are those of the root: 1, else 0. The square less r is below what is
 // rooted, and the square and r are not.
-// Stays: what is rooted is worked out as in `scalar::root`, whose exponent is moved by an odd number, so that its parity is the other.
+// Stays: what is rooted is worked out as by `root_pattern` of scalar, which takes the exponent moved by an odd number, so with the
+// other parity: two lines, of which one differs.
 fn right(b: u32, g: u32) -> u64
     ensures { (result ≤ 1) × (result ≡ 1 → Right b (g % 2 ^ 25)) }
 {
@@ -58,8 +59,8 @@ fn packed(b: u32, g: u32) -> f32
     f32::from_bits((b + 0x3e80_0000) / 0x100_0000 * 0x80_0000 + g % 0x200_0000)
 }
 
-// Stays: so also the loops of `pack` and `one_by_one`, three of a line each, which a shared one would be handed. By `map` of an array it takes three times as long; and of the lists that a
-// `zip` with `iter_mut` leaves a proof knows the lengths alone, which is enough for guesses.
+// Stays: by `map` of an array it takes three times as long, and of the lists that a `zip` with `iter_mut` leaves a proof knows the
+// lengths alone, which is enough for guesses. So too `pack` and `one_by_one`, loops of a line, which a shared one would be handed.
 fn patterns(x: &[f32; 40], b: &mut [u32; 40])
     ensures { (b.new ≡ put_each (λ k. to_bits binary32 (at x.now k)) b.old 40) × HeldByBits x.now 40 }
 {

@@ -61,7 +61,8 @@ impl Curves {
     {
         let fnd = self.tails(htr);
         let mut fnsq = htr;
-        // Stays: three lists by one index, and two zips inside each other are no plainer.
+        // Stays: a turn writes one list from two, and of what `iter_mut` under a zip leaves a proof knows the
+        // lengths alone.
         for ih in 0..50 {
             let d = self.candidates(fnd[ih], htr[ih]).largest();
             fnsq[ih] = d;

@@ -1,7 +1,7 @@
 // What `sheet` prints of files of one to five points and of both shapes, of every refusal that a file can
 // meet, of NaN, and at the edges of the `call` field. The stored output is what the paper and the Rust say.
-// Stays: a file f and its record n, since a trial changes one record of a file at a time. That n is below 64 is asked: a checked
-// place is no plainer, and would print another trial where the number is wrong.
+// Stays: a file f and its record n, since a trial changes one record of a file at a time. That n is below 64, or 65 for a
+// kind alone, is asked: a checked place is no plainer, and would print another trial where the number is wrong.
 #![tactic(auto)]
 
 ghost use Rattle.std.specs.Prelude.{◌+◌, ◌<◌, ◌≤◌};
@@ -119,7 +119,8 @@ fn set_deciles(f: &mut [u8; INPUT], n: usize)
 }
 
 // The text of the first n bytes, after its name.
-// Stays: n beside f, since of a part `&f[..n]` that is taken at each call the prover does not find by itself that it is within f.
+// Stays: n beside f, since of a part `&f[..n]` of an array that a call has just answered the prover does not find by itself that it is
+// within it.
 fn print(name: &[u8], f: [u8; INPUT], n: usize)
     requires { n ≤ 4160 }
 {

@@ -1,8 +1,8 @@
 // The heights of the thirty rows, and the segments of the true ones. With a negative `iedp` all are `gethp`'s. Otherwise the ten E
 // rows are a table's; the others have true heights by `xlin`, and virtual ones by parabolas, or by
 // `gethp` if there is an F1.
-// Stays: s, k and fv are handed from one to the next, where the Rust has one function in which they are
-// at hand, and s with what is said of its heights: they are tested once for all rows.
+// Stays: the state, k and fv are handed from one function to the next, where the Rust has one in which
+// they are at hand. Heights are tested once for all rows (`Tested`).
 #![tactic(auto)]
 
 ghost use Rattle.std.specs.Prelude.{◌≡◌, ◌+◌, ◌*◌, ◌<◌, ◌++◌, Float, false, true, replicate};
