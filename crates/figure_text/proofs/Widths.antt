@@ -1,10 +1,10 @@
 -- How many characters the tenths take: five at most up to 999.9, and more from there on. A printed figure has five.
 use Prim.Native.Nat.{ℕ, zero, suc, ◌+◌, ◌-◌, ◌*◌, ◌/◌, ◌%◌, ◌≤◌, ◌<◌}
-use mathlib.Core.Path.{◌≡◌, refl}
+use mathlib.Core.Path.{◌≡◌, refl, subst}
 use mathlib.Core.Bool.{Bool, true, false, cond}
 use mathlib.Core.List.{[], ◌∷◌, ◌++◌}
 use native.Mathlib.Omega.{arith}
-use borrow.Author.Tests.{lt-ltb, le-ltb, le-leb}
+use borrow.Author.Tests.{lt-ltb, le-ltb, le-leb, leb-true}
 use lib.Dec.{ltb, leb}
 use lib.ListN.{length, length-append}
 use lib.Ieee.{Float, nan, inf, fin, up, down}
@@ -80,6 +80,40 @@ figure-five (fin s m e) = signed-five s (nearest (10 * m * up e) (down e))
 pub figure-most : (x : Float) → AtMost (figure_text (figure_of x)) 5
 figure-most x = record { most = omega (arith, figure-five x) }
 
+-- ---- what a figure has of tenths is no wider
+at_most : (k n : ℕ) → length (decimal_of (n / 10)) ≤ k → length (tenths_text n) ≤ k + 2
+at_most k n h = let a = tenths-length n in omega arith
+
+none_at_all : 0 ≤ 5
+none_at_all = omega arith
+
+unfoldable Fits : Printed → Type 0
+Fits (Printed.Tenths n) = length (tenths_text n) ≤ 5
+Fits (Printed.Minus n) = length (dash ∷ tenths_text n) ≤ 5
+Fits Printed.Stars = 0 ≤ 5
+Fits Printed.Infinite = 0 ≤ 5
+Fits Printed.NotANumber = 0 ≤ 5
+
+signed-fits : (s : Bool) (n : ℕ) → Fits (signed_tenths s n)
+unfolding Fits
+signed-fits false n = go (leb n 9999) refl
+  where
+    go : (b : Bool) → leb n 9999 ≡ b → Fits (cond b (Printed.Tenths n) Printed.Stars)
+    go true e = let l = leb-true n 9999 e in at_most 3 n (length-below 2 (n / 10) (omega arith))
+    go false e = none_at_all
+signed-fits true zero = at_most 3 0 (length-below 2 (0 / 10) (omega arith))
+signed-fits true (suc n) = go (leb (suc n) 999) refl
+  where
+    go : (b : Bool) → leb (suc n) 999 ≡ b → Fits (cond b (Printed.Minus (suc n)) Printed.Stars)
+    go true e = let l = leb-true (suc n) 999 e in let a = at_most 2 (suc n) (length-below 1 (suc n / 10) (omega arith)) in omega arith
+    go false e = none_at_all
+
+figure-fits : (x : Float) → Fits (figure_of x)
+unfolding figure_of Fits
+figure-fits nan = none_at_all
+figure-fits (inf s) = none_at_all
+figure-fits (fin s m e) = signed-fits s (nearest (10 * m * up e) (down e))
+
 four : (n : ℕ) → 1000 ≤ n → 4 ≤ length (decimal_of n)
 unfolding decimal_of
 four n l =
@@ -90,8 +124,11 @@ four n l =
     omega arith
 
 pub five-characters : FiveCharacters
+unfolding Fits
 five-characters = record {
   five = figure-five;
+  fits = λ x n e. subst Fits e (figure-fits x);
+  fits-minus = λ x n e. subst Fits e (figure-fits x);
   wide = λ n h. let a = tenths-length n in let b = four (n / 10) (omega arith) in omega arith;
   wide-minus = λ n h. let a = tenths-length n in let b = three (n / 10) (omega arith) in omega arith;
 }

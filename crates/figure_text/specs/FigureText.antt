@@ -1,5 +1,5 @@
 -- The five characters of a printed figure, as bytes: `f(v, 5, 1)` of output.rs.
-use Rattle.std.specs.Prelude.{ℕ, ◌/◌, ◌%◌, ◌<◌, ◌≡◌, List, [], ◌∷◌, ◌++◌, length, Float}
+use Rattle.std.specs.Prelude.{ℕ, ◌/◌, ◌%◌, ◌<◌, ◌≤◌, ◌≡◌, List, [], ◌∷◌, ◌++◌, length, Float}
 use Rattle.lines.specs.Text.{decimal_of}
 use Rattle.aligned.specs.Aligned.{right}
 use Rattle.figures.specs.declared.Printed.{Printed}
@@ -34,8 +34,10 @@ figure_text Printed.Stars = star ∷ star ∷ star ∷ star ∷ star ∷ []
 figure_text Printed.Infinite = right 5 inf_word
 figure_text Printed.NotANumber = right 5 nan_word
 
--- There are always five characters, and stars stand only for tenths that would take more, with their minus where they have one.
+-- There are always five characters; the tenths of a figure, with their minus where they have one, take no more, and stars stand only for tenths that would.
 pub record FiveCharacters : Type 0 where
   pub five : (x : Float) → length (figure_text (figure_of x)) ≡ 5
+  pub fits : (x : Float) (n : ℕ) → figure_of x ≡ Printed.Tenths n → length (tenths_text n) ≤ 5
+  pub fits-minus : (x : Float) (n : ℕ) → figure_of x ≡ Printed.Minus n → length (dash ∷ tenths_text n) ≤ 5
   pub wide : (n : ℕ) → 9999 < n → 5 < length (tenths_text n)
   pub wide-minus : (n : ℕ) → 999 < n → 5 < length (dash ∷ tenths_text n)
