@@ -15,7 +15,7 @@ use shapes::Mark;
 pub fn sang(gcdkm: u32, amind: u32, out: &mut [u32]) -> Result<(), Refusal>
     ensures { (answer_number result ≡ (sang_words gcdkm amind out.old).number) × (out.new ≡ (sang_words gcdkm amind out.old).words) }
 {
-    if out.is_empty() {
+    if out.len() < 1 {
         return Err(Refusal::Length);
     }
     let km = scalar::number(gcdkm);

@@ -12,7 +12,7 @@ use refusal::Refusal;
 fn mark_into(input: &[u8], out: &mut [u32]) -> Result<(), Refusal>
     ensures { (answer_number result ≡ (mark_left input.now out.old).number) × (out.new ≡ (mark_left input.now out.old).words) }
 {
-    if out.is_empty() {
+    if out.len() < 1 {
         return Err(Refusal::Length);
     }
     let m = marking::mark(input);

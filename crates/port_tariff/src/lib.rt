@@ -18,7 +18,7 @@ fn price_into(
 ) -> Result<(), Refusal>
     ensures { (answer_number result ≡ (price_left muf tops.now rates.now seconds out.old).number) × (out.new ≡ (price_left muf tops.now rates.now seconds out.old).words) }
 {
-    if out.is_empty() {
+    if out.len() < 1 {
         return Err(Refusal::Length);
     }
     answer_words::number_into(

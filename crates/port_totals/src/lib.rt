@@ -12,7 +12,7 @@ use refusal::Refusal;
 fn total_into(prices: &[u32], out: &mut [u32]) -> Result<(), Refusal>
     ensures { (answer_number result ≡ (total_left prices.now out.old).number) × (out.new ≡ (total_left prices.now out.old).words) }
 {
-    if out.is_empty() {
+    if out.len() < 1 {
         return Err(Refusal::Length);
     }
     answer_words::number_into(totals::total(prices), out)
