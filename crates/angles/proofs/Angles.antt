@@ -28,6 +28,7 @@ use Rattle.constants.specs.Constants.{D2R, PIO2, RZ}
 use Rattle.hops.specs.Geometry.{hop_ratio_of, hops_by, hops_of, psi_of, del_of}
 use Rattle.angles.specs.Angles.{Small, SinAnswers, CosAnswers, NeverRefused13}
 use Rattle.angles.proofs.Keys.{Above, UpTo, From, Between, quotient, product, product-from, difference, finite-of, key-range}
+use Rattle.std.proofs.lemmas.Bool.{and_parts}
 
 abbrev F : Float → Type 0
 F x = T (fits binary32 x)
@@ -96,13 +97,8 @@ from : (x : Float) → F x → T (finite x) → From binary32 x x
 from x p c = record { held = p; fin = c; low = le_refl _ }
 
 -- x is one of the domain's numbers 0 to top
-pub and_both : (a b : Bool) → (a && b) ≡ true → (a ≡ true) × (b ≡ true)
-and_both true true e = (refl, refl)
-and_both true false e = let z : ◌≡◌ {A = ℕ} 0 1 = cc in absurd (omega arith)
-and_both false b e = let z : ◌≡◌ {A = ℕ} 0 1 = cc in absurd (omega arith)
-
 domain : (x top : Float) → F x → F top → T (finite top) → (f0 ≤f x && x ≤f top) ≡ true → UpTo binary32 top x
-domain x top p q c e = let w = and_both (f0 ≤f x) (x ≤f top) e in up_to x top p q c (is_T w.0) (is_T w.1)
+domain x top p q c e = let w = and_parts (f0 ≤f x) (x ≤f top) e in up_to x top p q c (is_T w.0) (is_T w.1)
 
 -- ---- the number of hops: 1 to 1000
 

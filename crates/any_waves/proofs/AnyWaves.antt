@@ -32,17 +32,18 @@ use Rattle.tangents.specs.Tangents.{tangents_of}
 use Rattle.e_lines.specs.Lines.{tenth_of, layer_line_of, read_with, e_heights_with, e_line_by, e_line_with}
 use Rattle.layer_mufs.specs.Lines.{f2_heights_with, bent_of, f2_bent_of, f2_line_by, f2_line_with, f1_found_of, f1_own_by, f1_own_with, f1_line_by, f1_line_with}
 use Rattle.layer_mufs.specs.declared.PathNumbers.{PathNumbers}
-use Rattle.tangents.specs.declared.Tangents.{Tangents}
+use Rattle.tangents.specs.declared.F2Tangent.{F2Tangent}
 use Rattle.e_lines.specs.declared.HeightPair.{HeightPair}
 use Rattle.sporadic.specs.Sporadic.{ray_of, taken_of, hop_by, row_by, es_row_of, start_of, next_by, es_from}
 use Rattle.sporadic.specs.declared.EsRay.{EsRay}
-use Rattle.sporadic.specs.declared.EsRow.{EsRow}
+use Rattle.layers.specs.declared.EsParams.{EsParams}
 use Rattle.sporadic.specs.declared.EsSearch.{EsSearch}
 use Rattle.muf.specs.Curmuf.{within_of, amin_by, in_domain, lists_reach, found_then, regular_with, regular_by, muf_at_slot_with, muf_from_search_by, muf_from_search_with, muf_of_rows_with}
 use Rattle.angles.specs.Angles.{Small, AllSmall}
 use Rattle.angles.proofs.Angles.{never-refused-13}
 use Rattle.any_waves.specs.Over.{Waves, hop_ratio_over, hops_over, sphe_over, hop_geometry_over, geometry_over_by, geometry_over, round_over, rounds_over, bent_over, e_line_over, f2_line_over_by, f2_line_over, f1_found_over, f1_own_over_by, f1_own_over, f1_line_over_by, f1_line_over, regular_over, ray_over, hop_over_by, row_over_by, es_row_over, es_from_over, muf_at_slot_over, muf_from_search_over_by, muf_of_rows_over}
 use Rattle.any_waves.specs.AnyWaves.{OursWhereSmall, AnyWaves, marked, MarkUnmet}
+use Rattle.std.proofs.lemmas.Bool.{and_parts}
 
 -- every takeoff angle of a geometry's psi is small
 abbrev GoodRay : Float → Float → Float → Type 0
@@ -110,14 +111,14 @@ module _ (w : Waves) (alike : OursWhereSmall w) where
     e-so find t fxe = let h = e_heights_with find t fxe in ap (λ (g : Result HopGeometry Refusal). e_line_by g h fxe) (geometry-so h.hp h.ht true)
 
     -- by the hop count that the geometry comes of
-    f2-by : (o : Result Float Refusal) (l : Slot) (h : HeightPair) (x : Tangents) (f2d : List Float) (clat clck : Float) → hops_of c.gcdkm c.amind h.hp ≡ o → f2_line_over_by (geometry_by o c.gcdkm h.hp h.ht false) w l h x f2d clat clck c ≡ f2_line_by (geometry_by o c.gcdkm h.hp h.ht false) l h x f2d clat clck c
+    f2-by : (o : Result Float Refusal) (l : Slot) (h : HeightPair) (x : F2Tangent) (f2d : List Float) (clat clck : Float) → hops_of c.gcdkm c.amind h.hp ≡ o → f2_line_over_by (geometry_by o c.gcdkm h.hp h.ht false) w l h x f2d clat clck c ≡ f2_line_by (geometry_by o c.gcdkm h.hp h.ht false) l h x f2d clat clck c
     unfolding hop_geometry_of
     f2-by (Ok n) l h x f2d clat clck e =
         let g = hop_geometry_of c.gcdkm n h.hp h.ht false in
         ap (λ (b : Round). f2_bent_of f2d b h.ht x.fx2 n c.ssn clat clck) (bent-so l.fi2 x.fx2 h g (λ hp. small.takeoff h.hp n g.cpsi g.spsi hp false e))
     f2-by (Err r) l h x f2d clat clck e = refl
 
-    f2-so : (find : Finder) (t : IonoState) (l : Slot) (x : Tangents) (f2d : List Float) (clat clck : Float) → f2_line_over w find t l x f2d clat clck c ≡ f2_line_with find t l x f2d clat clck c
+    f2-so : (find : Finder) (t : IonoState) (l : Slot) (x : F2Tangent) (f2d : List Float) (clat clck : Float) → f2_line_over w find t l x f2d clat clck c ≡ f2_line_with find t l x f2d clat clck c
     unfolding f2_line_over f2_line_with geometry_of
     f2-so find t l x f2d clat clck =
         let h = f2_heights_with find t l x in
@@ -159,12 +160,12 @@ module _ (w : Waves) (alike : OursWhereSmall w) where
         let whole : LayerMuf → LayerMuf → LayerMuf → Result RegularLines Refusal = λ e f2 f1. Ok (record { e = e; f1 = f1; f2 = f2 }) in
         let last : LayerMuf → LayerMuf → Result RegularLines Refusal = λ e f2. found_then (f1_line_with find t l x.fx1 e c.gcdkm c.amind) (whole e f2) in
         let lastOver : LayerMuf → LayerMuf → Result RegularLines Refusal = λ e f2. found_then (f1_line_over w find t l x.fx1 e c.gcdkm c.amind) (whole e f2) in
-        let next : LayerMuf → Result RegularLines Refusal = λ e. found_then (f2_line_with find t l x f2d clat clck c) (last e) in
-        let nextOver : LayerMuf → Result RegularLines Refusal = λ e. found_then (f2_line_over w find t l x f2d clat clck c) (lastOver e) in
+        let next : LayerMuf → Result RegularLines Refusal = λ e. found_then (f2_line_with find t l x.f2 f2d clat clck c) (last e) in
+        let nextOver : LayerMuf → Result RegularLines Refusal = λ e. found_then (f2_line_over w find t l x.f2 f2d clat clck c) (lastOver e) in
         ap (λ (a : Result LayerMuf Refusal). found_then a nextOver) (e-so find t x.fxe)
         ∙ then-so (e_line_with find t x.fxe c.gcdkm c.amind) nextOver next
-        (λ (e : LayerMuf). ap (λ (a : Result LayerMuf Refusal). found_then a (lastOver e)) (f2-so find t l x f2d clat clck)
-        ∙ then-so (f2_line_with find t l x f2d clat clck c) (lastOver e) (last e)
+        (λ (e : LayerMuf). ap (λ (a : Result LayerMuf Refusal). found_then a (lastOver e)) (f2-so find t l x.f2 f2d clat clck)
+        ∙ then-so (f2_line_with find t l x.f2 f2d clat clck c) (lastOver e) (last e)
         (λ (f2 : LayerMuf). ap (λ (a : Result LayerMuf Refusal). found_then a (whole e f2)) (f1-so find t l x.fx1 e)))
 
     -- ---- Es
@@ -177,23 +178,23 @@ module _ (w : Waves) (alike : OursWhereSmall w) where
         let whole : Float → Float → EsRay = λ cpsi spsi. let tdel = (cpsi -f RZ /f (RZ +f hs)) /f spsi in let cdel = f1 /f sqrt_of (f1 +f tdel *f tdel) in let sphe = RZ *f cdel /f (RZ +f hs) in record { tdel = tdel; secp = f1 /f sqrt_of (f1 -f sphe *f sphe) } in
         ap (λ (y : Float). whole y (w.sine psi)) (alike psi is).1 ∙ ap (whole (cos_of psi)) (alike psi is).0
 
-    hop-by : (o : Result Float Refusal) (a : EsSearch) (k : ℕ) (row : EsRow) → hops_of c.gcdkm c.amind row.hs ≡ o → hop_over_by o w a k row c ≡ hop_by o a k row c
+    hop-by : (o : Result Float Refusal) (a : EsSearch) (k : ℕ) (row : EsParams) → hops_of c.gcdkm c.amind row.hs ≡ o → hop_over_by o w a k row c ≡ hop_by o a k row c
     hop-by (Ok x) a k row e = ap (λ (ray : EsRay). Ok (taken_of a k row ray x)) (ray-so row.hs row.hs x e)
     hop-by (Err r) a k row e = refl
 
-    row-by : (b : Bool) (a : EsSearch) (k : ℕ) (row : EsRow) → row_over_by b w a k row c ≡ row_by b a k row c
+    row-by : (b : Bool) (a : EsSearch) (k : ℕ) (row : EsParams) → row_over_by b w a k row c ≡ row_by b a k row c
     row-by true a k row = refl
     row-by false a k row = ap (λ (o : Result Float Refusal). hop_over_by o w a k row c) (hops-so row.hs) ∙ hop-by (hops_of c.gcdkm c.amind row.hs) a k row refl
 
-    row-so : (a : EsSearch) (k : ℕ) (row : EsRow) → es_row_over w a k row c ≡ es_row_of a k row c
+    row-so : (a : EsSearch) (k : ℕ) (row : EsParams) → es_row_over w a k row c ≡ es_row_of a k row c
     unfolding es_row_over es_row_of
-    row-so a k row = row-by (row.fs1 ≤f f0) a k row
+    row-so a k row = row-by (at row.fs 1 ≤f f0) a k row
 
     next-so : (step : Result EsSearch Refusal) (f g : EsSearch → Result EsSearch Refusal) → ((b : EsSearch) → f b ≡ g b) → next_by step f ≡ next_by step g
     next-so (Ok b) f g h = h b
     next-so (Err r) f g h = refl
 
-    es-so : (row : ℕ → EsRow) (n k : ℕ) (a : EsSearch) → es_from_over w row c n k a ≡ es_from row c n k a
+    es-so : (row : ℕ → EsParams) (n k : ℕ) (a : EsSearch) → es_from_over w row c n k a ≡ es_from row c n k a
     unfolding es_from_over es_from
     es-so row zero k a = refl
     es-so row (suc n) k a =
@@ -209,16 +210,11 @@ module _ (w : Waves) (alike : OursWhereSmall w) where
         ap (λ (x : Result RegularLines Refusal). regular_by x t l ks step) (regular-so find t l f2d clat clck)
 
   -- where it is refused 9 nothing is looked at
-  and_both : (a b : Bool) → (a && b) ≡ true → (a ≡ true) × (b ≡ true)
-  and_both true b e = (refl, e)
-  and_both false true e = (e, refl)
-  and_both false false e = (e, e)
-
   not-above : (b : Bool) → amin_by b ≡ true → b ≡ false
   not-above true e = sym e
   not-above false e = refl
 
-  search-by : (d r : Bool) (find : Finder) (s : IonoState) (n : ℕ) (row : ℕ → EsRow) (f2d clat clck : List Float) (c : PathNumbers) → (d ≡ true → AllSmall c.gcd c.gcdkm c.amind) → muf_from_search_over_by d r w find s (es_from_over w row c n 0 start_of) f2d clat clck c ≡ muf_from_search_by d r find s (es_from row c n 0 start_of) f2d clat clck c
+  search-by : (d r : Bool) (find : Finder) (s : IonoState) (n : ℕ) (row : ℕ → EsParams) (f2d clat clck : List Float) (c : PathNumbers) → (d ≡ true → AllSmall c.gcd c.gcdkm c.amind) → muf_from_search_over_by d r w find s (es_from_over w row c n 0 start_of) f2d clat clck c ≡ muf_from_search_by d r find s (es_from row c n 0 start_of) f2d clat clck c
   search-by true true find s n row f2d clat clck c small =
       let ks = controlling_of s in
       let k = small refl in
@@ -230,8 +226,8 @@ pub any-waves : AnyWaves
 unfolding muf_of_rows_over muf_of_rows_with muf_from_search_with in_domain
 any-waves w alike find s n row f2d clat clck c p q r =
     search-by w alike (in_domain c) (lists_reach (controlling_of s) (length f2d) (length clat) (length clck)) find s n row f2d clat clck c
-    (λ e. let a = and_both w alike (within_of c.gcdkm f40100 && within_of c.gcd f6_3) (amin_by (c.amind >f f90)) e in
-    let b = and_both w alike (within_of c.gcdkm f40100) (within_of c.gcd f6_3) a.0 in
+    (λ e. let a = and_parts (within_of c.gcdkm f40100 && within_of c.gcd f6_3) (amin_by (c.amind >f f90)) e in
+    let b = and_parts (within_of c.gcdkm f40100) (within_of c.gcd f6_3) a.0 in
     never-refused-13 c.gcd c.gcdkm c.amind p q r b.1 b.0 (not-above w alike (c.amind >f f90) a.1))
 
 marked-ours : (mark : Float) → OursWhereSmall (marked mark)

@@ -8,7 +8,7 @@ use Rattle.waves.specs.SinCos.{sin_of, cos_of}
 use Rattle.layers.specs.declared.IonoState.{IonoState}
 use Rattle.heights.specs.Gethp.{Finder}
 use Rattle.layer_mufs.specs.declared.PathNumbers.{PathNumbers}
-use Rattle.sporadic.specs.declared.EsRow.{EsRow}
+use Rattle.layers.specs.declared.EsParams.{EsParams}
 use Rattle.muf.specs.Curmuf.{muf_of_rows_with}
 use Rattle.angles.specs.Angles.{Small}
 use Rattle.any_waves.specs.Over.{Waves, muf_of_rows_over}
@@ -21,7 +21,7 @@ OursWhereSmall w = (x : Float) → Small x → (w.sine x ≡ sin_of x) × (w.cos
 abbrev pub AnyWaves : Type 0
 AnyWaves =
     (w : Waves) → OursWhereSmall w
-    → (find : Finder) (s : IonoState) (n : ℕ) (row : ℕ → EsRow) (f2d clat clck : List Float) (c : PathNumbers)
+    → (find : Finder) (s : IonoState) (n : ℕ) (row : ℕ → EsParams) (f2d clat clck : List Float) (c : PathNumbers)
     → T (fits binary32 c.gcd) → T (fits binary32 c.gcdkm) → T (fits binary32 c.amind)
     → muf_of_rows_over w find s n row f2d clat clck c ≡ muf_of_rows_with find s n row f2d clat clck c
 
@@ -32,6 +32,6 @@ marked mark = record { sine = λ x. cond (x <f negf f4 || x >f f4) mark (sin_of 
 -- what `mark-unmet` says
 abbrev pub MarkUnmet : Type 0
 MarkUnmet =
-    (mark : Float) (find : Finder) (s : IonoState) (n : ℕ) (row : ℕ → EsRow) (f2d clat clck : List Float) (c : PathNumbers)
+    (mark : Float) (find : Finder) (s : IonoState) (n : ℕ) (row : ℕ → EsParams) (f2d clat clck : List Float) (c : PathNumbers)
     → T (fits binary32 c.gcd) → T (fits binary32 c.gcdkm) → T (fits binary32 c.amind)
     → muf_of_rows_over (marked mark) find s n row f2d clat clck c ≡ muf_of_rows_with find s n row f2d clat clck c

@@ -24,11 +24,11 @@ use Rattle.tangents.specs.Tangents.{tangents_of}
 use Rattle.e_lines.specs.Lines.{tenth_of, layer_line_of, read_with, e_heights_with, e_line_by}
 use Rattle.layer_mufs.specs.Lines.{f2_heights_with, f2_bent_of}
 use Rattle.layer_mufs.specs.declared.PathNumbers.{PathNumbers}
-use Rattle.tangents.specs.declared.Tangents.{Tangents}
+use Rattle.tangents.specs.declared.F2Tangent.{F2Tangent}
 use Rattle.e_lines.specs.declared.HeightPair.{HeightPair}
 use Rattle.sporadic.specs.Sporadic.{taken_of, start_of, next_by}
 use Rattle.sporadic.specs.declared.EsRay.{EsRay}
-use Rattle.sporadic.specs.declared.EsRow.{EsRow}
+use Rattle.layers.specs.declared.EsParams.{EsParams}
 use Rattle.sporadic.specs.declared.EsSearch.{EsSearch}
 use Rattle.muf.specs.Curmuf.{in_domain, lists_reach, found_then, regular_by}
 use Rattle.muf.specs.declared.AnswerAndRow.{AnswerAndRow}
@@ -93,11 +93,11 @@ bent_over w fc fx h g =
 unfoldable pub e_line_over : Waves → Finder → IonoState → Float → Float → Float → Result LayerMuf Refusal
 e_line_over w find t fxe gcdkm amind = let h = e_heights_with find t fxe in e_line_by (geometry_over w gcdkm amind h.hp h.ht true) h fxe
 
-abbrev pub f2_line_over_by : Result HopGeometry Refusal → Waves → Slot → HeightPair → Tangents → List Float → Float → Float → PathNumbers → Result LayerMuf Refusal
+abbrev pub f2_line_over_by : Result HopGeometry Refusal → Waves → Slot → HeightPair → F2Tangent → List Float → Float → Float → PathNumbers → Result LayerMuf Refusal
 f2_line_over_by (Ok g) w l h x f2d clat clck c = f2_bent_of f2d (bent_over w l.fi2 x.fx2 h g) h.ht x.fx2 g.xhops c.ssn clat clck
 f2_line_over_by (Err r) w l h x f2d clat clck c = Err r
 
-unfoldable pub f2_line_over : Waves → Finder → IonoState → Slot → Tangents → List Float → Float → Float → PathNumbers → Result LayerMuf Refusal
+unfoldable pub f2_line_over : Waves → Finder → IonoState → Slot → F2Tangent → List Float → Float → Float → PathNumbers → Result LayerMuf Refusal
 f2_line_over w find t l x f2d clat clck c =
     let h = f2_heights_with find t l x in
     f2_line_over_by (geometry_over w c.gcdkm c.amind h.hp h.ht false) w l h x f2d clat clck c
@@ -126,7 +126,7 @@ unfoldable pub regular_over : Waves → Finder → IonoState → Slot → List F
 regular_over w find t l f2d clat clck c =
     let x = tangents_of l c.gcdkm in
     found_then (e_line_over w find t x.fxe c.gcdkm c.amind)
-    (λ e. found_then (f2_line_over w find t l x f2d clat clck c)
+    (λ e. found_then (f2_line_over w find t l x.f2 f2d clat clck c)
     (λ f2. found_then (f1_line_over w find t l x.fx1 e c.gcdkm c.amind)
     (λ f1. Ok (record { e = e; f1 = f1; f2 = f2 }))))
 
@@ -141,18 +141,18 @@ ray_over w hs hop gcd =
     let secp = f1 /f sqrt_of (f1 -f sphe *f sphe) in
     record { tdel = tdel; secp = secp }
 
-abbrev pub hop_over_by : Result Float Refusal → Waves → EsSearch → ℕ → EsRow → PathNumbers → Result EsSearch Refusal
+abbrev pub hop_over_by : Result Float Refusal → Waves → EsSearch → ℕ → EsParams → PathNumbers → Result EsSearch Refusal
 hop_over_by (Ok hop) w a k row c = Ok (taken_of a k row (ray_over w row.hs hop c.gcd) hop)
 hop_over_by (Err r) w a k row c = Err r
 
-abbrev pub row_over_by : Bool → Waves → EsSearch → ℕ → EsRow → PathNumbers → Result EsSearch Refusal
+abbrev pub row_over_by : Bool → Waves → EsSearch → ℕ → EsParams → PathNumbers → Result EsSearch Refusal
 row_over_by true w a k row c = Ok a
 row_over_by false w a k row c = hop_over_by (hops_over w c.gcdkm c.amind row.hs) w a k row c
 
-unfoldable pub es_row_over : Waves → EsSearch → ℕ → EsRow → PathNumbers → Result EsSearch Refusal
-es_row_over w a k row c = row_over_by (row.fs1 ≤f f0) w a k row c
+unfoldable pub es_row_over : Waves → EsSearch → ℕ → EsParams → PathNumbers → Result EsSearch Refusal
+es_row_over w a k row c = row_over_by (at row.fs 1 ≤f f0) w a k row c
 
-unfoldable pub es_from_over : Waves → (ℕ → EsRow) → PathNumbers → ℕ → ℕ → EsSearch → Result EsSearch Refusal
+unfoldable pub es_from_over : Waves → (ℕ → EsParams) → PathNumbers → ℕ → ℕ → EsSearch → Result EsSearch Refusal
 es_from_over w row c zero k a = Ok a
 es_from_over w row c (suc n) k a = next_by (es_row_over w a k (row k) c) (λ b. es_from_over w row c n (k + 1) b)
 
@@ -170,5 +170,5 @@ muf_from_search_over_by true false w find s step f2d clat clck c = Err Refusal.M
 muf_from_search_over_by false reach w find s step f2d clat clck c = Err Refusal.MufInput
 
 -- n rows of Es, each as `row` gives it: flat rows and records alike
-unfoldable pub muf_of_rows_over : Waves → Finder → IonoState → ℕ → (ℕ → EsRow) → List Float → List Float → List Float → PathNumbers → Result AnswerAndRow Refusal
+unfoldable pub muf_of_rows_over : Waves → Finder → IonoState → ℕ → (ℕ → EsParams) → List Float → List Float → List Float → PathNumbers → Result AnswerAndRow Refusal
 muf_of_rows_over w find s n row f2d clat clck c = muf_from_search_over_by (in_domain c) (lists_reach (controlling_of s) (length f2d) (length clat) (length clck)) w find s (es_from_over w row c n 0 start_of) f2d clat clck c

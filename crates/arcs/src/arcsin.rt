@@ -56,7 +56,7 @@ fn guess(n: u64) -> u64
 }
 
 // the whole part of n's root, from a number not below it down by means
-// Stays: a loop that counts nothing and ends where the square is not above n.
+// Stays: a loop that counts nothing and ends where the square is not above n; the library's `isqrt` halves a range thirty-two times.
 fn whole_root(n: u64, start: u64) -> u64
     requires { (n < (start + 1) * (start + 1)) × (start < 2 ^ 32) }
     ensures { result ≡ root n }
@@ -77,6 +77,7 @@ fn rest_of_square(n: u64) -> u64
 }
 
 // the cosine to the sine n
+// Stays: beside the same from a number near it, two lines each, which differ in where the walk starts.
 fn cosine(n: u64) -> u64
     requires { n < 2 ^ 32 }
     ensures { result ≡ cosine_of n }
@@ -159,6 +160,8 @@ fn asin_mag(a: u32) -> u64
 }
 
 // from the bit pattern of x to that of its arc sine
+// Stays: beside the arc tangent's: where the ranges end and what is answered past them differ, and one function for both would be
+// handed these and the rule.
 pub fn asin_bits(b: u32) -> u32
     ensures { result ≡ asin_bits b }
 {

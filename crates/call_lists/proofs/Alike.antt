@@ -33,7 +33,7 @@ use Rattle.tangents.specs.Tangents.{tangents_of}
 use Rattle.e_lines.specs.Lines.{read_with, e_heights_by, e_heights_with, e_line_by, e_line_with}
 use Rattle.layer_mufs.specs.Lines.{f2_heights_by, f2_heights_with, f2_line_by, f2_line_with, f1_own_by, f1_own_with, f1_line_by, f1_line_with}
 use Rattle.layer_mufs.specs.declared.PathNumbers.{PathNumbers}
-use Rattle.tangents.specs.declared.Tangents.{Tangents}
+use Rattle.tangents.specs.declared.F2Tangent.{F2Tangent}
 use Rattle.e_lines.specs.declared.HeightPair.{HeightPair}
 use Rattle.muf.specs.Curmuf.{found_then, regular_with}
 use Rattle.muf.specs.declared.RegularLines.{RegularLines}
@@ -177,12 +177,12 @@ module _ (find other : Finder) (u v : IonoState) (k : ℕ) (a : Alike u v k) (fo
       ap (λ (h : HeightPair). e_line_by (geometry_of gcdkm amind h.hp h.ht true) h fxe)
       (e-heights-by (profile_only u) fxe ∙ ap (λ (b : Bool). e_heights_by b other v fxe) (shape_same u v k a))
 
-  f2-heights-by : (b f1 : Bool) (l : Slot) (x : Tangents) → f2_heights_by b f1 find u l x ≡ f2_heights_by b f1 other v l x
+  f2-heights-by : (b f1 : Bool) (l : Slot) (x : F2Tangent) → f2_heights_by b f1 find u l x ≡ f2_heights_by b f1 other v l x
   f2-heights-by true f1 l x = read_same x.fx2
   f2-heights-by false true l x = read_same x.fx2
   f2-heights-by false false l x = refl
 
-  f2-line-same : (l : Slot) (x : Tangents) (f2d : List Float) (clat clck : Float) (c : PathNumbers) → f2_line_with find u l x f2d clat clck c ≡ f2_line_with other v l x f2d clat clck c
+  f2-line-same : (l : Slot) (x : F2Tangent) (f2d : List Float) (clat clck : Float) (c : PathNumbers) → f2_line_with find u l x f2d clat clck c ≡ f2_line_with other v l x f2d clat clck c
   unfolding f2_line_with f2_heights_with
   f2-line-same l x f2d clat clck c =
       ap (λ (h : HeightPair). f2_line_by (geometry_of c.gcdkm c.amind h.hp h.ht false) l h x f2d clat clck c)
@@ -208,9 +208,9 @@ module _ (find other : Finder) (u v : IonoState) (k : ℕ) (a : Alike u v k) (fo
       let x = tangents_of l c.gcdkm in
       let whole : LayerMuf → LayerMuf → LayerMuf → Result RegularLines Refusal = λ e f2 f1. Ok (record { e = e; f1 = f1; f2 = f2 }) in
       let last : Finder → IonoState → LayerMuf → LayerMuf → Result RegularLines Refusal = λ w t e f2. found_then (f1_line_with w t l x.fx1 e c.gcdkm c.amind) (whole e f2) in
-      let next : Finder → IonoState → LayerMuf → Result RegularLines Refusal = λ w t e. found_then (f2_line_with w t l x f2d clat clck c) (last w t e) in
+      let next : Finder → IonoState → LayerMuf → Result RegularLines Refusal = λ w t e. found_then (f2_line_with w t l x.f2 f2d clat clck c) (last w t e) in
       ap (λ (y : Result LayerMuf Refusal). found_then y (next find u)) (e-line-same x.fxe c.gcdkm c.amind)
       ∙ then_same (e_line_with other v x.fxe c.gcdkm c.amind) (next find u) (next other v)
-      (λ (e : LayerMuf). ap (λ (y : Result LayerMuf Refusal). found_then y (last find u e)) (f2-line-same l x f2d clat clck c)
-      ∙ then_same (f2_line_with other v l x f2d clat clck c) (last find u e) (last other v e)
+      (λ (e : LayerMuf). ap (λ (y : Result LayerMuf Refusal). found_then y (last find u e)) (f2-line-same l x.f2 f2d clat clck c)
+      ∙ then_same (f2_line_with other v l x.f2 f2d clat clck c) (last find u e) (last other v e)
       (λ (f2 : LayerMuf). ap (λ (y : Result LayerMuf Refusal). found_then y (whole e f2)) (f1-line-same l x.fx1 e c.gcdkm c.amind)))

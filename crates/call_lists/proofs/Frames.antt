@@ -3,6 +3,7 @@ use mathlib.Core.Bool.{Bool, true, false, ◌&&◌}
 use mathlib.Core.List.{List}
 use mathlib.Core.Path.{◌≡◌, refl, sym, ap, ◌∙◌, subst}
 use Rattle.std.specs.Prelude.{Option, Some, None, Result, Ok, Err, is_ok, is_some}
+use Rattle.std.proofs.lemmas.Bool.{and_parts, and_from}
 use Prim.Native.Nat.{ℕ, ◌<◌, ◌≤◌}
 use native.Mathlib.Omega.{arith}
 use borrow.Author.Tests.{leb-true}
@@ -29,7 +30,7 @@ use Rattle.layer_mufs.specs.declared.PathNumbers.{PathNumbers}
 use Rattle.controlling_slot.proofs.Small.{controlling-small}
 use Rattle.sporadic.specs.Sporadic.{start_of, row_at, es_from}
 use Rattle.muf.specs.Curmuf.{in_domain, lists_reach, regular_with, found_muf_of, es_by, regular_by, muf_at_slot_with, muf_from_search_by, muf_from_search_with, muf_of_rows_with, taken_rows_by, row_count_of, flat_with, answer_by, rewrite_by}
-use Rattle.sporadic.specs.declared.EsRow.{EsRow}
+use Rattle.layers.specs.declared.EsParams.{EsParams}
 use Rattle.sporadic.specs.declared.EsSearch.{EsSearch}
 use Rattle.muf.specs.declared.RegularLines.{RegularLines}
 use Rattle.muf.specs.declared.MufAnswer.{MufAnswer}
@@ -109,12 +110,8 @@ controlling-same : (s t : IonoState) → Common s t → controlling_of t ≡ con
 unfolding controlling_of compare_e
 controlling-same s t c = rw (c.fi-common, c.kfx-common)
 
-first_of : (a b : Bool) → (a && b) ≡ true → a ≡ true
-first_of true b e = refl
-first_of false b e = e
-
 deciles-right : (n k lats clocks : ℕ) → (eqb n 576 && ltb k lats && ltb k clocks) ≡ true → eqb n 576 ≡ true
-deciles-right n k lats clocks e = first_of (eqb n 576) (ltb k lats) (first_of (eqb n 576 && ltb k lats) (ltb k clocks) e)
+deciles-right n k lats clocks e = (and_parts (eqb n 576) (ltb k lats) (and_parts (eqb n 576 && ltb k lats) (ltb k clocks) e).0).0
 
 -- by domain, deciles and reach: where lecden is reached at all, the MUF has picked the slot
 done-by : (d r : Bool) (find : Finder) (s t : IonoState) (step : Result EsSearch Refusal) (f2d clat clck : List Float) (c : PathNumbers) → (d ≡ true → r ≡ true → AgreesAt find t (controlling_of s)) → Common s t → (d ≡ true → r ≡ true → slot_at t (controlling_of s) ≡ slot_at s (controlling_of s)) → Follows (muf_from_search_by d r find t step f2d clat clck c) (muf_from_search_by d r gethp_of s step f2d clat clck c) t (controlling_of s)
@@ -128,7 +125,7 @@ done-by false r find s t step f2d clat clck c agree g fresh = (refl, refl, refl)
 picked : (d e : Bool) (k : ℕ) → d ≡ true → e ≡ true → pick_if (d && e) k ≡ Some k
 picked d e k hd he = rw (hd, he)
 
-done-follows : (find : Finder) (s t : IonoState) (n : ℕ) (row : ℕ → EsRow) (f2d clat clck : List Float) (c : PathNumbers) → ((k : ℕ) → pick_if (in_domain c && eqb (length f2d) 576) (controlling_of s) ≡ Some k → AgreesAt find t k) → Common s t → ((k : ℕ) → pick_if (in_domain c && eqb (length f2d) 576) (controlling_of s) ≡ Some k → slot_at t k ≡ slot_at s k) → Follows (muf_of_rows_with find t n row f2d clat clck c) (muf_of_rows_with gethp_of s n row f2d clat clck c) t (controlling_of s)
+done-follows : (find : Finder) (s t : IonoState) (n : ℕ) (row : ℕ → EsParams) (f2d clat clck : List Float) (c : PathNumbers) → ((k : ℕ) → pick_if (in_domain c && eqb (length f2d) 576) (controlling_of s) ≡ Some k → AgreesAt find t k) → Common s t → ((k : ℕ) → pick_if (in_domain c && eqb (length f2d) 576) (controlling_of s) ≡ Some k → slot_at t k ≡ slot_at s k) → Follows (muf_of_rows_with find t n row f2d clat clck c) (muf_of_rows_with gethp_of s n row f2d clat clck c) t (controlling_of s)
 unfolding muf_of_rows_with muf_from_search_with lists_reach
 done-follows find s t n row f2d clat clck c agree g fresh =
     let step = es_from row c n 0 start_of in
@@ -154,7 +151,7 @@ answered-by true true s step f2d clat clck c e = (refl, refl)
 answered-by true false s step f2d clat clck c e = absurd (not-both e)
 answered-by false r s step f2d clat clck c e = absurd (not-both e)
 
-done-picked : (s : IonoState) (n : ℕ) (row : ℕ → EsRow) (f2d clat clck : List Float) (c : PathNumbers) → is_ok (hour_in (muf_of_rows_with gethp_of s n row f2d clat clck c)) ≡ true → pick_if (in_domain c && eqb (length f2d) 576) (controlling_of s) ≡ Some (controlling_of s)
+done-picked : (s : IonoState) (n : ℕ) (row : ℕ → EsParams) (f2d clat clck : List Float) (c : PathNumbers) → is_ok (hour_in (muf_of_rows_with gethp_of s n row f2d clat clck c)) ≡ true → pick_if (in_domain c && eqb (length f2d) 576) (controlling_of s) ≡ Some (controlling_of s)
 unfolding muf_of_rows_with muf_from_search_with lists_reach
 done-picked s n row f2d clat clck c e =
     let k = controlling_of s in
@@ -200,9 +197,6 @@ sheet-answered true true s k layers = refl
 sheet-answered true false s k layers = refl
 sheet-answered false b s k layers = refl
 
-both_true : (a b : Bool) → a ≡ true → b ≡ true → (a && b) ≡ true
-both_true a b ha hb = rw (ha, hb)
-
 -- ---- any call
 
 -- the slot that a call prepares, where it does
@@ -218,7 +212,7 @@ same_answer (a_muf es f2d clat clck c) find s t agree g fresh =
 same_answer (a_sheet k nang layers cells) find s t agree g fresh =
     let a = leb k 2 in
     let b = room_for nang cells in
-    let has-picked : a ≡ true → b ≡ true → picked_slot s (a_sheet k nang layers cells) ≡ Some k = λ ha hb. ap (λ (x : Bool). pick_if x k) (sheet-answered a b s k layers ∙ both_true a b ha hb) in
+    let has-picked : a ≡ true → b ≡ true → picked_slot s (a_sheet k nang layers cells) ≡ Some k = λ ha hb. ap (λ (x : Bool). pick_if x k) (sheet-answered a b s k layers ∙ and_from a b ha hb) in
     let h = sheet-seen a b find s t k nang layers cells (λ ha hb. agree k (has-picked ha hb)) g (λ ha hb. fresh k (has-picked ha hb)) in
     rw (h.0, h.1)
 same_answer (a_nominal points f2m3 es km gcd gcdkm) find s t agree g fresh = refl
@@ -253,7 +247,7 @@ slot_small : (c : Call) (s : IonoState) → prepares s c ≡ true → slot_of s 
 unfolding prepares answered answer_with slot_sheet_with
 slot_small (a_muf es f2d clat clck c) s e = controlling-small s
 slot_small (a_sheet k nang layers cells) s e =
-    below-three k (leb-true k 2 (first_of (leb k 2) (room_for nang cells) (sym (sheet-answered (leb k 2) (room_for nang cells) s k layers) ∙ e)))
+    below-three k (leb-true k 2 (and_parts (leb k 2) (room_for nang cells) (sym (sheet-answered (leb k 2) (room_for nang cells) s k layers) ∙ e)).0)
 slot_small (a_nominal points f2m3 es km gcd gcdkm) s e = absurd (not-both e)
 
 -- what a list's proof needs of a call on t

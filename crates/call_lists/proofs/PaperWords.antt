@@ -53,7 +53,8 @@ apart s c (d ∷ ds) one none_left none_before = (
   apart s c ds (λ m. rest (one_if (is_muf d)) (mufs_in ds) (one m)) (λ k p. rest (one_if (is_sheet_of s k d)) (sheets_in s k ds) (none_left k p)) none_before.1,
 )
 
-every-so : {A : Type 0} (P Q : A → Type 0) (xs : List A) → Every P xs → ((x : A) → P x → Q x) → Every Q xs
+-- what follows from P at each entry is so of every entry
+pub every-so : {A : Type 0} (P Q : A → Type 0) (xs : List A) → Every P xs → ((x : A) → P x → Q x) → Every Q xs
 every-so P Q [] p f = tt
 every-so P Q (x ∷ xs) p f = (f x p.0, every-so P Q xs p.1 f)
 

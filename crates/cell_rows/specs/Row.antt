@@ -1,5 +1,5 @@
 -- The cells of one angle, guessed together: thirty rows and two to spare. Definitions only.
-use Rattle.std.specs.Prelude.{◌≡◌, List, ℕ, zero, suc, ◌+◌, ◌*◌, ◌<◌, ℤ, pos, get_or, set, Float}
+use Rattle.std.specs.Prelude.{◌≡◌, List, ℕ, zero, suc, ◌+◌, ◌*◌, ◌<◌, ℤ, get_or, set, Float}
 use Rattle.scalar.specs.F32.{◌/f◌, at}
 use Rattle.cell_test.specs.Cell.{khz_of, sqcos_of, in_doubt, Told}
 

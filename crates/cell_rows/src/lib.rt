@@ -1,7 +1,9 @@
-// The cells of one angle, guessed together. The loops run over thirty-two places and have no branch,
-// so that four places are worked out at once.
-// Stays: they count a place, since a turn reads or writes up to five lists there, and cells lie thirty
-// an angle where the guesses have thirty-two; a caller in C lends the cells.
+// The cells of one angle: all guessed together, and those in doubt worked out after. The loop of the
+// guesses runs over thirty-two places; today's compiler makes no vector instructions of it, since floats
+// are compared in it.
+// Stays: the loops count a place, since a turn reads or writes up to five lists there, and of what
+// `iter_mut` under a zip leaves a proof knows the lengths alone. Cells lie thirty an angle where the
+// guesses have thirty-two; a caller in C lends the cells.
 #![tactic(auto)]
 
 ghost use Rattle.std.specs.Prelude.{◌≡◌, map, ℕ, ◌+◌, ◌*◌, ◌≤◌, ◌<◌, length, take, get_or};
@@ -20,8 +22,8 @@ pub fn padded(x: [f32; 30]) -> [f32; 32]
     r
 }
 
-// What a function gives of each of thirty-two numbers. Stays: an array's own `map` is no loop that is
-// unrolled and done four places at a time, and a scan takes two hundredths longer by it.
+// What a function gives of each of thirty-two numbers. Stays: by an array's own `map` a scan takes two
+// hundredths longer.
 pub fn each<F: Fn(f32) -> f32>(x: [f32; 32], f: F) -> [f32; 32]
     requires { F.IsAlwaysCallable f }
     ensures { (i : ℕ) → i < 32 → F.post f (number_at x i) (number_at result i) }
@@ -83,25 +85,28 @@ impl Rows {
         doubts
     }
 
-    // The thirty cells of an angle, from the cell `from` on, out of what was guessed.
-    fn settle(&self, rcosd: f32, doubts: u32, told: &[u32; 32], from: usize, cells: &mut [i32])
-        requires { (from + 30 ≤ length cells.old) × RowTold self.now.fv self.now.radii rcosd told.now doubts }
-        ensures { cells.new ≡ angle_cells_of self.now.fv self.now.radii rcosd from cells.old 30 }
+    // The thirty cells of an angle, out of what was guessed.
+    // Stays: `RowTold` is asked, since it speaks of the rows and of the angle too: a ghost field of what was
+    // told would have to hold both.
+    fn settle(&self, rcosd: f32, doubts: u32, told: &[u32; 32], cells: &mut [i32])
+        requires { (length cells.old ≡ 30) × RowTold self.now.fv self.now.radii rcosd told.now doubts }
+        ensures { cells.new ≡ angle_cells_of self.now.fv self.now.radii rcosd 0 cells.old 30 }
     {
         if doubts == 0 {
             for i in 0..30 {
-                cells[from + i] = told[i] as i32;
+                cells[i] = told[i] as i32;
             }
             return;
         }
         for i in 0..30 {
             let c = mended(told[i], self.fv[i], rcosd, self.radii[i]);
-            cells[from + i] = c;
+            cells[i] = c;
         }
     }
 
     // The cells of the first `nang` angles, all guessed before one is settled: no test stands between
     // the guesses of two angles, so that none waits for the one before.
+    // Stays: `told` and `doubts` are two arrays by angle, of which `guess` writes the one and answers the other.
     pub fn scan(&self, rcosds: &[f32; 40], nang: usize, cells: &mut [i32])
         requires { (nang ≤ 40) × (30 * nang ≤ length cells.old) }
         ensures { cells.new ≡ cell_scan_of rcosds.now self.now.fv self.now.radii cells.old nang }
@@ -113,7 +118,12 @@ impl Rows {
             doubts[ia] = d;
         }
         for ia in 0..nang {
-            self.settle(rcosds[ia], doubts[ia], &told[ia], 30 * ia, cells);
+            self.settle(
+                rcosds[ia],
+                doubts[ia],
+                &told[ia],
+                &mut cells[30 * ia..30 * ia + 30],
+            );
         }
     }
 }

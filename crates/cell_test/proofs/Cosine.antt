@@ -113,13 +113,21 @@ first d f h = go d refl (le-real f0_000001 d t).1
 abbrev pub Cosine : Float → Float → Type 0
 Cosine sphe r = (r ≡ sqcos_of sphe) × T (f0_000001 ≤f r) × T (r ≤f f1)
 
-pub kept : (sphe : Float) → (f0_000001 ≤f (f1 -f sphe *f sphe)) ≡ true → Cosine sphe (f1 -f sphe *f sphe)
+kept : (sphe : Float) → (f0_000001 ≤f (f1 -f sphe *f sphe)) ≡ true → Cosine sphe (f1 -f sphe *f sphe)
 unfolding sqcos_of max_of or_second
 kept sphe h =
     let d = f1 -f sphe *f sphe in
     let t : T (le f0_000001 d) = subst T (sym h) tt in
     (rw (first d (sub-fits binary32 f1 (sphe *f sphe)) h), t, from_one (sphe *f sphe) (square-sign sphe) (mul-fits binary32 sphe sphe) (le-real f0_000001 d t).1)
 
-pub floored : (sphe : Float) → (f0_000001 ≤f (f1 -f sphe *f sphe)) ≡ false → Cosine sphe f0_000001
+floored : (sphe : Float) → (f0_000001 ≤f (f1 -f sphe *f sphe)) ≡ false → Cosine sphe f0_000001
 unfolding sqcos_of max_of or_second
 floored sphe h = (rw (second (f1 -f sphe *f sphe) (sub-fits binary32 f1 (sphe *f sphe)) h), unfold le of_bits in tt, unfold le of_bits in tt)
+
+-- the answer of either side of that test is the maximum
+by_test : (sphe : Float) (b : Bool) → (f0_000001 ≤f (f1 -f sphe *f sphe)) ≡ b → Cosine sphe (sqcos_of sphe)
+by_test sphe true h = let k = kept sphe h in subst (Cosine sphe) k.0 k
+by_test sphe false h = let k = floored sphe h in subst (Cosine sphe) k.0 k
+
+pub squared : (sphe : Float) → Cosine sphe (sqcos_of sphe)
+squared sphe = by_test sphe _ refl

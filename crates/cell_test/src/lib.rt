@@ -1,5 +1,5 @@
-// A cell of the reflectrix without a root: a number is guessed, and a test of two products says
-// whether it is the cell.
+// A cell of the reflectrix: a number is guessed with the machine's root, and a test of two products
+// says whether it is the cell.
 #![tactic(auto)]
 
 ghost use Rattle.std.specs.Prelude.{◌≡◌, ◌^◌, ◌≤◌, ◌<◌, T};
@@ -12,14 +12,11 @@ ghost use Rattle.cell_test.specs.Cell.{khz_of, sqcos_of, tame, low_of, high_of, 
 pub fn squared_cosine(sphe: f32) -> f32
     ensures { (result ≡ sqcos_of sphe) × T (f0_000001 ≤f result) × T (result ≤f f1) }
 {
-    let sqcos = 1.0 - sphe * sphe;
-    if sqcos >= 0.000001 {
-        return sqcos;
-    }
-    0.000001
+    scalar::max(1.0 - sphe * sphe, 0.000001)
 }
 
 // The cell itself, with a root and a division.
+// Stays: a row's frequency and the square of an angle's cosine, here and below, meet in one cell and are no pair that is kept.
 pub fn khz(fvv: f32, sqcos: f32) -> i32
     ensures { result ≡ khz_of fvv sqcos }
 {
@@ -29,16 +26,11 @@ pub fn khz(fvv: f32, sqcos: f32) -> i32
 }
 
 // A frequency at which the test can be trusted.
+#[tactic(auto, unfolding(crate::specs::Cell::tame))]
 fn is_tame(fvv: f32) -> bool
     ensures { result ≡ tame fvv }
 {
-    if fvv == 0.0 {
-        return true;
-    }
-    if fvv >= 0.0009765625 {
-        return fvv <= 1024.0;
-    }
-    false
+    fvv == 0.0 || fvv >= 0.0009765625 && fvv <= 1024.0
 }
 
 // What the square of a number that is not above the cell, by the square of the cosine, is at most.
@@ -64,10 +56,7 @@ pub fn high(fvv: f32) -> f32
 fn from_zero(v: f32) -> f32
     ensures { T (real result) }
 {
-    if v > 0.0 {
-        return v;
-    }
-    0.0
+    if v > 0.0 { v } else { 0.0 }
 }
 
 // The nearest whole number, as the last 22 digits of a sum's pattern.
@@ -77,21 +66,17 @@ fn digits(v: f32) -> u32
     f32::to_bits(from_zero(v) + 12582912.0) % 0x40_0000
 }
 
-// A guess at the cell. A multiple of 1 over the root is within four in a hundred by its pattern; two
-// steps of Newton's rule bring it to 6 in 10^7. Their constants are those of the least error, and of
-// a thousand as the multiple at the end, so that no product is spent on a half or on kHz. No proof
-// rests on that: the test refuses a wrong guess.
+// A guess at the cell: the whole part of its kHz, with the root as the machine takes it. No proof rests on that: the test refuses a
+// wrong guess.
 fn guess(sqcos: f32, fvv: f32) -> u32
-    requires { T (f0_000001 ≤f sqcos) }
     ensures { result < 2 ^ 22 }
 {
-    let q0 = f32::from_bits(0x5f8a_c937 - f32::to_bits(sqcos) % 0x8000_0000 / 2);
-    let q1 = q0 * (7.5242507 - sqcos * q0 * q0);
-    let khz = fvv * q1 * (188.98823 - sqcos * q1 * q1);
-    digits(khz - 0.5)
+    digits(1000.0 * (fvv / sqcos.sqrt()) - 0.5)
 }
 
 // From this number on an answer says that the cell is in doubt.
+// Stays: the doubt is a bit of the guess's own word, added to it with no branch; an Option for each of the thirty-two places of a row
+// would take twice the room and a test at each.
 pub const IN_DOUBT: u32 = 0x8000_0000;
 
 // 0 where the test is passed, else `IN_DOUBT`.

@@ -19,6 +19,7 @@ use Rattle.circuit_laws.specs.OnChain.{OnChain}
 use Rattle.circuit_laws.specs.OnChain.OnChain.{first, after}
 use Rattle.circuit_laws.proofs.Off.{by-same, reached, read-so, beside-so}
 use Rattle.chain_laws.specs.Laws.{AlikeOnChain, LongerFile, RecordsAppended}
+use Rattle.std.proofs.lemmas.Bool.{and_parts}
 
 never : (r : Refusal) → IsOk {T = Chain} (Err r) → ⊥
 never r e = true≢false (sym e)
@@ -99,18 +100,13 @@ kept : (size n : ℕ) (f more : List ℕ) → size * n + size ≤ length f → t
 kept size n f more h =
     sym (ap (take size) (drop-append-le (size * n) f more (omega arith)) ∙ take-append-le size (drop (size * n) f) more (rw length-drop (omega arith)))
 
-and_both : (a b : Bool) → (a && b) ≡ true → (a ≡ true) × (b ≡ true)
-and_both true b e = (refl, e)
-and_both false true e = (e, refl)
-and_both false false e = (e, e)
-
 -- an answered chain is that of a file of two records or more
 long-enough : (o : Form) (f : List ℕ) → IsOk (chain_of o f) → 2 * o.size ≤ length f
 unfolding chain_of
 long-enough o f e = by (length_good o f) refl e
   where
     by : (b : Bool) → length_good o f ≡ b → IsOk (pick_chain b (pick_chain (head_good o (record_at o f 0)) (walk o f (km_of (record_at o f 0) + 48) (0 ∷ []) 0) (Err Refusal.RecordZero)) (Err Refusal.Length)) → 2 * o.size ≤ length f
-    by true g e = leb-true (2 * o.size) (length f) (and_both (leb (2 * o.size) (length f)) (leb (length f) (64 * o.size)) (and_both (eqb (length f % o.size) 0) (leb (2 * o.size) (length f) && leb (length f) (64 * o.size)) g).1).0
+    by true g e = leb-true (2 * o.size) (length f) (and_parts (leb (2 * o.size) (length f)) (leb (length f) (64 * o.size)) (and_parts (eqb (length f % o.size) 0) (leb (2 * o.size) (length f) && leb (length f) (64 * o.size)) g).1).0
     by false g e = absurd (never Refusal.Length e)
 
 -- every record that a chain reaches is one of the file's

@@ -10,6 +10,7 @@ ghost use Rattle.chain_text.specs.ChainText.{step_line, followed_text, chain_tex
 
 use lines::Page;
 use record_chain::Chain;
+pub use records::INPUT;
 
 // A step of the chain: the record's number, its kind and its next index.
 #[tactic(auto, using(lines::proofs::Placing::putting), unfolding(crate::specs::ChainText::step_line))]
@@ -29,6 +30,7 @@ fn put_chain<const N: usize>(page: &mut Page<N>, file: &[u8], chain: &Chain)
     requires { chain_of form64 file.now ≡ Ok chain.now }
     ensures { page.new ≡ with_text N page.old (followed_text file.now chain.now) }
 {
+    // Stays: n is the record's number, which the line says and at which its bytes stand; the list is of such numbers.
     for n in &chain.order[..chain.count] {
         put_step(page, *n, &file[64 * n..64 * n + 64]);
     }
@@ -36,9 +38,6 @@ fn put_chain<const N: usize>(page: &mut Page<N>, file: &[u8], chain: &Chain)
     page.put_decimal(chain.count as u64);
     page.put_byte(b'\n');
 }
-
-// The bytes that a program reads: a record more than the longest file, so that a longer one is seen to be too long.
-pub const INPUT: usize = 4160;
 
 // The bytes of a page: the text of 64 steps has room.
 pub const ROOM: usize = 4096;

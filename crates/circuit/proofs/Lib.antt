@@ -1,3 +1,4 @@
 -- The words read along a chain, and the reader's answer.
 pub mod Lists
+pub mod Along
 pub mod Answers

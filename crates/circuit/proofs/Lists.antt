@@ -3,14 +3,14 @@ use Prim.Native.Nat.{ℕ, zero, suc, ◌+◌, ◌*◌, ◌-◌, ◌≤◌, ◌<�
 use mathlib.Core.Path.{◌≡◌, refl, ap, ◌∙◌}
 use mathlib.Core.List.{List, ◌++◌}
 use native.Mathlib.Omega.{arith}
-use native.Mathlib.Nat.{le_antisymm, le_refl, zero-add}
+use native.Mathlib.Nat.{le_refl, mul-le-mul_left, sub-zero, zero-add}
 use native.Mathlib.Numerals.{add-one}
-use lib.ListN.{length, get_or, take, drop, length-append, length-drop}
+use lib.ListN.{length, get_or, take, drop, length-append, length-drop, replicate}
 use lib.Seq.{length-take-le}
 use Rattle.std.proofs.lemmas.List.{get_or-take, get_or-drop}
 use Rattle.records.specs.declared.Form.{Form}
 use Rattle.record_chain.specs.Chain.{padded}
-use Rattle.records.proofs.Lists.{part, length-after}
+use Rattle.records.proofs.Lists.{length-after}
 use Rattle.record_chain.proofs.Members.{length-padded, placed}
 use Rattle.circuit.specs.Read.{numbers_of}
 use Rattle.records.specs.Record.{record_words, record_at}
@@ -24,43 +24,26 @@ module _ (o : Form) (f order : List ℕ) (from skip words : ℕ) where
   pub length-read : (N n : ℕ) → words * n ≤ N → length (padded N (numbers_of o f order from skip words n)) ≡ N
   length-read N n h = length-padded N (numbers_of o f order from skip words n) (rw length-numbers h)
 
-  -- one more record's words, read into their part of the array
-  pub read-on : (N i : ℕ) (xs ys : List ℕ) → xs ≡ padded N (numbers_of o f order from skip words i)
-      → ys ≡ drop skip
-      (record_words
-      (take (o.size * get_or order (from + i) 0 + o.size - o.size * get_or order (from + i) 0)
-      (drop (o.size * get_or order (from + i) 0) f))
-      (skip + words))
-      → words * i + words ≤ N
-      → take (words * i) xs ++ (ys ++ drop (words * i + words - words * i) (drop (words * i) xs))
-      ≡ padded N (numbers_of o f order from skip words (i + 1))
+  -- before the first record all are zeros
+  pub none-read : (N : ℕ) → replicate N 0 ≡ padded N (numbers_of o f order from skip words 0)
   unfolding numbers_of
-  read-on N i xs ys e y h =
-      let n = get_or order (from + i) 0 in
-      let z = y ∙ ap (λ (r : List ℕ). drop skip (record_words r (skip + words))) (part o f n) in
-      placed N words (words * i) xs (numbers_of o f order from skip words i) ys e (length-numbers i)
-      (ap length z ∙ length-after (record_at o f n) skip words) h
-      ∙ rw (add-one, z) refl
+  none-read N = rw sub-zero
 
-  -- what a loop that reads along a chain keeps: after i turns of `most` the numbers of i records stand at the front, and zeros after them
-  abbrev pub ReadTo : (N most : ℕ) (xs : List ℕ) (i : ℕ) → Type 0
-  ReadTo N most xs i = (i ≤ most) × ((length xs ≡ N) × (xs ≡ padded N (numbers_of o f order from skip words i)))
+-- one more record's words, left in their part of the array
+pub read-on : (o : Form) (f order : List ℕ) (skip words N i : ℕ) (xs ys : List ℕ) → xs ≡ padded N (numbers_of o f order 0 skip words i)
+    → ys ≡ drop skip (record_words (record_at o f (get_or order i 0)) (skip + words))
+    → words * i + words ≤ N
+    → take (words * i) xs ++ (ys ++ drop (words * i + words - words * i) (drop (words * i) xs))
+    ≡ padded N (numbers_of o f order 0 skip words (i + 1))
+unfolding numbers_of
+read-on o f order skip words N i xs ys e z h =
+    placed N words (words * i) xs (numbers_of o f order 0 skip words i) ys e (length-numbers o f order 0 skip words i)
+    (ap length z ∙ length-after (record_at o f (get_or order i 0)) skip words) h
+    ∙ rw (add-one, zero-add i, z) refl
 
-  module _ (N most i : ℕ) (xs : List ℕ) (h : ReadTo N most xs i) where
-    pub read_next : (ys : List ℕ) → i < most
-        → ys ≡ drop skip
-        (record_words
-        (take (o.size * get_or order (from + i) 0 + o.size - o.size * get_or order (from + i) 0)
-        (drop (o.size * get_or order (from + i) 0) f))
-        (skip + words))
-        → words * i + words ≤ N
-        → ReadTo N most (take (words * i) xs ++ (ys ++ drop (words * i + words - words * i) (drop (words * i) xs))) (i + 1)
-    read_next ys l y k =
-        let e = read-on N i xs ys h.1.1 y k in
-        (omega arith, (ap length e ∙ length-read N (i + 1) (omega arith), e))
-
-    pub read-end : most ≤ i → xs ≡ padded N (numbers_of o f order from skip words most)
-    read-end l = h.1.1 ∙ ap (λ (n : ℕ). padded N (numbers_of o f order from skip words n)) (le_antisymm h.0 l)
+-- there is room for the words of one more record, where there is room for those of all
+pub room-on : (N words i n : ℕ) → words * n ≤ N → i < n → words * i + words ≤ N
+room-on N words i n h l = let k : words * (i + 1) ≤ words * n = mul-le-mul_left words (omega arith) in omega (arith, k, h)
 
 -- the same of a part of the list, which begins at `from`
 pub numbers-cut : (o : Form) (f order : List ℕ) (from k skip words n : ℕ) → n ≤ k

@@ -1,5 +1,6 @@
 -- The circuit that a file holds, or where the file is turned away.
-use Rattle.std.specs.Prelude.{ℕ, zero, suc, ◌+◌, ◌*◌, ◌-◌, List, [], ◌++◌, get_or, drop, replicate, Result, Ok, Err}
+use Rattle.std.specs.Prelude.{ℕ, zero, suc, ◌+◌, ◌*◌, ◌-◌, List, [], ◌++◌, get_or, drop, length, replicate, Result, Ok, Err, ◌≤◌, ◌<◌, ◌≡◌}
+use Rattle.std.specs.Borrow.{Bor}
 use Rattle.refusal.specs.declared.Refusal.{Refusal}
 use Rattle.record_chain.specs.declared.Chain.{Chain}
 use Rattle.circuit.specs.declared.Circuit.{Circuit}
@@ -13,6 +14,19 @@ numbers_of o f order from skip words zero = []
 numbers_of o f order from skip words (suc n) =
     numbers_of o f order from skip words n
     ++ drop skip (record_words (record_at o f (get_or order (from + n) 0)) (skip + words))
+
+-- What a function that finds records does, by what its calls ask and what they answer: it gives each record that is in a file
+-- as the part of the file that is its own.
+abbrev pub Parts : (Bor (List ℕ) → ℕ → Type 0) → (Bor (List ℕ) → ℕ → Bor (List ℕ) → Type 0) → Form → Type 0
+Parts pre post o =
+    (f : Bor (List ℕ)) (n : ℕ) → o.size * n + o.size ≤ length f.now
+    → pre f n × ((r : Bor (List ℕ)) → post f n r → r.now ≡ record_at o f.now n)
+
+-- such a function, and a list of records that are in the file and have so many words
+pub record Found (pre : Bor (List ℕ) → ℕ → Type 0) (post : Bor (List ℕ) → ℕ → Bor (List ℕ) → Type 0) (o : Form) (f records : List ℕ) (words : ℕ) : Type 0 where
+  pub room : 4 + 4 * words ≤ o.size
+  pub there : (i : ℕ) → i < length records → o.size * get_or records i 0 + o.size ≤ length f
+  pub parts : Parts pre post o
 
 -- the numbers of record 0, with the words of the points and the deciles
 abbrev pub circuit_by : List ℕ → List ℕ → List ℕ → Circuit

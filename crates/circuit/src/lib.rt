@@ -5,20 +5,21 @@
 
 mod numbers;
 
-ghost use Rattle.std.specs.Prelude.{◌≡◌, ◌<◌, map, not};
+ghost use Rattle.std.specs.Prelude.{◌≡◌, ◌+◌, ◌*◌, ◌≤◌, ◌<◌, length, map, not};
 ghost use Rattle.std.specs.Float.Ieee.{of_bits};
 ghost use Rattle.std.specs.Float.{binary32};
-ghost use Rattle.records.specs.Record.{form64, all_zero};
+ghost use Rattle.records.specs.Record.{form64, record_at, all_zero};
 ghost use Rattle.circuit.specs.Read.{read_of};
 ghost use Rattle.circuit.specs.Point.{point_number};
 
-pub use numbers::{all_zero, joined, nothing, read_deciles, read_point};
+pub use numbers::{all_zero, nothing, numbers_of, read_along};
 use record_chain::follow;
 use refusal::Refusal;
 
 // A point is fifteen words: fi, yi, hi and Es fs, three each, hs, clat, clck. The words past the km points are no part of the
 // circuit: the reader leaves them zero, the writer does not look at them.
-// Stays: `shape` is a number, as `km` is, since a caller may hand any to the writer, which refuses it by number.
+// Stays: `shape` is a number, as `km` is: callers in C hand any to the writer, which refuses what is none by its number. The words
+// are arrays beside their counts, as the file and callers in C have them, in fixed memory.
 #[derive(Clone, Copy, Debug, PartialEq, Eq)]
 pub struct Circuit {
     pub km: usize,
@@ -31,12 +32,20 @@ pub struct Circuit {
     pub deciles: [u32; 576],
 }
 
+// Record n, as its part of the file.
+fn record(file: &[u8], n: usize) -> &[u8]
+    requires { 64 * n + 64 ≤ length file.now }
+    ensures { result.now ≡ record_at form64 file.now n }
+{
+    &file[64 * n..64 * n + 64]
+}
+
 // The circuit of a file, or where it is turned away. Records off the chain are not looked at.
 pub fn read(file: &[u8]) -> Result<Circuit, Refusal>
     ensures { result ≡ read_of form64 file.now }
 {
     let c = follow(file)?;
-    Ok(numbers::circuit(file, c))
+    Ok(read_along(file, c, record))
 }
 
 // Whether a circuit has deciles to write: some number of the 576 is not +0.
@@ -47,7 +56,7 @@ pub fn has_deciles(c: Circuit) -> bool
 }
 
 // Word j of point i, as the number whose bits it is.
-// Stays: i and j count points and words of a point, as in the definition.
+// Stays: i and j are the definition's two numbers; a record of them, made for one call, is no plainer.
 pub fn point_number(points: &[u32; 75], i: usize, j: usize) -> f32
     requires { (i < 5) × (j < 15) }
     ensures { result ≡ point_number points.now i j }
@@ -59,12 +68,8 @@ pub fn point_number(points: &[u32; 75], i: usize, j: usize) -> f32
 pub fn decile_table(c: Circuit) -> [f32; 576]
     ensures { result ≡ map (of_bits binary32) c.deciles }
 {
-    let mut table = [0.0; 576];
     if numbers::all_zero(&c.deciles) {
-        return table;
+        return [0.0; 576];
     }
-    for (i, w) in c.deciles.iter().enumerate() {
-        table[i] = scalar::number(*w);
-    }
-    table
+    c.deciles.map(scalar::number)
 }

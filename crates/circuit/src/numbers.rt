@@ -1,63 +1,49 @@
-// The numbers of a circuit, read along its chain. `read_point`, `read_deciles` and `joined` take a record of any form; `points`,
-// `deciles` and `circuit` hand them those of a file with 64-byte records.
-ghost use Rattle.std.specs.Prelude.{◌≡◌, Ok, ℕ, ◌+◌, ◌*◌, ◌≤◌, ◌<◌, length, get_or};
-ghost use Rattle.records.specs.Record.{form64, record_words, all_zero};
+// The numbers of a circuit, read along its chain in a file of any form: the caller says which part of the file a record is.
+ghost use Rattle.std.specs.Prelude.{◌≡◌, Ok, ℕ, List, ◌+◌, ◌*◌, ◌≤◌, ◌<◌, length, get_or};
+ghost use Rattle.records.specs.declared.Form.{Form};
+ghost use Rattle.records.specs.Record.{Fit, all_zero};
 ghost use Rattle.record_chain.specs.Chain.{chain_of, padded};
-ghost use Rattle.circuit.specs.Read.{numbers_of, circuit_by, circuit_of, no_circuit};
+ghost use Rattle.circuit.specs.Read.{Parts, Found, numbers_of, circuit_by, circuit_of, no_circuit};
 
 use crate::Circuit;
 use record_chain::Chain;
 
-// The fifteen words of a point.
-// Stays: a reader is handed the record r as its part of the file, and the words `out` of its point to fill.
-pub fn read_point(r: &[u8], out: &mut [u32])
-    requires { (64 ≤ length r.now) × (length out.old ≡ 15) }
-    ensures { out.new ≡ record_words r.now 15 }
-{
-    records::words(r, out);
-}
-
-// The twelve words of a record of kind 3.
-pub fn read_deciles(r: &[u8], out: &mut [u32])
-    requires { (64 ≤ length r.now) × (length out.old ≡ 12) }
-    ensures { out.new ≡ record_words r.now 12 }
-{
-    records::words(r, out);
-}
-
 // Whether every word is +0.
-// Stays: beside the one for bytes, one call of the library's generic method each; a shared one would need a trait for its zero.
+// Stays: this and the one for bytes (`records`) are each one call of the library's method; one over both types would have to name its
+// elements' zero by a trait.
 pub fn all_zero(s: &[u32]) -> bool
     ensures { result ≡ all_zero s.now }
 {
     s.iter().all(|w| *w == 0)
 }
 
-// Stays: the part of the file by its 64 bytes, as this form's readers are handed it; the wide form has the same loops by 128.
-fn points(file: &[u8], records: &[usize]) -> [u32; 75]
-    requires { (length records.now ≤ 5) × ((i : ℕ) → i < length records.now → 64 * get_or records.now i 0 + 64 ≤ length file.now) }
-    ensures { result ≡ padded 75 (numbers_of form64 file.now records.now 0 0 15 (length records.now)) }
+// Of each record of a list the `width` words after its first `skip`, one record after the other, and zeros after them.
+// Stays: a caller states its records, the two numbers, and how a record is found; a record of these, made for one call, is no plainer.
+pub fn numbers_of<const N: usize, F: Fn(&[u8], usize) -> &[u8] + Copy>(
+    file: &[u8],
+    records: &[usize],
+    skip: usize,
+    width: usize,
+    part: F,
+) -> [u32; N]
+    requires room { width * length records.now ≤ N }
+    requires found { (o : Form) × Found (F.pre part) (F.post part) o file.now records.now (skip + width) }
+    ensures { (o : Form) → Found (F.pre part) (F.post part) o file.now records.now (skip + width) → result ≡ padded N (numbers_of o file.now records.now 0 skip width (length records.now)) }
 {
-    let mut out = [0u32; 75];
+    let mut out = [0u32; N];
+    let words = &mut out[..];
     for (i, &n) in records.iter().enumerate() {
-        read_point(&file[64 * n..64 * n + 64], &mut out[15 * i..15 * i + 15]);
-    }
-    out
-}
-
-fn deciles(file: &[u8], records: &[usize]) -> [u32; 576]
-    requires { (length records.now ≤ 48) × ((i : ℕ) → i < length records.now → 64 * get_or records.now i 0 + 64 ≤ length file.now) }
-    ensures { result ≡ padded 576 (numbers_of form64 file.now records.now 0 0 12 (length records.now)) }
-{
-    let mut out = [0u32; 576];
-    for (i, &n) in records.iter().enumerate() {
-        read_deciles(&file[64 * n..64 * n + 64], &mut out[12 * i..12 * i + 12]);
+        records::words(
+            part(file, n),
+            skip,
+            &mut words[width * i..width * i + width],
+        );
     }
     out
 }
 
 // The numbers of record 0, with the words of the points and the deciles.
-pub fn joined(head: &[u8], points: [u32; 75], deciles: [u32; 576]) -> Circuit
+fn joined(head: &[u8], points: [u32; 75], deciles: [u32; 576]) -> Circuit
     requires { 64 ≤ length head.now }
     ensures { result ≡ circuit_by head.now points deciles }
 {
@@ -73,15 +59,17 @@ pub fn joined(head: &[u8], points: [u32; 75], deciles: [u32; 576]) -> Circuit
     }
 }
 
-// Stays: the file and its chain c, since the chain of a file is numbers alone, which others show and follow without it.
-pub fn circuit(file: &[u8], c: Chain) -> Circuit
-    requires { chain_of form64 file.now ≡ Ok c }
-    ensures { result ≡ circuit_of form64 file.now c }
+// The circuit of a file along its chain c, each record by the part of the file that is its own.
+// Stays: the file beside its chain c, which is numbers alone, copied and shown without it; a record of both, made for this one
+// call, is no plainer.
+pub fn read_along<F: Fn(&[u8], usize) -> &[u8] + Copy>(file: &[u8], c: Chain, part: F) -> Circuit
+    requires { (o : Form) × Fit o × (chain_of o file.now ≡ Ok c) × Parts (F.pre part) (F.post part) o }
+    ensures { (o : Form) → Fit o → chain_of o file.now ≡ Ok c → Parts (F.pre part) (F.post part) o → result ≡ circuit_of o file.now c }
 {
-    let head = &file[0..64];
+    let head = part(file, 0);
     let km = records::byte(head, 4);
-    let points = points(file, &c.order[1..1 + km]);
-    let deciles = deciles(file, &c.order[1 + km..c.count]);
+    let points = numbers_of(file, &c.order[1..1 + km], 0, 15, part);
+    let deciles = numbers_of(file, &c.order[1 + km..c.count], 0, 12, part);
     joined(head, points, deciles)
 }
 

@@ -13,7 +13,8 @@ use Rattle.circuit.specs.declared.Circuit.{Circuit}
 use Rattle.records.specs.declared.Form.{Form}
 use Rattle.records.specs.Record.{Fit, half_at, word_at, kind_of, next_of, record_words, all_zero}
 use Rattle.record_chain.specs.Chain.{km_of, shape_of}
-use Rattle.records.proofs.Lists.{both, zeros, length-words}
+use Rattle.std.proofs.lemmas.Bool.{and_parts}
+use Rattle.records.proofs.Lists.{zeros, length-words}
 use Rattle.record_chain.proofs.Steps.{Head}
 use Rattle.record_put.specs.Bytes.{half_of, word_bytes, bytes_of, record_of, head_of}
 use Rattle.record_put.proofs.Cells.{bytes-append, head-put}
@@ -81,8 +82,8 @@ bytes-forth r (suc n) h p =
 zero-at : (l : List ℕ) → all_zero l ≡ true → (i : ℕ) → get_or l i 0 ≡ 0
 unfolding all_zero
 zero-at [] e i = refl
-zero-at (x ∷ l) e zero = eqb-true x 0 (both (eqb x 0) (all_zero l) e).0
-zero-at (x ∷ l) e (suc i) = zero-at l (both (eqb x 0) (all_zero l) e).1 i
+zero-at (x ∷ l) e zero = eqb-true x 0 (and_parts (eqb x 0) (all_zero l) e).0
+zero-at (x ∷ l) e (suc i) = zero-at l (and_parts (eqb x 0) (all_zero l) e).1 i
 
 module _ (r : List ℕ) (p : Each 256 r) where
   pub record-again : (n : ℕ) → 4 + 4 * n ≤ length r → all_zero (drop (4 + 4 * n) r) ≡ true

@@ -1,7 +1,7 @@
 -- The paper's form is fit and adds no words, so nothing stands beside a circuit there.
 use Prim.Native.Nat.{ℕ, ◌≤◌}
 use mathlib.Core.Path.{◌≡◌, refl, ap, sym, ◌∙◌}
-use mathlib.Core.List.{List, [], ◌∷◌}
+use mathlib.Core.List.{List, []}
 use native.Mathlib.Omega.{arith}
 use native.Mathlib.Nat.{zero-mul}
 use lib.ListN.{length, take}
@@ -13,6 +13,7 @@ use Rattle.record_chain.specs.Chain.{km_of, chain_of}
 use Rattle.circuit.specs.Read.{numbers_of, read_of, circuit_in, beside_by, beside_of}
 use Rattle.record_chain.proofs.Members.{length-padded}
 use Rattle.circuit.proofs.Lists.{length-numbers}
+use Rattle.std.proofs.lemmas.List.{nil_from_length}
 use Rattle.records.proofs.Lists.{fit64}
 use Rattle.circuit_write.specs.Written.{file_of, left_of}
 use Rattle.circuit_laws.specs.Forms.{Beside}
@@ -21,12 +22,8 @@ use Rattle.circuit_laws.proofs.ReadWritten.{read-written, read_same, written-len
 use Rattle.circuit_laws.proofs.WrittenForm.{written-in-form}
 use Rattle.circuit_laws.proofs.WrittenRead.{written_read}
 
-no_words : (l : List ℕ) → length l ≡ 0 → l ≡ []
-no_words [] e = refl
-no_words (x ∷ l) e = absurd (omega arith)
-
 none-by : (a : Result Chain Refusal) (l : Chain → List ℕ) → ((c : Chain) → length (l c) ≤ 0) → beside_by form64 a l ≡ []
-none-by (Ok c) l h = no_words _ (length-padded 0 (l c) (h c))
+none-by (Ok c) l h = nil_from_length _ (length-padded 0 (l c) (h c))
 none-by (Err r) l h = refl
 
 none_beside : (f : List ℕ) → beside_of form64 f ≡ []

@@ -18,7 +18,8 @@ use Rattle.records.specs.declared.Form.{Form}
 use Rattle.records.specs.Record.{Fit, record_at, half_at, word_at, next_of, record_words, all_zero}
 use Rattle.record_chain.specs.Chain.{head_good, record_count, km_of, shape_of, member, step_of, sound_by, chain_along, answered_chain, padded, walk, chain_of}
 use Rattle.circuit.specs.Read.{numbers_of, circuit_of, read_of, beside_of}
-use Rattle.records.proofs.Lists.{both, zeros, length-words}
+use Rattle.std.proofs.lemmas.Bool.{and_parts}
+use Rattle.records.proofs.Lists.{zeros, length-words}
 use Rattle.record_chain.proofs.Steps.{walk_end, walk-on}
 use Rattle.circuit.proofs.Answers.{read-answered}
 use Rattle.record_put.specs.Bytes.{bytes_of, head_of, record_of}
@@ -391,8 +392,8 @@ module _ (o : Form) (fit : Fit o) (c : Circuit) (out : List ℕ) (n : ℕ) (e : 
   -- km and shape, as the writer tested them
   pub in-range : (1 ≤ c.km) × (c.km ≤ 5) × (c.shape ≤ 1)
   in-range =
-      let g = both (leb 1 c.km) (leb c.km 5 && leb c.shape 1) taken.0 in
-      let h = both (leb c.km 5) (leb c.shape 1) g.1 in
+      let g = and_parts (leb 1 c.km) (leb c.km 5 && leb c.shape 1) taken.0 in
+      let h = and_parts (leb c.km 5) (leb c.shape 1) g.1 in
       (leb-true _ _ g.0, leb-true _ _ h.0, leb-true _ _ h.1)
 
   pub written-file : (beside : List ℕ) → take n (left_of o c beside out) ≡ file_of o c beside

@@ -19,7 +19,8 @@ use Rattle.records.specs.declared.Form.{Form}
 use Rattle.records.specs.Record.{Fit, record_at, kind_of, next_of, record_words, all_zero, fits}
 use Rattle.record_chain.specs.Chain.{record_count, km_of, sound_by, padded, chain_of}
 use Rattle.circuit.specs.Read.{numbers_of, circuit_of, read_by, read_of, circuit_in, beside_of}
-use Rattle.records.proofs.Lists.{both, length-after}
+use Rattle.std.proofs.lemmas.Bool.{and_parts}
+use Rattle.records.proofs.Lists.{length-after}
 use Rattle.circuit.proofs.Lists.{length-numbers}
 use Rattle.record_chain.proofs.Followed.{Followed, followed, count-range}
 use Rattle.circuit.proofs.Answers.{read-answered}
@@ -64,7 +65,7 @@ fits_both : (kind words : ℕ) (r : List ℕ) → fits kind words r ≡ true
     → (kind_of r ≡ kind) × (all_zero (drop (4 + 4 * words) r) ≡ true)
 unfolding fits
 fits_both kind words r e =
-    let t = both (eqb (kind_of r) kind) (all_zero (drop (4 + 4 * words) r)) e in (eqb-true (kind_of r) kind t.0, t.1)
+    let t = and_parts (eqb (kind_of r) kind) (all_zero (drop (4 + 4 * words) r)) e in (eqb-true (kind_of r) kind t.0, t.1)
 
 module _ (o : Form) (fit : Fit o) (f : List ℕ) (w : InForm o f) (k : Chain) (e₀ : chain_of o f ≡ Ok k) where
   abbrev c : Circuit

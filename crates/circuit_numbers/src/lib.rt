@@ -1,4 +1,6 @@
 // The numbers that the words of a circuit stand for.
+// Stays: in `three_at`, `params` and `column` the calls written out. An array's `map` over the numbers was tried in `params`: it
+// asks that a point's number is below five at each of its calls, and the closure would have to carry what each number is asked to be.
 #![tactic(auto)]
 
 ghost use Rattle.std.specs.Prelude.{◌≡◌, ◌+◌, ◌<◌};

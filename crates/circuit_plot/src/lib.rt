@@ -9,6 +9,7 @@ use layers::IonoState;
 use refusal::Refusal;
 
 // Fifty heights in km, and at each the square of the plasma frequency, in MHz².
+// Stays: two columns, since they are the state's `htr` and `fnsq`, which are the Rust's.
 #[derive(Clone, Copy, Debug, PartialEq)]
 pub struct Profile {
     pub htr: [f32; 50],
@@ -32,6 +33,8 @@ fn profile_at(s: IonoState, k: usize) -> Profile
     Profile { htr, fnsq }
 }
 
+// Stays: the calls written out. An array's `map` over the numbers asks at each of its calls that the slot's is below three, and the
+// closure would have to carry what each number is asked to be.
 fn profiles(s: IonoState) -> [Profile; 3]
     ensures { result ≡ profiles_of s }
 {

@@ -9,8 +9,8 @@ use lib.Dec.{leb, eqb}
 use lib.IntN.{pos}
 use lib.ListN.{get_or, length, length-map, replicate, take}
 use lib.Ieee.{Float, binary32, of_bits}
-use Rattle.scalar.specs.F32.{◌-f◌, ◌<f◌, ◌≤f◌, ◌>f◌, ◌≥f◌, at}
-use Rattle.scalar.specs.Literals.{f0, f8_5, f10}
+use Rattle.scalar.specs.F32.{◌-f◌, ◌≤f◌, ◌>f◌, at}
+use Rattle.scalar.specs.Literals.{f0}
 use Rattle.std.proofs.Common.{Result, Ok, Err}
 use Rattle.std.specs.Result.{result_unwrap_or}
 use Rattle.refusal.specs.declared.Refusal.{Refusal}
@@ -34,8 +34,9 @@ use Rattle.slots.proofs.Counts.{three-at-most}
 use Rattle.slots.proofs.OwnersLeft.{disowned-only}
 use Rattle.controlling_slot.specs.Controlling.{compare_e, controlling_of}
 use Rattle.controlling_slot.proofs.Small.{controlling-small}
-use Rattle.scan_angles.specs.Angles.{ANG, NANGX, distance_step_of, raised_by, raised_from, angle_count_by, angle_count_of, scan_by, sang_of}
+use Rattle.scan_angles.specs.Angles.{NANGX, distance_step_of, scan_by, sang_of}
 use Rattle.reflectrix.specs.Fobby.{room_for}
+use Rattle.scan_angles.proofs.Forty.{count-most}
 use Rattle.scan_angles.proofs.Counts.{step_range, nangx-range}
 use Rattle.slot_sheet.specs.declared.SlotSheet.{SlotSheet}
 use Rattle.slot_sheet.specs.Sheet.{slot_sheet_with, slot_sheet_of}
@@ -97,32 +98,16 @@ slots-most c =
 
 -- ---- angles
 
-raised_by_lem : (b : Bool) (x y : ℕ) → x ≤ 40 → y ≤ 40 → raised_by b x y ≤ 40
-raised_by_lem true x y p q = p
-raised_by_lem false x y p q = q
-
-raised-most : (amind : Float) (n i : ℕ) → i + n ≤ 40 → raised_from amind n i ≤ 40
-unfolding raised_from
-raised-most amind zero i h = omega arith
-raised-most amind (suc n) i h =
-    raised_by_lem (at ANG i -f f8_5 -f amind ≥f f0) (i + 1) (raised_from amind n (i + 1)) (omega arith) (raised-most amind n (i + 1) (omega arith))
-
-count_by : (p q : Bool) (amind : Float) (i : ℕ) → i ≤ 40 → angle_count_by p q amind i ≤ 40
-count_by true true amind i h = raised-most amind 40 0 (omega arith)
-count_by true false amind i h = h
-count_by false q amind i h = h
-
 abbrev Few : Result ℕ Refusal → Type 0
 Few (Ok nang) = nang ≤ 40
 Few (Err r) = Unit {0}
 
 scan-by : (b : Bool) (amind : Float) (id : ℕ) → eqb id 0 ≡ b → id ≤ 8 → Few (scan_by b amind id)
-unfolding angle_count_of
 scan-by true amind id e h = tt
 scan-by false amind id e h =
     let n : (id ≡ 0) → ⊥ = eqb-false id 0 e in
     let i = get_or NANGX (id - 1) 0 in
-    count_by (amind >f f0) (at ANG (i - 1) -f f10 -f amind <f f0) amind i (nangx-range (id - 1) (omega arith)).1
+    count-most amind i (nangx-range (id - 1) (omega arith)).1
 
 few : (gcdkm amind : Float) → Few (sang_of gcdkm amind)
 unfolding sang_of

@@ -19,8 +19,10 @@ pub struct SlotRows {
 
 // The rows of a slot that is not there are +0, and it has no marks.
 // Stays: a count beside three slots, since memory is fixed and the count is the state's `kfx`, by which
-// the Rust goes over them.
-#[derive(Clone, Copy)]
+// the Rust goes over them. That it is at most three holds of the sheet of any file; those who print a
+// sheet ask for it, and it is no ghost field: `answered_of` makes a sheet of any state, and would have
+// to be handed a proof of it, which is no plainer to read.
+#[derive(Clone, Copy, Debug, PartialEq)]
 pub struct Sheet {
     pub hour: MufHour,
     pub slots: usize,
@@ -37,6 +39,8 @@ pub fn slots(c: circuit::Circuit) -> IonoState
     slots::ionset(s).unwrap_or(s)
 }
 
+// Stays: that km is 5 at most holds of a circuit that was read and is asked where its words are taken; a `Circuit` may hold any
+// number, which the writer refuses.
 fn circuit_muf(c: circuit::Circuit, s: IonoState) -> Result<MufAnswer, Refusal>
     requires { c.km ≤ 5 }
     ensures { result ≡ muf_of c s }
@@ -61,7 +65,10 @@ fn no_slot() -> SlotRows
     }
 }
 
-// The rows and marks of slot k, with cells of its own. Stays: s, k and nang go on to the slot sheet.
+// The rows and marks of slot k, with cells of its own.
+// Stays: s, k and nang are handed on to the slot sheet, which has them one by one as the Rust's calls do; a record of them, made
+// here and taken apart there, is no plainer. A `map_or` was tried: its closure copies the marks
+// out of the sheet, which takes a variable there as it does here, so it is no plainer either.
 fn slot_rows(s: IonoState, k: usize, nang: usize, lines: [LayerMuf; 4]) -> SlotRows
     ensures { result ≡ slot_rows_of s k nang lines }
 {
@@ -77,6 +84,8 @@ fn slot_rows(s: IonoState, k: usize, nang: usize, lines: [LayerMuf; 4]) -> SlotR
     no_slot()
 }
 
+// Stays: the calls written out. `map` over the three numbers was tried, and the goal did not close: the lemma on a `map` is of closures
+// that hold nothing, and this one holds s, nang and lines.
 fn answered(s: IonoState, nang: usize, hour: MufHour) -> Sheet
     ensures { result ≡ answered_of s nang hour }
 {

@@ -17,7 +17,7 @@ use Rattle.circuit.specs.declared.Circuit.{Circuit}
 use Rattle.records.specs.declared.Form.{Form}
 use Rattle.records.specs.Record.{Fit, all_zero}
 use Rattle.circuit.specs.Read.{read_of, circuit_of, circuit_in}
-use Rattle.records.proofs.Lists.{both}
+use Rattle.std.proofs.lemmas.Bool.{and_parts}
 use Rattle.record_chain.proofs.Followed.{followed}
 use Rattle.circuit.proofs.Answers.{read-answered}
 use Rattle.circuit_write.specs.Written.{decile_records, records_of, file_of, good_of, write_answer_of, left_of}
@@ -33,8 +33,8 @@ records-most c h = omega (arith, few (all_zero c.deciles))
 
 good-most : (c : Circuit) → good_of c ≡ true → c.km ≤ 5
 good-most c g =
-    let t = both (leb 1 c.km) (leb c.km 5 && leb c.shape 1) g in
-    leb-true c.km 5 (both (leb c.km 5) (leb c.shape 1) t.1).0
+    let t = and_parts (leb 1 c.km) (leb c.km 5 && leb c.shape 1) g in
+    leb-true c.km 5 (and_parts (leb c.km 5) (leb c.shape 1) t.1).0
 
 -- what is read has km and shape in range
 pub read-range : (o : Form) → Fit o → (f : List ℕ) → IsOk (read_of o f)

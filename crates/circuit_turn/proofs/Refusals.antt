@@ -30,6 +30,7 @@ use Rattle.wide_circuit.proofs.Fit128.{fit128, beside-answered, wide-answered, w
 use Rattle.circuit_turn.specs.Turn.{back_by, back_of, narrowed}
 use Rattle.circuit_turn.specs.Laws.{f2m3_at, Carries}
 use Rattle.circuit_turn.proofs.Outcomes.{ok-is, read-wide}
+use Rattle.std.proofs.Math.Bool.{and-true, and-false}
 
 -- a chain is refused with 1 to 4
 abbrev Few : Result Chain Refusal → Type 0
@@ -81,14 +82,6 @@ widen-refuses f r e = read-few form64 f r (refused-by (chain_of form64 f) (circu
 pub chain_first : (f : List ℕ) (r : Refusal) → chain_of form128 f ≡ Err r → narrowed f ≡ refused_text r
 unfolding narrowed back_of
 chain_first f r e = rw (wide-refused f r e) refl
-
-and-true : (b : Bool) → (b && true) ≡ b
-and-true true = refl
-and-true false = refl
-
-and-false : (b : Bool) → (b && false) ≡ false
-and-false true = refl
-and-false false = refl
 
 not-both : true ≡ false → ⊥
 not-both e = let z : ◌≡◌ {A = ℕ} 0 1 = cc in omega arith

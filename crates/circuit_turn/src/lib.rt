@@ -12,11 +12,10 @@ ghost use Rattle.circuit_turn.specs.Turn.{back_of, widened, narrowed};
 
 use circuit::Circuit;
 use lines::Page;
+pub use records::INPUT as OLD_INPUT;
 use refusal::Refusal;
 
-// The bytes that a program reads: a record more than the longest file, so that a longer one is seen to be too long.
-pub const OLD_INPUT: usize = 4160;
-
+// The bytes that a program reads of a wide file: a record more than the longest, as `OLD_INPUT` is of one in the paper's form.
 pub const NEW_INPUT: usize = 8320;
 
 // The bytes of a page: a file of 54 records, the most that are written, has room.
@@ -25,6 +24,8 @@ pub const OLD_ROOM: usize = 3456;
 pub const NEW_ROOM: usize = 6912;
 
 // The file with F2M3 that is +0.
+// Stays: a function of its own beside `put_old`, since one for both, with the writer handed in, would have to ask of it that it writes
+// the whole file and answers its length: a promise longer than the lines that the two share.
 fn put_wide<const N: usize>(page: &mut Page<N>, c: Circuit)
     requires { good_of c ≡ true }
     ensures { page.new ≡ with_text N page.old (file_of form128 c (replicate 5 0)) }

@@ -20,6 +20,7 @@ fn records(c: &Circuit) -> usize
     1 + c.km
 }
 
+// Stays: no `Option`, since 0 is how the file says that no record follows.
 fn next_in(n: usize, i: usize) -> usize
     requires { i < n }
     ensures { result ≡ next_in n i }
@@ -88,13 +89,7 @@ pub fn write_form(o: Form, c: Circuit, beside: &[u32], out: &mut [u8]) -> Result
     ensures value { result ≡ write_answer_of o c out.old }
     ensures out_after { out.new ≡ left_of o c beside.now out.old }
 {
-    if c.km < 1 {
-        return Err(Refusal::RecordZero);
-    }
-    if c.km > 5 {
-        return Err(Refusal::RecordZero);
-    }
-    if c.shape > 1 {
+    if c.km < 1 || c.km > 5 || c.shape > 1 {
         return Err(Refusal::RecordZero);
     }
     let n = records(&c);

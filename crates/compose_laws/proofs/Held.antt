@@ -30,6 +30,7 @@ use Rattle.compose_line.specs.Names.{line_kind_of, field_place_of}
 use Rattle.compose_line.specs.Row.{then, blank_row, begun, named, stored, first_word, field_word, number_by, with_word, with_words, ended_row, row_of}
 use Rattle.compose_text.specs.declared.Draft.{Draft}
 use Rattle.compose_text.specs.Draft.{no_draft, at_line, is_shape, shape_in, pathed, pointed, deciled, given_path, given_point, given_deciles, with_path, with_point, with_deciles, with_kind, with_row, with_row_if, with_line, with_lines, is_whole, ended_draft, composed_of}
+use Rattle.std.proofs.lemmas.List.{drop-set-lt, drop-replicate}
 
 -- what holds of an answer, where nothing is wrong, and of a row or a draft, where there is one
 abbrev pub Of : {A E : Type 0} → (A → Type 0) → Result A E → Type 0
@@ -63,23 +64,12 @@ each-sets n l i [] e f = e
 each-sets n l i (a ∷ v) e f = each-sets n (set l i a) (suc i) v (each_set n l i a f.0 e) f.1
 
 -- what stands past the stores stays
-past-set : (l : List ℕ) (i k a : ℕ) → i < k → drop k (set l i a) ≡ drop k l
-past-set [] i k a h = refl
-past-set (x ∷ l) i zero a h = absurd (omega (arith, h))
-past-set (x ∷ l) zero (suc k) a h = refl
-past-set (x ∷ l) (suc i) (suc k) a h = past-set l i k a (omega (arith, h))
-
 past-sets : (l : List ℕ) (i k : ℕ) (v : List ℕ) → i + length v ≤ k → drop k (sets l i v) ≡ drop k l
 past-sets l i k [] h = refl
-past-sets l i k (a ∷ v) h = past-sets (set l i a) (suc i) k v (omega (arith, h)) ∙ past-set l i k a (omega (arith, h))
+past-sets l i k (a ∷ v) h = past-sets (set l i a) (suc i) k v (omega (arith, h)) ∙ drop-set-lt k l i a (omega (arith, h))
 
 zeros : {m n : ℕ} → m ≡ n → replicate m 0 ≡ replicate {A = ℕ} n 0
 zeros = ap (λ (x : ℕ). replicate x 0)
-
-drop-zeros : (k n : ℕ) → drop {A = ℕ} k (replicate n 0) ≡ replicate (n - k) 0
-drop-zeros zero n = let e : n ≡ n - 0 = omega arith in zeros e
-drop-zeros (suc k) zero = let e : 0 ≡ 0 - suc k = omega arith in zeros e
-drop-zeros (suc k) (suc n) = let e : n - k ≡ suc n - suc k = omega arith in drop-zeros k n ∙ zeros e
 
 -- a decimal's bits
 abbrev Below : ℕ → Type 0
@@ -119,11 +109,10 @@ unfolding begun
 row_first (Some k) = record { each = each-zero (2 ^ 32) 15 (omega arith); all = refl }
 row_first None = tt
 
-row_field : (r : Row) (p : ℕ) → Fifteen r → Of Fifteen (field_word r p)
+row_field : (r : Row) (p : Option ℕ) → Fifteen r → Of Fifteen (field_word r p)
 unfolding field_word named
-row_field r p s =
-    known Fifteen (ltb p 15) _ _
-    (λ e. known Fifteen (get_or r.missing p false) _ _ (λ e. record { each = s.each; all = s.all }) (λ e. tt)) (λ e. tt)
+row_field r None s = tt
+row_field r (Some p) s = known Fifteen (get_or r.missing p false) _ _ (λ e. record { each = s.each; all = s.all }) (λ e. tt)
 
 row_word : (r : Option Row) (w : List ℕ) → OfSome Fifteen r → Of Fifteen (with_word r w)
 unfolding with_word
@@ -199,7 +188,7 @@ past-point l v k h p =
     ∙ ap (λ (x : ℕ). drop x l) a
     ∙ c
     ∙ ap (drop 15) p
-    ∙ drop-zeros 15 (75 - 15 * k)
+    ∙ drop-replicate {X = ℕ} 15 (75 - 15 * k) 0
     ∙ zeros b
 
 held-point : (d : Option Draft) (v : List ℕ) → Each (2 ^ 32) v → length v ≡ 15 → OfSome HeldDraft d → Of HeldDraft (with_point d v)

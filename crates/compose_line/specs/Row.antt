@@ -43,10 +43,9 @@ first_word (Some k) = Ok (begun k)
 first_word None = Err Fault.UnknownLine
 
 -- a field whose number is no longer missing was there before
-unfoldable pub field_word : Row → ℕ → Result Row Fault
-field_word r p =
-    cond (ltb p 15) (cond (get_or r.missing p false) (Ok (named r p (width_of r.kind p))) (Err Fault.FieldTwice))
-    (Err Fault.UnknownField)
+unfoldable pub field_word : Row → Option ℕ → Result Row Fault
+field_word r None = Err Fault.UnknownField
+field_word r (Some p) = cond (get_or r.missing p false) (Ok (named r p (width_of r.kind p))) (Err Fault.FieldTwice)
 
 abbrev pub number_by : Option ℕ → Row → Result Row Fault
 number_by (Some b) r = Ok (stored r b)

@@ -6,6 +6,8 @@ mod names;
 
 ghost use Rattle.std.specs.Prelude.{◌≡◌, ◌<◌};
 ghost use Rattle.words.specs.Words.{words_of};
+ghost use Rattle.decimals.specs.Decimal.{decimal_read};
+ghost use Rattle.compose_line.specs.Names.{line_kind_of, field_place_of};
 ghost use Rattle.compose_line.specs.Row.{blank_row, begun, named, stored, first_word, field_word, number_by, with_word, with_words, ended_row, row_of};
 
 pub use faults::{Fault, Wrong};
@@ -13,7 +15,8 @@ pub use names::LineKind;
 
 // A line that has its first word. `missing` has a true for each number that is still to come; the next `left` numbers go to the
 // places from `at` on.
-// Stays: `left` is how many numbers a field still awaits, and no length of an array.
+// Stays: `missing` beside `values`, since a number that a line of the kind does not have is neither missing nor given; and `left`
+// counts numbers that a field still awaits, and no cells of an array, so that a list with its length would say nothing of it.
 #[derive(Clone, Copy, Debug, PartialEq, Eq)]
 pub struct Row {
     pub kind: LineKind,
@@ -44,58 +47,43 @@ fn name(r: Row, at: usize, left: usize) -> Row
 }
 
 #[tactic(auto, unfolding(crate::specs::Row::stored))]
-fn store(r: Row, v: u32) -> Row
+fn store(mut r: Row, v: u32) -> Row
     requires { 0 < r.left }
     ensures { result ≡ stored r v }
 {
-    let at = r.at;
-    if at >= 15 {
-        return r;
+    if r.at < 15 {
+        r.values[r.at] = v;
+        r.missing[r.at] = false;
+        r.at += 1;
+        r.left -= 1;
     }
-    let mut values = r.values;
-    let mut missing = r.missing;
-    values[at] = v;
-    missing[at] = false;
-    Row {
-        kind: r.kind,
-        values,
-        missing,
-        at: at + 1,
-        left: r.left - 1,
-    }
+    r
 }
 
-fn first_word(kind: Option<LineKind>) -> Result<Row, Fault>
-    ensures { result ≡ first_word kind }
+fn first_word(w: &[u8]) -> Result<Row, Fault>
+    ensures { result ≡ first_word (line_kind_of w.now) }
 {
-    match kind {
-        Some(k) => Ok(begin(k)),
-        None => Err(Fault::UnknownLine),
-    }
+    let kind = names::kind(w).ok_or(Fault::UnknownLine)?;
+    Ok(begin(kind))
 }
 
 #[tactic(auto, unfolding(crate::specs::Row::field_word))]
-fn field_word(r: Row, place: usize) -> Result<Row, Fault>
-    ensures { result ≡ field_word r place }
+fn field_word(r: Row, w: &[u8]) -> Result<Row, Fault>
+    ensures { result ≡ field_word r (field_place_of r.kind w.now) }
 {
-    if place >= 15 {
-        return Err(Fault::UnknownField);
+    let place = names::place(r.kind, w).ok_or(Fault::UnknownField)?;
+    if !r.missing[place] {
+        return Err(Fault::FieldTwice);
     }
-    let missing = r.missing;
-    if missing[place] {
-        return Ok(name(r, place, names::width(r.kind, place)));
-    }
-    Err(Fault::FieldTwice)
+    Ok(name(r, place, names::width(r.kind, place)))
 }
 
-fn number_word(r: Row, number: Option<u32>) -> Result<Row, Fault>
+fn number_word(r: Row, w: &[u8]) -> Result<Row, Fault>
     requires { 0 < r.left }
-    ensures { result ≡ number_by number r }
+    ensures { result ≡ number_by (decimal_read w.now) r }
 {
-    match number {
-        Some(b) => Ok(store(r, b)),
-        None => Err(Fault::NotANumber),
-    }
+    let v = decimals::read(w).ok_or(Fault::NotANumber)?;
+    Ok(store(r, v))
 }
 
 // One word more.
@@ -104,13 +92,9 @@ fn word(row: Option<Row>, w: &[u8]) -> Result<Row, Fault>
     ensures { result ≡ with_word row w.now }
 {
     match row {
-        None => first_word(names::kind(w)),
-        Some(r) => {
-            if r.left == 0 {
-                return field_word(r, names::place(r.kind, w));
-            }
-            number_word(r, decimals::read(w))
-        }
+        None => first_word(w),
+        Some(r) if r.left == 0 => field_word(r, w),
+        Some(r) => number_word(r, w),
     }
 }
 
@@ -119,12 +103,11 @@ fn all_words(line: &[u8]) -> Result<Option<Row>, Fault>
     ensures { result ≡ with_words blank_row (words_of line.now) }
 {
     let mut row = None;
-    let mut at = words::word_start(line, 0);
-    // Stays: nothing is counted; `split` would give an empty word between two blanks.
-    while at < line.len() {
-        let e = words::word_end(line, at);
-        row = Some(word(row, &line[at..e])?);
-        at = words::word_start(line, e);
+    for w in line
+        .split(|b| words::is_blank(*b))
+        .filter(|w| !w.is_empty())
+    {
+        row = Some(word(row, w)?);
     }
     Ok(row)
 }
@@ -151,6 +134,6 @@ fn ended(row: Option<Row>) -> Result<Option<Row>, Fault>
 pub fn read(line: &[u8]) -> Result<Option<Row>, Fault>
     ensures { result ≡ row_of line.now }
 {
-    let e = words::until(line, 0, b'#');
+    let e = words::until(line, b'#');
     ended(all_words(&line[..e])?)
 }

@@ -1,89 +1,69 @@
 // The words that begin a line, and the names of fields.
-ghost use Rattle.std.specs.Prelude.{◌≡◌};
+ghost use Rattle.std.specs.Prelude.{◌≡◌, ◌<◌, IfSome};
 ghost use Rattle.std.specs.List.{list_any};
 ghost use Rattle.compose_line.specs.Names.{line_kind_of, path_place, point_place, field_place_of, width_of, wanted_of, at_once};
 
-use words::same;
-
-// The kinds of a line, numbered as those of the file's records.
+// The kinds of a line.
 #[derive(Clone, Copy, Debug, PartialEq, Eq)]
 pub enum LineKind {
-    Path = 1,
-    Point = 2,
-    Deciles = 3,
+    Path,
+    Point,
+    Deciles,
 }
 
+#[tactic(auto, using(crate::proofs::Spelled::line_kinds), unfolding(crate::specs::Names::line_kind_of))]
 pub fn kind(w: &[u8]) -> Option<LineKind>
     ensures { result ≡ line_kind_of w.now }
 {
-    if same(w, b"path") {
-        return Some(LineKind::Path);
+    match w {
+        b"path" => Some(LineKind::Path),
+        b"point" => Some(LineKind::Point),
+        b"deciles" => Some(LineKind::Deciles),
+        _ => None,
     }
-    if same(w, b"point") {
-        return Some(LineKind::Point);
-    }
-    if same(w, b"deciles") {
-        return Some(LineKind::Deciles);
-    }
-    None
 }
 
-fn path_place(w: &[u8]) -> usize
-    ensures { result ≡ path_place w.now }
+#[tactic(auto, using(crate::proofs::Spelled::path_names), unfolding(crate::specs::Names::path_place))]
+fn path_place(w: &[u8]) -> Option<usize>
+    ensures value { result ≡ path_place w.now }
+    ensures below { IfSome result (λ p. p < 15) }
 {
-    if same(w, b"shape") {
-        return 0;
+    match w {
+        b"shape" => Some(0),
+        b"gcd" => Some(1),
+        b"gcdkm" => Some(2),
+        b"amind" => Some(3),
+        b"ssn" => Some(4),
+        _ => None,
     }
-    if same(w, b"gcd") {
-        return 1;
-    }
-    if same(w, b"gcdkm") {
-        return 2;
-    }
-    if same(w, b"amind") {
-        return 3;
-    }
-    if same(w, b"ssn") {
-        return 4;
-    }
-    15
 }
 
-fn point_place(w: &[u8]) -> usize
-    ensures { result ≡ point_place w.now }
+#[tactic(auto, using(crate::proofs::Spelled::point_names), unfolding(crate::specs::Names::point_place))]
+fn point_place(w: &[u8]) -> Option<usize>
+    ensures value { result ≡ point_place w.now }
+    ensures below { IfSome result (λ p. p < 15) }
 {
-    if same(w, b"fi") {
-        return 0;
+    match w {
+        b"fi" => Some(0),
+        b"yi" => Some(3),
+        b"hi" => Some(6),
+        b"fs" => Some(9),
+        b"hs" => Some(12),
+        b"clat" => Some(13),
+        b"clck" => Some(14),
+        _ => None,
     }
-    if same(w, b"yi") {
-        return 3;
-    }
-    if same(w, b"hi") {
-        return 6;
-    }
-    if same(w, b"fs") {
-        return 9;
-    }
-    if same(w, b"hs") {
-        return 12;
-    }
-    if same(w, b"clat") {
-        return 13;
-    }
-    if same(w, b"clck") {
-        return 14;
-    }
-    15
 }
 
 #[tactic(auto, unfolding(crate::specs::Names::field_place_of))]
-pub fn place(kind: LineKind, w: &[u8]) -> usize
-    ensures { result ≡ field_place_of kind w.now }
+pub fn place(kind: LineKind, w: &[u8]) -> Option<usize>
+    ensures value { result ≡ field_place_of kind w.now }
+    ensures below { IfSome result (λ p. p < 15) }
 {
     match kind {
         LineKind::Path => path_place(w),
         LineKind::Point => point_place(w),
-        LineKind::Deciles => 15,
+        LineKind::Deciles => None,
     }
 }
 

@@ -1,49 +1,49 @@
--- The lines from a place on: where a line ends.
-use mathlib.Core.Path.{◌≡◌, sym, ap, ◌∙◌, subst}
-use mathlib.Core.Bool.{Bool, true, false, not, cond}
-use mathlib.Core.List.{List, [], ◌∷◌}
-use Prim.Native.Nat.{ℕ, suc, ◌+◌, ◌-◌, ◌≤◌, ◌<◌, min}
+-- A text split after each line feed is its lines.
+use mathlib.Core.Path.{◌≡◌, refl, ap, ◌∙◌}
+use mathlib.Core.Bool.{Bool, true, false, true≢false}
+use mathlib.Core.List.{List, [], ◌∷◌, ◌++◌}
+use Prim.Native.Nat.{ℕ, zero, suc, ◌+◌, ◌<◌, min}
 use native.Mathlib.Omega.{arith}
 use lib.Dec.{eqb}
-use lib.ListN.{length, get_or, take, drop, drop_of_length-le, length-drop}
-use lib.Seq.{drop-cons, drop-drop}
-use Rattle.first_difference.specs.Lines.{lines_of}
-use Rattle.words.specs.Words.{run, other}
-use Rattle.words.proofs.Split.{line_length, line_first}
-use Rattle.compose_text.specs.declared.Draft.{Draft}
+use lib.ListN.{length}
 use Rattle.std.specs.Prelude.{Option}
-use Rattle.compose_line.specs.Row.{then}
-use Rattle.compose_text.specs.Draft.{at_line, with_line, with_lines, ended_draft}
+use Rattle.std.specs.List.{IsFirstMatchOrLen}
+use Rattle.first_difference.specs.Lines.{in_front, lines_of}
+use Rattle.compose_text.specs.declared.Draft.{Draft}
+use Rattle.compose_text.specs.Draft.{at_line, with_lines, ended_draft}
 
--- a line is what stands before the line feed, and that
-line-run : (l : List ℕ) → line_length l ≡ min (suc (run (other 10) l)) (length l)
-unfolding line_length run
-line-run [] = omega arith
-line-run (b ∷ t) = by (eqb b 10) (line-run t)
-  where
-    by : (q : Bool) → line_length t ≡ min (suc (run (other 10) t)) (length t)
-        → cond q 1 (suc (line_length t)) ≡ min (suc (cond (not q) (suc (run (other 10) t)) 0)) (suc (length t))
-    by true h = omega arith
-    by false h = omega arith
+abbrev pub is_feed : ℕ → Bool
+is_feed b = eqb b 10
 
-pub line_at : (l : List ℕ) (at e : ℕ) → at < length l → e ≡ min (at + run (other 10) (drop at l) + 1) (length l) → e ≡ at + line_length (drop at l)
-line_at l at e h f = omega (arith, line-run (drop at l), length-drop at l)
+-- the tail of a list has its first match one place before
+later : (b i : ℕ) (t : List ℕ) → IsFirstMatchOrLen is_feed (b ∷ t) (suc i) → IsFirstMatchOrLen is_feed t i
+later b i t m = (λ k d l h. m.0 (suc k) d (omega arith) (omega arith), λ h d. m.1 (omega arith) d)
 
-pub one_line : (l : List ℕ) (at e : ℕ) → at < length l → e ≡ at + line_length (drop at l) → lines_of (drop at l) ≡ take (e - at) (drop at l) ∷ lines_of (drop e l)
-one_line l at e h f =
-    let c : drop at l ≡ get_or l at 0 ∷ drop (suc at) l = drop-cons l at 0 h in
-    let k = line_length (drop at l) in
-    let w : lines_of (drop at l) ≡ take k (drop at l) ∷ lines_of (drop k (drop at l)) =
-    subst (λ (x : List ℕ). lines_of x ≡ take (line_length x) x ∷ lines_of (drop (line_length x) x)) (sym c) (line_first (get_or l at 0) (drop (suc at) l)) in
-    let d : e - at ≡ k = omega arith in
-    let r : lines_of (drop k (drop at l)) ≡ lines_of (drop e l) = ap lines_of (drop-drop k at l) ∙ ap (λ (x : ℕ). lines_of (drop x l)) (sym f) in
-    w ∙ rw (d, r)
+-- a byte that is the last of its line
+last : (b : ℕ) (rest : List ℕ) (q : Bool) → eqb b 10 ≡ q → (q ≡ false → rest ≡ []) → lines_of (b ∷ rest) ≡ (b ∷ []) ∷ lines_of rest
+unfolding lines_of
+last b rest true e h = rw e
+last b rest false e h = rw (h refl, e)
 
-pub taken-line : (d : Option Draft) (n : ℕ) (l : List ℕ) (at e : ℕ) → at < length l → e ≡ at + line_length (drop at l)
-    → then (λ (x : Option Draft). with_lines x (n + 1) (lines_of (drop e l))) (at_line n (with_line d (take (e - at) (drop at l)))) ≡ with_lines d n (lines_of (drop at l))
-unfolding with_lines
-taken-line d n l at e h f = sym (ap (with_lines d n) (one_line l at e h f))
+-- and one that is not
+within : (b : ℕ) (t : List ℕ) → eqb b 10 ≡ false → lines_of (b ∷ t) ≡ in_front b (lines_of t)
+unfolding lines_of
+within b t e = rw e
 
-pub no_lines : (d : Option Draft) (n : ℕ) (l : List ℕ) (at : ℕ) → length l ≤ at → with_lines d n (lines_of (drop at l)) ≡ at_line n (ended_draft d)
+none : (rest : List ℕ) → length rest ≡ 0 → rest ≡ []
+none [] h = refl
+none (b ∷ rest) h = absurd (omega arith)
+
+-- up to the first line feed, and that, or all
+pub first : (x rest : List ℕ) (i : ℕ) → 0 < length (x ++ rest) → length x ≡ min (i + 1) (length (x ++ rest)) → IsFirstMatchOrLen is_feed (x ++ rest) i → lines_of (x ++ rest) ≡ x ∷ lines_of rest
+first [] rest i s l m = absurd (omega arith)
+first (b ∷ []) rest zero s l m = last b rest true (m.1 (omega arith) 0) (λ e. absurd (true≢false e))
+first (b ∷ []) rest (suc i) s l m = last b rest (eqb b 10) refl (λ e. none rest (omega arith))
+first (b ∷ c ∷ x) rest zero s l m = absurd (omega arith)
+first (b ∷ c ∷ x) rest (suc i) s l m =
+    within b (c ∷ x ++ rest) (m.0 0 0 (omega arith) (omega arith))
+    ∙ ap (in_front b) (first (c ∷ x) rest i (omega arith) (omega arith) (later b i (c ∷ x ++ rest) m))
+
+pub no_lines : (d : Option Draft) (n : ℕ) (t : List ℕ) → length t ≡ 0 → with_lines d n (lines_of t) ≡ at_line n (ended_draft d)
 unfolding with_lines lines_of
-no_lines d n l at h = rw (drop_of_length-le l h)
+no_lines d n t h = rw (none t h) refl

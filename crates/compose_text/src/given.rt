@@ -9,10 +9,7 @@ use circuit::Circuit;
 fn shape_in(b: u32) -> usize
     ensures { result ≡ shape_in b }
 {
-    if b == 0 {
-        return 0;
-    }
-    1
+    usize::from(b != 0)
 }
 
 pub fn path(values: [u32; 15]) -> Draft
@@ -32,29 +29,22 @@ pub fn path(values: [u32; 15]) -> Draft
     }
 }
 
-pub fn point(d: Draft, values: [u32; 15]) -> Draft
+pub fn point(mut d: Draft, values: [u32; 15]) -> Draft
     requires { d.circuit.km < 5 }
     ensures { result ≡ given_point d values }
 {
-    let mut circuit = d.circuit;
-    let at = 15 * circuit.km;
-    circuit.points[at..at + 15].copy_from_slice(&values);
-    circuit.km += 1;
-    Draft {
-        circuit,
-        twelves: d.twelves,
-    }
+    let at = 15 * d.circuit.km;
+    d.circuit.points[at..at + 15].copy_from_slice(&values);
+    d.circuit.km += 1;
+    d
 }
 
-pub fn deciles(d: Draft, values: [u32; 15]) -> Draft
+pub fn deciles(mut d: Draft, values: [u32; 15]) -> Draft
     requires { d.twelves < 48 }
     ensures { result ≡ given_deciles d values }
 {
-    let mut circuit = d.circuit;
     let at = 12 * d.twelves;
-    circuit.deciles[at..at + 12].copy_from_slice(&values[..12]);
-    Draft {
-        circuit,
-        twelves: d.twelves + 1,
-    }
+    d.circuit.deciles[at..at + 12].copy_from_slice(&values[..12]);
+    d.twelves += 1;
+    d
 }

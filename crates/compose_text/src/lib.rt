@@ -3,14 +3,14 @@
 
 mod given;
 
-ghost use Rattle.std.specs.Prelude.{◌≡◌, ◌+◌, ◌≤◌, ◌<◌, min, length, drop};
-ghost use Rattle.words.specs.Words.{run, other};
+ghost use Rattle.std.specs.Prelude.{◌≡◌};
 ghost use Rattle.compose_text.specs.Draft.{no_draft, is_shape, with_path, with_point, with_deciles, with_row, with_line, at_line, is_whole, ended_draft, composed_of};
 
 use circuit::Circuit;
 use compose_line::{Fault, LineKind, Row, Wrong};
 
 // What the lines say from that of the path on: the circuit so far, and the lines of deciles so far.
+// Stays: a count beside the circuit, whose words are flat and in fixed memory, as callers in C have them.
 #[derive(Clone, Copy, Debug, PartialEq, Eq)]
 pub struct Draft {
     pub circuit: Circuit,
@@ -24,56 +24,47 @@ fn is_shape(b: u32) -> bool
     b == 0 || b == 0x3f80_0000
 }
 
-// Stays: a draft and a line's `values`, which three kinds of line test in orders of their own.
+// Stays: `draft` and `values` travel together through the three kinds of line, which test them in orders of their own; a record of
+// both would be made for one call and be no plainer.
 #[tactic(auto, unfolding(crate::specs::Draft::with_path))]
 fn with_path(draft: Option<Draft>, values: [u32; 15]) -> Result<Draft, Fault>
     ensures { result ≡ with_path draft values }
 {
-    match draft {
-        Some(_) => Err(Fault::SecondPath),
-        None => {
-            if is_shape(values[0]) {
-                return Ok(given::path(values));
-            }
-            Err(Fault::BadShape)
-        }
+    if draft.is_some() {
+        return Err(Fault::SecondPath);
     }
+    if !is_shape(values[0]) {
+        return Err(Fault::BadShape);
+    }
+    Ok(given::path(values))
 }
 
 #[tactic(auto, unfolding(crate::specs::Draft::with_point))]
 fn with_point(draft: Option<Draft>, values: [u32; 15]) -> Result<Draft, Fault>
     ensures { result ≡ with_point draft values }
 {
-    match draft {
-        None => Err(Fault::NoPathYet),
-        Some(d) => {
-            if d.twelves != 0 {
-                return Err(Fault::PointTooLate);
-            }
-            if d.circuit.km < 5 {
-                return Ok(given::point(d, values));
-            }
-            Err(Fault::TooManyPoints)
-        }
+    let d = draft.ok_or(Fault::NoPathYet)?;
+    if d.twelves != 0 {
+        return Err(Fault::PointTooLate);
     }
+    if d.circuit.km >= 5 {
+        return Err(Fault::TooManyPoints);
+    }
+    Ok(given::point(d, values))
 }
 
 #[tactic(auto, unfolding(crate::specs::Draft::with_deciles))]
 fn with_deciles(draft: Option<Draft>, values: [u32; 15]) -> Result<Draft, Fault>
     ensures { result ≡ with_deciles draft values }
 {
-    match draft {
-        None => Err(Fault::NoPointYet),
-        Some(d) => {
-            if d.circuit.km == 0 {
-                return Err(Fault::NoPointYet);
-            }
-            if d.twelves < 48 {
-                return Ok(given::deciles(d, values));
-            }
-            Err(Fault::TooManyDeciles)
-        }
+    let d = draft.ok_or(Fault::NoPointYet)?;
+    if d.circuit.km == 0 {
+        return Err(Fault::NoPointYet);
     }
+    if d.twelves >= 48 {
+        return Err(Fault::TooManyDeciles);
+    }
+    Ok(given::deciles(d, values))
 }
 
 #[tactic(auto, unfolding(crate::specs::Draft::with_row))]
@@ -109,18 +100,14 @@ fn is_whole(twelves: usize) -> bool
 fn ended(draft: Option<Draft>) -> Result<Circuit, Fault>
     ensures { result ≡ ended_draft draft }
 {
-    match draft {
-        None => Err(Fault::NoPath),
-        Some(d) => {
-            if d.circuit.km == 0 {
-                return Err(Fault::NoPoint);
-            }
-            if is_whole(d.twelves) {
-                return Ok(d.circuit);
-            }
-            Err(Fault::TooFewDeciles)
-        }
+    let d = draft.ok_or(Fault::NoPath)?;
+    if d.circuit.km == 0 {
+        return Err(Fault::NoPoint);
     }
+    if !is_whole(d.twelves) {
+        return Err(Fault::TooFewDeciles);
+    }
+    Ok(d.circuit)
 }
 
 // What is wrong, and in which line.
@@ -130,28 +117,15 @@ fn at_line<T>(line: usize, answer: Result<T, Fault>) -> Result<T, Wrong>
     answer.map_err(|fault| Wrong { line, fault })
 }
 
-// Past the line feed that ends the line, or the end.
-// Stays: `text` and `at`, the place where a line starts in it.
-fn line_end(text: &[u8], at: usize) -> usize
-    requires { at < length text.now }
-    ensures { (result ≤ length text.now) × (at < result) × (result ≡ min (at + run (other 10) (drop at text.now) + 1) (length text.now)) }
-{
-    let e = words::until(text, at, b'\n');
-    (e + 1).min(text.len())
-}
-
 pub fn compose(text: &[u8]) -> Result<Circuit, Wrong>
     ensures { result ≡ composed_of text.now }
 {
     let mut draft = None;
-    let mut line = 1;
-    let mut at = 0;
-    // Stays: each turn goes to the end of a line, its line feed in it; `split` has lines without, and one after the last feed.
-    while at < text.len() {
-        let e = line_end(text, at);
-        draft = at_line(line, with_line(draft, &text[at..e]))?;
-        line += 1;
-        at = e;
+    // Stays: not by `enumerate`, since a fault of the whole text, found after the last line, is said of the next number.
+    let mut number = 1;
+    for line in text.split_inclusive(|b| *b == b'\n') {
+        draft = at_line(number, with_line(draft, line))?;
+        number += 1;
     }
-    at_line(line, ended(draft))
+    at_line(number, ended(draft))
 }

@@ -1,5 +1,5 @@
 // What `compose` prints of a text with each thing that can be wrong. The stored output has the texts of the definition.
-// Stays: functions of our own that put a text on a page, for the reason in crate `lines`; loops that only count how often a line is put.
+// Stays: functions of our own and no `Display`, for the reason in crate `lines`; loops that only count how often a line is put.
 #![tactic(auto)]
 
 use lines::Page;
@@ -41,6 +41,7 @@ fn put_deciles<const N: usize>(page: &mut Page<N>, lines: usize) {
 }
 
 // The last line of each of these texts is blank, up to the page's end.
+// Stays: a page made and printed in each of these functions, since each page has a size of its own.
 fn six_points() {
     let mut page: Page<512> = Page::new();
     put_start(&mut page);

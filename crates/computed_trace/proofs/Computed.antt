@@ -16,7 +16,7 @@ use Rattle.figures.specs.Nearest.{past, times_of}
 use Rattle.trace_lines.specs.Trace.{rises, fit}
 use Rattle.computed_trace.specs.Computed.{fit_number, all_fit, khz_rows, height_rows, scaled_of, trace_by, trace_of, TraceFits}
 use Rattle.computed_trace.specs.declared.ComputedTrace.{ComputedTrace}
-use Rattle.trace_lines.proofs.Places.{both}
+use Rattle.std.proofs.lemmas.Bool.{and_parts}
 use Rattle.traces.proofs.Cells.{sofar, sofar-more, sofar-all, sofar-length}
 
 module _ (k : ℕ) where
@@ -92,5 +92,5 @@ unfolding trace_of
 trace-fits fvert hprim t p q e =
     by_fits fvert hprim t p q (all_fit 1000 fvert && (all_fit 10 hprim && rises (khz_rows fvert)))
     (λ b.
-    (both (all_fit 10 hprim) (rises (khz_rows fvert))
-    (both (all_fit 1000 fvert) (all_fit 10 hprim && rises (khz_rows fvert)) b).1).1) e
+    (and_parts (all_fit 10 hprim) (rises (khz_rows fvert))
+    (and_parts (all_fit 1000 fvert) (all_fit 10 hprim && rises (khz_rows fvert)) b).1).1) e

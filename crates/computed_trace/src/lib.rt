@@ -7,6 +7,7 @@ ghost use Rattle.computed_trace.specs.Computed.{scaled_of, trace_of};
 use refusal::Refusal;
 
 // A trace of thirty rows.
+// Stays: two columns, as callers in C lend a trace, and as the ionogram that it is made of has them.
 #[derive(Clone, Copy, Debug, PartialEq, Eq)]
 pub struct ComputedTrace {
     pub khz: [u32; 30],

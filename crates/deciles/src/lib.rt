@@ -6,7 +6,7 @@ ghost use Rattle.deciles.specs.F2dis.{sunspot_row_of, j_of, i_of, icl_of, icc_of
 
 use refusal::Refusal;
 
-// The next three are sums of yes-or-no numbers: no jump hangs on a test that can't be foreseen.
+// Stays: the next three are sums of yes-or-no numbers: no jump hangs on a test that can't be foreseen.
 
 // 1 up to a sunspot number of 50, 3 above 100, 2 between and for NaN. A NaN is not at most 50, but
 // not above it either: `ssn > 50.0` would give it the first row.
@@ -57,6 +57,7 @@ pub fn time_block(abb: f32) -> Option<usize>
 }
 
 // Where `f2d[icc - 1][j - 1][iz - 1]` of the Rust stands in the flat list.
+// Stays: a list of any length is lent, and refused unless it has 576, so it is no array of arrays.
 fn place(icc: usize, j: usize, iz: usize) -> usize
     requires { (0 < icc) × (icc ≤ 6) × (0 < j) × (j ≤ 6) × (0 < iz) × (iz ≤ 16) }
     ensures value { result ≡ place_of icc j iz }

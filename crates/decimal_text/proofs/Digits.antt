@@ -1,9 +1,8 @@
 -- The digits of a number from the left, and how many there are at least.
 use Prim.Native.Nat.{ℕ, zero, suc, ◌+◌, ◌-◌, ◌*◌, ◌/◌, ◌%◌, ◌^◌, ◌≤◌, ◌<◌}
-use mathlib.Core.Path.{◌≡◌, ap, ◌∙◌}
+use mathlib.Core.Path.{◌≡◌, ◌∙◌}
 use mathlib.Core.List.{List, [], ◌∷◌}
 use native.Mathlib.Nat.{pow-suc, pow-le-pow_right, div-div-eq-div-mul}
-use native.Mathlib.Numerals.{add-one}
 use native.Mathlib.Omega.{arith}
 use borrow.Author.Tests.{lt-ltb, le-ltb}
 use lib.Dec.{ltb}
@@ -17,12 +16,6 @@ some k = pow-le-pow_right (omega arith) {i = 0} {j = k} (omega arith)
 
 pub glyph-digit : (n : ℕ) → 48 + n % 10 ≡ hex_digit_ascii (n % 10)
 glyph-digit n = rw (lt-ltb (n % 10) 10 (omega arith))
-
--- what stands before digit i of k is the number without it and those after it
-pub before : (k i n : ℕ) → i < k → n / 10 ^ (k - 1 - i) / 10 ≡ n / 10 ^ (k - i)
-before k i n h =
-    let e : k - i ≡ suc (k - 1 - i) = omega arith in
-    div-div-eq-div-mul n (10 ^ (k - 1 - i)) 10 ∙ rw (e, pow-suc 10 (k - 1 - i))
 
 -- a number from 10 ^ k on has more than k digits
 long-in : (most k n : ℕ) → k < most → 10 ^ k ≤ n → suc k ≤ length (decimal_in most n)
@@ -38,16 +31,16 @@ pub long : (k n : ℕ) → k < 20 → 10 ^ k ≤ n → suc k ≤ length (decimal
 unfolding decimal_of
 long k n h l = long-in 20 k n h l
 
--- one more digit, from the left
-pub next-digit : (k i n d m : ℕ) (page : List ℕ) {page' page'' : List ℕ} → i < k → d ≡ hex_digit_ascii (n / 10 ^ (k - 1 - i) % 10)
-    → page' ≡ with_text m page (last_digits 10 i (n / 10 ^ (k - i))) → page'' ≡ with_text m page' (d ∷ []) → page'' ≡ with_text m page (last_digits 10 (i + 1) (n / 10 ^ (k - (i + 1))))
-next-digit k i n d m page h e p q =
-    let f : k - suc i ≡ k - 1 - i = omega arith in
-    rw (add-one i, f, before k i n h, ← e) (put_then m page _ (d ∷ []) p q)
+-- one more digit, from the left: that which i others follow
+pub next-digit : (j i h n d m : ℕ) (page : List ℕ) {page' page'' : List ℕ} → h ≡ suc i → d ≡ hex_digit_ascii (n / 10 ^ i % 10)
+    → page' ≡ with_text m page (last_digits 10 j (n / 10 ^ h)) → page'' ≡ with_text m page' (d ∷ []) → page'' ≡ with_text m page (last_digits 10 (suc j) (n / 10 ^ i))
+next-digit j i h n d m page f e p q =
+    let b : n / 10 ^ i / 10 ≡ n / 10 ^ h = div-div-eq-div-mul n (10 ^ i) 10 ∙ rw (f, pow-suc 10 i) in
+    rw (b, ← e) (put_then m page _ (d ∷ []) p q)
 
 -- all k of them
-pub all_digits : (k i n : ℕ) → i ≡ k → last_digits 10 i (n / 10 ^ (k - i)) ≡ last_digits 10 k n
-all_digits k i n e =
-    let f : k - k ≡ 0 = omega arith in
+pub all_digits : (k n : ℕ) → last_digits 10 (k - 0) (n / 10 ^ 0) ≡ last_digits 10 k n
+all_digits k n =
+    let f : k - 0 ≡ k = omega arith in
     let g : n / 10 ^ 0 ≡ n = omega arith in
-    rw e (ap (λ (x : ℕ). last_digits 10 k x) (ap (λ (x : ℕ). n / 10 ^ x) f ∙ g))
+    rw (f, g)

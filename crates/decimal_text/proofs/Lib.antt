@@ -1,5 +1,4 @@
 -- What a number is by its bits; digits, widths, and the text of each kind.
-mod ByFields
 mod Digits
 pub mod Widths
 mod Signs

@@ -38,12 +38,13 @@ fn digit(n: u64, k: usize) -> u8
 }
 
 // The last k digits of n, zeros in front too.
+// Stays: a loop over the digits' places, from the first digit down; each is worked out from n, and no list of them is kept.
 fn put_digits<const N: usize>(page: &mut Page<N>, k: usize, n: u64)
     requires { k ≤ 9 }
     ensures { page.new ≡ with_text N page.old (last_digits 10 k n) }
 {
-    for i in 0..k {
-        page.put_byte(digit(n, k - 1 - i));
+    for i in (0..k).rev() {
+        page.put_byte(digit(n, i));
     }
 }
 
@@ -58,28 +59,27 @@ fn put_placed<const N: usize>(page: &mut Page<N>, places: usize, n: u64)
     put_digits(page, places, n);
 }
 
-// By the bits: a finite number's are below those of the infinities, a NaN's above.
 fn kind_of(v: f32) -> Kind
     ensures { result ≡ number_kind_of v }
 {
-    let b = scalar::bits(v);
-    let size = b % 0x8000_0000;
-    if size > 0x7f80_0000 {
+    if v.is_nan() {
         return Kind::NotANumber;
     }
-    if size == 0x7f80_0000 {
-        if b < 0x8000_0000 {
-            return Kind::Infinity;
+    if v.is_infinite() {
+        if v.is_sign_negative() {
+            return Kind::MinusInfinity;
         }
-        return Kind::MinusInfinity;
+        return Kind::Infinity;
     }
-    if b < 0x8000_0000 {
-        return Kind::Plus;
+    if v.is_sign_negative() {
+        return Kind::Minus;
     }
-    Kind::Minus
+    Kind::Plus
 }
 
 // n units after their sign, if they have one, at the right of so many characters.
+// Stays: width and places, here and in `put_number`, are as in Rust's `{:10.3}`: each call says both, and a struct of the two would
+// be made at each and taken apart here.
 fn put_units<const N: usize>(page: &mut Page<N>, width: usize, sign: &[u8], places: usize, n: u64)
     requires { (length sign.now ≤ 1) × (places ≤ 9) }
     ensures { page.new ≡ with_text N page.old (right width (sign.now ++ placed_text places n)) }

@@ -111,11 +111,10 @@ drop_min u n = by (leb n (length u)) refl
         let k : length u ≤ n = omega arith in
         rw (m, drop-length u, drop_of_length-le u k)
 
-pub point-parts : (m : Bool) (u : List ℕ) (p e : ℕ) → p ≡ 0 + run (other 46) (drop 0 u) → e ≡ min (p + 1) (length u)
+pub point-parts : (m : Bool) (u : List ℕ) (p e : ℕ) → p ≡ run (other 46) u → e ≡ min (p + 1) (length u)
     → parts_of m (take p u) (take (length u - e) (drop e u)) ≡ unsigned_of m u
 unfolding unsigned_of
-point-parts m u p e f g =
-    let h : p ≡ run (other 46) u = f ∙ zero-add (run (other 46) u) in
+point-parts m u p e h g =
     let k : p + 1 ≡ suc p = add-one p in
     ap (parts_of m (take p u)) (tail-whole u e ∙ ap (λ (x : ℕ). drop x u) g ∙ drop_min u (p + 1) ∙ ap (λ (x : ℕ). drop x u) k)
     ∙ ap (λ (x : ℕ). parts_of m (take x u) (drop (suc x) u)) h

@@ -10,25 +10,23 @@ use lib.Ieee.Exact.{HasValue, units_val}
 use lib.Ieee.Fits.{core, round_is, nearest-le}
 use lib.Ieee.Nearest.{closest, closest_same, nearest-ge}
 use lib.Ieee.Scale.{round_same}
+use lib.Dec.{ltb}
+use borrow.Author.Tests.{lt-ltb, le-ltb}
+use Rattle.figures.specs.Nearest.{nearest as whole_nearest}
 use Rattle.rounding.proofs.Cells.{Cmp, cmp}
 use Rattle.rounding.proofs.Units.{pattern_of, bits_of}
 use Rattle.rounding.proofs.LastDigit.{size_exact}
 use Rattle.scalar.proofs.RootPattern.{pattern-at}
 
--- ---- what twice the remainder says
-by : (q r c v : ℕ) (o : Ordering) → Cmp o (r * 2) c → ((r * 2 < c) → q ≡ v) → ((c < r * 2) → suc q ≡ v) → (r * 2 ≡ c → q + q % 2 ≡ v) → nearest q o ≡ v
-by q r c v Ordering.lt h x y z = x h
-by q r c v Ordering.eq h x y z = z h
-by q r c v Ordering.gt h x y z = y h
+-- ---- the two names for a quotient rounded to the nearest whole number
+by : (q r c : ℕ) (o : Ordering) → Cmp o (r * 2) c → nearest q o ≡ cond (ltb (2 * r) c) q (cond (ltb c (2 * r)) (q + 1) (q + q % 2))
+by q r c Ordering.lt h = rw (lt-ltb (2 * r) c (omega arith))
+by q r c Ordering.eq h = rw (le-ltb (2 * r) c (omega arith), le-ltb c (2 * r) (omega arith))
+by q r c Ordering.gt h = rw (le-ltb (2 * r) c (omega arith), lt-ltb c (2 * r) (omega arith)) (omega arith)
 
-pub under : (a c : ℕ) → a % c * 2 < c → a / c ≡ closest a c
-under a c h = sym (by (a / c) (a % c) c (a / c) (compare (a % c * 2) c) (cmp (a % c * 2) c) (λ l. refl) (λ l. absurd (omega arith)) (λ l. absurd (omega arith)))
-
-pub over : (a c : ℕ) → c < a % c * 2 → a / c + 1 ≡ closest a c
-over a c h = sym (by (a / c) (a % c) c (a / c + 1) (compare (a % c * 2) c) (cmp (a % c * 2) c) (λ l. absurd (omega arith)) (λ l. omega arith) (λ l. absurd (omega arith)))
-
-pub half : (a c : ℕ) → c ≤ a % c * 2 → a % c * 2 ≤ c → a / c + a / c % 2 ≡ closest a c
-half a c h k = sym (by (a / c) (a % c) c (a / c + a / c % 2) (compare (a % c * 2) c) (cmp (a % c * 2) c) (λ l. absurd (omega arith)) (λ l. absurd (omega arith)) (λ l. refl))
+pub closest-is : (a c : ℕ) → closest a c ≡ whole_nearest a c
+unfolding whole_nearest
+closest-is a c = by (a / c) (a % c) c (compare (a % c * 2) c) (cmp (a % c * 2) c)
 
 -- ---- the pattern of a value in units
 value-bits : (v : Float) (s : Bool) (N : ℕ) → HasValue v s N (2 ^ 149) → to_bits binary32 v ≡ pattern_of binary32 s N

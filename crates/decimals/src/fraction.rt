@@ -4,29 +4,12 @@ ghost use Rattle.std.specs.Float.{binary32};
 ghost use Rattle.std.specs.Float.Ieee.{round, to_bits};
 ghost use Rattle.std.specs.Float.Ieee.Nearest.{closest as closest_of};
 
-// a / c to the nearest whole number, an exact half to the even one.
-// Stays: a and c are a quotient's two numbers, as n and d below, and no pair that is kept.
-fn closest(a: u64, c: u64) -> u64
-    requires { (0 < c) × (c < 2 ^ 62) × (a < 2 ^ 24 * c) }
-    ensures { result ≡ closest_of a c }
-{
-    let q = a / c;
-    let twice = a % c * 2;
-    if twice < c {
-        return q;
-    }
-    if c < twice {
-        return q + 1;
-    }
-    q + q % 2
-}
-
 // The exponent's field and a / c, rounded to 24 digits: a carry out of those is the exponent's.
 fn packed(field: u32, a: u64, c: u64) -> u32
     requires { (field < 252) × (0 < c) × (c < 2 ^ 62) × (a < 2 ^ 24 * c) }
     ensures { result ≡ field * 2 ^ 23 + closest_of a c }
 {
-    field * 0x80_0000 + closest(a, c) as u32
+    field * 0x80_0000 + figures::nearest(a, c) as u32
 }
 
 // The pattern of the f32 nearest to n / d, without its sign. n is moved up until the quotient by 2^8 d has 24 digits or 25
@@ -52,7 +35,8 @@ fn sign(minus: bool) -> u32
 }
 
 // The bits of the f32 nearest to n / 10^places, a half to the even one; a zero has its sign too.
-// Stays: that `places` is up to 9 is asked here once, and by the texts of decimals for themselves.
+// Stays: `places` up to 9 is asked of one caller, which has counted them; a type for such a number would ask the same where it is
+// made, and be no plainer.
 pub fn nearest(minus: bool, n: u32, places: u32) -> u32
     requires { places ≤ 9 }
     ensures { result ≡ to_bits binary32 (round binary32 minus n (10 ^ places)) }

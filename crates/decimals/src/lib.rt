@@ -1,5 +1,6 @@
 // A decimal as a person writes it, as the nearest f32: by whole numbers only.
-// Stays: `whole` and `rest` side by side are what stands before and after the point of one word, and not read by pairs.
+// Stays: `whole` and `rest` beside each other are what stands before and after the point, texts with lengths of their own; one list
+// of pairs could not hold them.
 #![tactic(auto)]
 
 mod fraction;
@@ -10,16 +11,10 @@ ghost use Rattle.decimals.specs.Decimal.{is_digit, all_digits, value_from, fine_
 
 pub use fraction::nearest;
 
-fn is_digit(b: u8) -> bool
-    ensures { result ≡ is_digit b }
-{
-    b'0' <= b && b <= b'9'
-}
-
 fn digits(t: &[u8]) -> bool
     ensures { result ≡ list_all is_digit t.now }
 {
-    t.iter().all(|b| is_digit(*b))
+    t.iter().all(u8::is_ascii_digit)
 }
 
 fn value(t: &[u8], from: u32) -> u32
@@ -28,7 +23,7 @@ fn value(t: &[u8], from: u32) -> u32
 {
     let mut v = from;
     for b in t {
-        v = 10 * v + u32::from(b.saturating_sub(b'0'));
+        v = 10 * v + u32::from(b - b'0');
     }
     v
 }
@@ -37,8 +32,7 @@ fn value(t: &[u8], from: u32) -> u32
 fn one_to_nine(a: usize, b: usize) -> bool
     ensures { result ≡ (leb 1 (a + b) && leb (a + b) 9) }
 {
-    let n = a.saturating_add(b);
-    1 <= n && n <= 9
+    (1..=9).contains(&a.saturating_add(b))
 }
 
 #[tactic(auto, using(crate::proofs::DigitLists::all_listed), unfolding(crate::specs::Decimal::fine_of))]
@@ -61,7 +55,7 @@ fn parts(minus: bool, whole: &[u8], rest: &[u8]) -> Option<u32>
 fn unsigned(minus: bool, u: &[u8]) -> Option<u32>
     ensures { result ≡ unsigned_of minus u.now }
 {
-    let p = words::until(u, 0, b'.');
+    let p = words::until(u, b'.');
     let e = (p + 1).min(u.len());
     parts(minus, &u[..p], &u[e..])
 }

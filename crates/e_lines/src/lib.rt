@@ -69,19 +69,7 @@ pub fn line(
 pub fn zero_line() -> LayerMuf
     ensures { result ≡ zero_line }
 {
-    LayerMuf {
-        sigl: 0.0,
-        sigu: 0.0,
-        delmuf: 0.0,
-        hpmuf: 0.0,
-        htmuf: 0.0,
-        fvmuf: 0.0,
-        afmuf: 0.0,
-        nhopmf: 0,
-        yfot: 0.0,
-        ymuf: 0.0,
-        yhpf: 0.0,
-    }
+    LayerMuf::default()
 }
 
 // Off the profile, or fixed: those of a parabola that peaks at 110 km and is 20 km in
@@ -98,6 +86,7 @@ fn e_heights(t: IonoState, fxe: f32) -> HeightPair
     }
 }
 
+// Stays: g is worked out of h and may be refused, here and for the lines of F2 and F1, so that the two are no pair that is kept.
 fn e_found(g: HopGeometry, h: HeightPair, fxe: f32) -> LayerMuf
     ensures { result ≡ e_found_of g h fxe }
 {
@@ -106,6 +95,8 @@ fn e_found(g: HopGeometry, h: HeightPair, fxe: f32) -> LayerMuf
     line(sig, sig, g.del, h.hp, h.ht, fxe, g.xhops, emuf)
 }
 
+// Stays: gcdkm and amind are the Rust's, as `hops` takes them; the circuit's four numbers are put together
+// in `layer_mufs`, which stands on this crate.
 pub fn e_line(t: IonoState, fxe: f32, gcdkm: f32, amind: f32) -> Result<LayerMuf, Refusal>
     ensures value { result ≡ e_line_of t fxe gcdkm amind }
     ensures e_says { ESays result t fxe gcdkm amind }

@@ -14,7 +14,7 @@ fn with_lower(e: EsParams, lower: f32) -> EsParams
 {
     let mut fs = e.fs;
     fs[0] = lower;
-    EsParams { fs, hs: e.hs }
+    EsParams { fs, ..e }
 }
 
 // The controlling row's lower decile is rewritten, if a row controls.

@@ -59,7 +59,9 @@ fn power(r: u64) -> u64
     f + f / 0x1_0000_0000 * p / 16
 }
 
-// What depends on the sign s of x alone stands in small functions of its own, which compile to no branch.
+// What depends on the sign s of x alone stands in small functions of its own, which compile to no branch. Stays: s is the first bit
+// of x's pattern as a number, since `packed` moves a limit by a thousand times it.
+
 // r, or what it lacks to ln 2
 fn folded(s: u32, r: u64) -> u64
     requires { r < ln2 }
@@ -93,6 +95,7 @@ fn either(s: u32, plus: u32, minus: u32) -> u32
 }
 
 // the pattern of h * 2^(e - 62), or of h * 2^-(e + 63)
+// Stays: a shift that rounds is one expression, written out here twice and once in `fixed`.
 fn packed(s: u32, e: u64, h: u64) -> u32
     requires { (s < 2) × (e ≤ 127 + s * 23) }
     ensures { result ≡ pick (ltb s 1) ((126 + e) * 2 ^ 23 + rounded_to24 h) (lowered e h) }

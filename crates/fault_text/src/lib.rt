@@ -9,6 +9,8 @@ ghost use Rattle.fault_text.specs.FaultText.{fault_words, wrong_text};
 use compose_line::{Fault, Wrong};
 use lines::Page;
 
+// Stays: a `From` could stand only beside `Fault`, in `compose_line`, which puts no text on a page, and would not say what it gives;
+// a function's name does.
 #[tactic(auto, unfolding(crate::specs::FaultText::fault_words))]
 fn fault_words(fault: Fault) -> &'static [u8]
     ensures { result.now ≡ fault_words fault }

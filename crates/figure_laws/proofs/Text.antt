@@ -14,7 +14,9 @@ use Rattle.lines.specs.Text.{space, tens_by, decimal_in, decimal_of, joined}
 use Rattle.figures.specs.Figure.{signed_tenths, figure_of}
 use Rattle.figures.specs.Nearest.{nearest}
 use Rattle.figures.specs.declared.Printed.{Printed}
-use Rattle.figure_text.specs.FigureText.{point, spaces, tenths_text, figure_text}
+use Rattle.aligned.specs.Aligned.{repeated}
+use Rattle.figure_text.specs.FigureText.{point, tenths_text, figure_text}
+use Rattle.figure_text.proofs.Widths.{padded}
 use Rattle.figure_laws.specs.Text.{Texts}
 
 value : ℕ → List ℕ → ℕ
@@ -42,8 +44,8 @@ value_in (suc places) n h =
     by true e k = let l = ltb-true n 10 e in omega arith
     by false e k = let p = pow-succ' 10 places in let r = k (omega arith) in omega arith
 
-value-spaces : (acc n : ℕ) → value acc (spaces n) ≡ acc
-unfolding value spaces joined
+value-spaces : (acc n : ℕ) → value acc (repeated space n) ≡ acc
+unfolding value repeated joined
 value-spaces acc zero = refl
 value-spaces acc (suc n) = value-append acc (joined (λ i. space ∷ []) n) (space ∷ []) ∙ value-spaces acc n
 
@@ -59,9 +61,9 @@ value-tenths n h =
     ∙ (let e = value_in 20 (n / 10) (omega arith) in omega arith)
 
 value-figure : (n : ℕ) → n ≤ 9999 → value 0 (figure_text (Printed.Tenths n)) ≡ n
-unfolding figure_text
 value-figure n h =
-    value-append 0 (spaces (5 - length (tenths_text n))) (tenths_text n)
+    ap (value 0) (padded n h)
+    ∙ value-append 0 (repeated space (5 - length (tenths_text n))) (tenths_text n)
     ∙ ap (λ (acc : ℕ). value acc (tenths_text n)) (value-spaces 0 (5 - length (tenths_text n)))
     ∙ value-tenths n h
 

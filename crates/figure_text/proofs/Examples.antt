@@ -4,9 +4,10 @@ use mathlib.Core.List.{List, [], ◌∷◌, map}
 use Prim.Native.Nat.{ℕ}
 use lib.Ieee.{binary32, of_bits}
 use Rattle.lines.specs.Text.{decimal_in, decimal_of, joined}
+use Rattle.aligned.specs.Aligned.{repeated, right}
 use Rattle.figures.specs.Nearest.{nearest}
 use Rattle.figures.specs.Figure.{figure_of}
-use Rattle.figure_text.specs.FigureText.{star, dash, point, spaces, tenths_text, figure_text}
+use Rattle.figure_text.specs.FigureText.{star, dash, point, tenths_text, figure_text}
 
 abbrev printed : ℕ → List ℕ
 printed bits = figure_text (figure_of (of_bits binary32 bits))
@@ -17,11 +18,11 @@ stars = star ∷ star ∷ star ∷ star ∷ star ∷ []
 -- `  0.7`, `  0.0`, `  0.0`, `  1.2`, `  1.8`, ` -1.2`
 pub rounded : map printed (0x3f33_3333 ∷ 0x8000_0000 ∷ 0xbcf5_c28f ∷ 0x3fa0_0000 ∷ 0x3fe0_0000 ∷ 0xbfa0_0000 ∷ [])
     ≡ (32 ∷ 32 ∷ 48 ∷ point ∷ 55 ∷ []) ∷ (32 ∷ 32 ∷ 48 ∷ point ∷ 48 ∷ []) ∷ (32 ∷ 32 ∷ 48 ∷ point ∷ 48 ∷ []) ∷ (32 ∷ 32 ∷ 49 ∷ point ∷ 50 ∷ []) ∷ (32 ∷ 32 ∷ 49 ∷ point ∷ 56 ∷ []) ∷ (32 ∷ dash ∷ 49 ∷ point ∷ 50 ∷ []) ∷ []
-unfolding figure_text figure_of of_bits nearest spaces joined tenths_text decimal_of decimal_in
+unfolding figure_text figure_of of_bits nearest right repeated joined tenths_text decimal_of decimal_in
 rounded = refl
 
 -- `999.9` and stars, `-99.9` and stars, `  inf` twice, `  NaN`
 pub ends : map printed (0x4479_fccc ∷ 0x4479_fccd ∷ 0xc2c7_e666 ∷ 0xc2c7_e667 ∷ 0x7f80_0000 ∷ 0xff80_0000 ∷ 0x7fc0_0000 ∷ [])
     ≡ (57 ∷ 57 ∷ 57 ∷ point ∷ 57 ∷ []) ∷ stars ∷ (dash ∷ 57 ∷ 57 ∷ point ∷ 57 ∷ []) ∷ stars ∷ (32 ∷ 32 ∷ 105 ∷ 110 ∷ 102 ∷ []) ∷ (32 ∷ 32 ∷ 105 ∷ 110 ∷ 102 ∷ []) ∷ (32 ∷ 32 ∷ 78 ∷ 97 ∷ 78 ∷ []) ∷ []
-unfolding figure_text figure_of of_bits nearest spaces joined tenths_text decimal_of decimal_in
+unfolding figure_text figure_of of_bits nearest right repeated joined tenths_text decimal_of decimal_in
 ends = refl

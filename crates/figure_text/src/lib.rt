@@ -2,22 +2,14 @@
 // Stays: functions of our own and no `Display`, for the reason in crate `lines`.
 #![tactic(auto, using(lines::proofs::Placing::putting))]
 
-ghost use Rattle.std.specs.Prelude.{◌≡◌, ◌∷◌, ◌-◌, length};
+ghost use Rattle.std.specs.Prelude.{◌≡◌, ◌++◌, ◌≤◌, length};
 ghost use Rattle.lines.specs.Text.{with_text};
+ghost use Rattle.aligned.specs.Aligned.{right};
 ghost use Rattle.figures.specs.Figure.{figure_of};
-ghost use Rattle.figure_text.specs.FigureText.{dash, spaces, padded_to_five, tenths_text, figure_text};
+ghost use Rattle.figure_text.specs.FigureText.{tenths_text, figure_text};
 
 use figures::Printed;
 use lines::Page;
-
-#[tactic(auto, using(lines::proofs::Placing::putting), unfolding(crate::specs::FigureText::spaces))]
-fn put_spaces<const N: usize>(page: &mut Page<N>, n: usize)
-    ensures { page.new ≡ with_text N page.old (spaces n) }
-{
-    for _i in 0..n {
-        page.put_byte(b' ');
-    }
-}
 
 #[tactic(auto, using(lines::proofs::Placing::putting), unfolding(crate::specs::FigureText::tenths_text))]
 fn put_tenths<const N: usize>(page: &mut Page<N>, n: u32)
@@ -28,54 +20,27 @@ fn put_tenths<const N: usize>(page: &mut Page<N>, n: u32)
     page.put_decimal(u64::from(n % 10));
 }
 
-// How many spaces stand before the tenths.
-fn blanks(n: u32) -> usize
-    ensures { result ≡ 5 - length (tenths_text n) }
+// The tenths after their sign, if they have one, at the right of five characters.
+fn put_signed<const N: usize>(page: &mut Page<N>, sign: &[u8], n: u32)
+    requires { length sign.now ≤ 1 }
+    ensures { page.new ≡ with_text N page.old (right 5 (sign.now ++ tenths_text n)) }
 {
-    if n < 100 {
-        return 2;
-    }
-    if n < 1000 {
-        return 1;
-    }
-    0
+    let mut text: Page<23> = Page::new();
+    text.put_word(sign);
+    put_tenths(&mut text, n);
+    aligned::put_right(page, 5, text.text());
 }
 
-// And before a minus and the tenths.
-fn blanks_minus(n: u32) -> usize
-    ensures { result ≡ 5 - length (dash ∷ tenths_text n) }
-{
-    if n < 100 {
-        return 1;
-    }
-    0
-}
-
-fn put_plus<const N: usize>(page: &mut Page<N>, n: u32)
-    ensures { page.new ≡ with_text N page.old (padded_to_five (tenths_text n)) }
-{
-    put_spaces(page, blanks(n));
-    put_tenths(page, n);
-}
-
-fn put_minus<const N: usize>(page: &mut Page<N>, n: u32)
-    ensures { page.new ≡ with_text N page.old (padded_to_five (dash ∷ tenths_text n)) }
-{
-    put_spaces(page, blanks_minus(n));
-    page.put_byte(b'-');
-    put_tenths(page, n);
-}
-
-#[tactic(auto, using(lines::proofs::Placing::putting), unfolding(crate::specs::FigureText::figure_text, crate::specs::FigureText::spaces, lines::specs::Text::joined))]
+#[tactic(auto, using(lines::proofs::Placing::putting), unfolding(crate::specs::FigureText::figure_text))]
 fn put_printed<const N: usize>(page: &mut Page<N>, p: Printed)
     ensures { page.new ≡ with_text N page.old (figure_text p) }
 {
     match p {
-        Printed::Tenths(n) => put_plus(page, n),
-        Printed::Minus(n) => put_minus(page, n),
+        Printed::Tenths(n) => put_signed(page, b"", n),
+        Printed::Minus(n) => put_signed(page, b"-", n),
         Printed::Stars => page.put_word(b"*****"),
-        Printed::Infinite => page.put_word(b"  inf"),
-        Printed::NotANumber => page.put_word(b"  NaN"),
+        Printed::Infinite => aligned::put_right(page, 5, b"inf"),
+        Printed::NotANumber => aligned::put_right(page, 5, b"NaN"),
     }
 }
 

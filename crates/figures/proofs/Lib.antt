@@ -1,4 +1,3 @@
 -- The nearest whole number is what is asked for, and exact products of a pattern.
 pub mod HalfToEven
 pub mod Product
-pub mod ByPattern

@@ -1,16 +1,17 @@
 -- The product by the pattern: a value of the exponent's field x above 0 is d * 2 ^ (x - 150) for its 24 digits d, so k times it is the fraction d * k / 2 ^ (150 - x), or a whole number from x = 150 on. Assumes nothing.
 use Prim.Native.Nat.{ℕ, zero, suc, ◌+◌, ◌-◌, ◌*◌, ◌/◌, ◌%◌, ◌^◌, ◌≤◌, ◌<◌, min}
 use mathlib.Core.Path.{◌≡◌, refl, sym, ap, ◌∙◌}
-use mathlib.Core.Bool.{Bool, true, false}
+use mathlib.Core.Bool.{Bool, true, false, false≢true}
 use native.Mathlib.Nat.{lt_of_lt_of_le, lt_of_le_of_lt, le_trans, le_of_eq, mul-le-mul, mul-le-mul_left}
 use native.Mathlib.Omega.{arith}
 use borrow.Author.Tests.{leb-true, leb-false, lt-leb}
 use lib.Dec.{T, leb, eqb-suc-zero}
 use lib.Pow.{pow-add, pow_pos, pow_mono, shl_lt}
-use lib.Ieee.{Float, nan, inf, fin, binary32, up, down, fits, of_fields, of_bits, to_bits}
+use lib.Ieee.{Float, nan, inf, fin, binary32, up, down, fits, is_nan, of_fields, of_bits, to_bits}
 use lib.Ieee.Bits.{of_bits-to_bits}
 use lib.Ieee.Fits.{down_pos}
 use lib.Ieee.Exact.{HasValue}
+use Rattle.std.specs.Float.{float_is_infinite, is_sign_negative}
 use Rattle.scalar.proofs.Patterns.{of_bits_is, fields-low, fields-mid}
 use Rattle.figures.specs.declared.Printed.{Printed}
 use Rattle.figures.specs.Nearest.{nearest, past, times_of}
@@ -41,21 +42,30 @@ kept-signed s n = go (leb n past) refl
     go true e = ap (λ (x : ℕ). signed_tenths s x) (let l = leb-true n past e in omega arith)
     go false e = let l = leb-false n past e in large s n l ∙ ap (λ (x : ℕ). signed_tenths s x) (omega arith)
 
-pub figure-at : (v : Float) (s : Bool) (n d : ℕ) → HasValue v s n d → figure_of v ≡ signed_tenths s (times_of 10 v)
-unfolding figure_of times_of
-figure-at nan s n d h = elim h [ ]
-figure-at (inf _) s n d h = elim h [ ]
-figure-at (fin t m e) s n d h = ap (λ (x : Bool). signed_tenths x (nearest (10 * m * up e) (down e))) h.0 ∙ kept-signed s (nearest (10 * m * up e) (down e))
+-- ---- the figure by a value's case
+
+other : {A : Type 0} → false ≡ true → A
+other e = absurd (false≢true e)
+
+pub not-a-number : (v : Float) → is_nan v ≡ true → Printed.NotANumber ≡ figure_of v
+unfolding figure_of is_nan
+not-a-number nan e = refl
+not-a-number (inf s) e = other e
+not-a-number (fin s m x) e = other e
+
+pub infinite : (v : Float) → is_nan v ≡ false → float_is_infinite v ≡ true → Printed.Infinite ≡ figure_of v
+unfolding figure_of is_nan float_is_infinite
+infinite nan n e = other (sym n)
+infinite (inf s) n e = refl
+infinite (fin s m x) n e = other e
+
+pub finite : (v : Float) (s : Bool) → is_nan v ≡ false → float_is_infinite v ≡ false → is_sign_negative v ≡ s → signed_tenths s (times_of 10 v) ≡ figure_of v
+unfolding figure_of times_of is_nan float_is_infinite is_sign_negative
+finite nan s n e h = other (sym n)
+finite (inf t) s n e h = other (sym e)
+finite (fin t m x) s n e h = sym (ap (λ (y : Bool). signed_tenths y (nearest (10 * m * up x) (down x))) h ∙ kept-signed s (nearest (10 * m * up x) (down x)))
 
 -- ---- by the fields
-
-record Value (s : Bool) (x t : ℕ) : Type 0 where
-  size : ℕ
-  is : HasValue (of_fields binary32 s x t) s size (2 ^ 149)
-
-value : (s : Bool) (x t : ℕ) → x < 255 → Value s x t
-value s zero t l = record { size = t; is = fields-low s t }
-value s (suc x) t l = record { size = (2 ^ 23 + t) * 2 ^ x; is = fields-mid s x t l }
 
 module _ (k : ℕ) (s : Bool) (t : ℕ) (few : k < 2 ^ 32) (last : t < 2 ^ 23) where
   product_lt : (d : ℕ) → d ≤ 2 ^ 24 → k * d < 2 ^ 56
@@ -120,15 +130,6 @@ unfolding of_fields times_of
 past_is k s zero = refl
 past_is k s (suc t) = rw (eqb-suc-zero t)
 
-pub not-a-number : (s : Bool) (t : ℕ) → 0 < t → Printed.NotANumber ≡ figure_of (of_fields binary32 s 255 t)
-unfolding of_fields figure_of
-not-a-number s zero p = absurd (omega arith)
-not-a-number s (suc t) p = rw (eqb-suc-zero t)
-
-pub infinite : (s : Bool) → Printed.Infinite ≡ figure_of (of_fields binary32 s 255 0)
-unfolding of_fields figure_of
-infinite s = refl
-
 -- ---- by the pattern
 
 pattern-is : (b : ℕ) → of_bits binary32 b ≡ of_fields binary32 (leb (2 ^ 31) b) (b % 2 ^ 31 / 2 ^ 23) (b % 2 ^ 31 % 2 ^ 23)
@@ -140,6 +141,3 @@ pattern-is b = of_bits_is b ∙ ap (λ (x : ℕ). of_fields binary32 (leb (2 ^ 3
 -- a value of the format, by the pattern b that the code has of it
 pub by-fields : (v : Float) (b : ℕ) → T (fits binary32 v) → b ≡ to_bits binary32 v → of_fields binary32 (leb (2 ^ 31) b) (b % 2 ^ 31 / 2 ^ 23) (b % 2 ^ 31 % 2 ^ 23) ≡ v
 by-fields v b f e = sym (pattern-is b) ∙ ap (λ (x : ℕ). of_bits binary32 x) e ∙ of_bits-to_bits binary32 v f
-
-pub finite-figure : (s : Bool) (x t : ℕ) → x < 255 → figure_of (of_fields binary32 s x t) ≡ signed_tenths s (times_of 10 (of_fields binary32 s x t))
-finite-figure s x t l = let v = value s x t l in figure-at (of_fields binary32 s x t) s v.size (2 ^ 149) v.is

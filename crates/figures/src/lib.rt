@@ -21,7 +21,7 @@ pub enum Printed {
 
 // n / d to the nearest whole number, an exact half to the even one.
 // Stays: n and d are a quotient's two numbers, and no pair that is kept.
-fn nearest(n: u64, d: u64) -> u64
+pub fn nearest(n: u64, d: u64) -> u64
     requires { 0 < d }
     ensures { result ≡ nearest_of n d }
 {
@@ -37,6 +37,7 @@ fn nearest(n: u64, d: u64) -> u64
 }
 
 // What is not a u32 is 2^32.
+// Stays: a number past every u32, which callers turn away with all that is too large.
 fn kept(n: u64) -> u64
     ensures { result ≡ min n past }
 {
@@ -94,19 +95,17 @@ fn minus(n: u64) -> Printed
 pub fn figure(v: f32) -> Printed
     ensures { result ≡ figure_of v }
 {
-    let b = scalar::bits(v);
-    let size = b % 0x8000_0000;
-    if size > 0x7f80_0000 {
+    if v.is_nan() {
         return Printed::NotANumber;
     }
-    if size == 0x7f80_0000 {
+    if v.is_infinite() {
         return Printed::Infinite;
     }
     let n = times(v, 10);
-    if b < 0x8000_0000 {
-        return plus(n);
+    if v.is_sign_negative() {
+        return minus(n);
     }
-    minus(n)
+    plus(n)
 }
 
 // The case's number.
@@ -124,6 +123,7 @@ pub fn number(p: Printed) -> u32
 }
 
 // Its tenths, or 0 where it has none.
+// Stays: a number, since the case says whether there are any.
 pub fn tenths(p: Printed) -> u32
     ensures { result ≡ figure_tenths p }
 {

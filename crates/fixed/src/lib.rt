@@ -4,18 +4,11 @@
 ghost use Rattle.std.specs.Prelude.{◌≡◌, ◌+◌, ◌*◌, ◌/◌, ◌^◌, ◌<◌, ◌≤◌};
 ghost use Rattle.fixed.specs.Fixed.{scaled_of, mant, pattern};
 
-// The upper 64 bits of a product of 128 bits: the four products of 32-bit halves, the middle column's carry apart.
+// The upper 64 bits of a product of 128 bits.
 pub fn high_product(u: u64, v: u64) -> u64
     ensures { result ≡ u * v / 2 ^ 64 }
 {
-    let p = u / 0x1_0000_0000;
-    let q = u % 0x1_0000_0000;
-    let s = v / 0x1_0000_0000;
-    let t = v % 0x1_0000_0000;
-    let x = p * t;
-    let y = q * s;
-    let column = x % 0x1_0000_0000 + y % 0x1_0000_0000 + q * t / 0x1_0000_0000;
-    p * s + x / 0x1_0000_0000 + y / 0x1_0000_0000 + column / 0x1_0000_0000
+    ((u128::from(u) * u128::from(v)) >> 64) as u64
 }
 
 // 2^k

@@ -1,8 +1,7 @@
 // The forty densities of the sum of `gethp`: the nodes' heights, a density read at each by one walk or by forty scans, and cut.
 #![tactic(auto)]
 
-ghost use Rattle.std.specs.Prelude.{◌≡◌, ◌<◌, eqb, replicate};
-ghost use Rattle.scalar.specs.Literals.{f0};
+ghost use Rattle.std.specs.Prelude.{◌≡◌, ◌<◌, eqb};
 ghost use Rattle.forty_reads.specs.Nodes.{zg_by, height_of, ig_at, ib_at};
 ghost use Rattle.forty_reads.specs.Walk.{walk_reads, scan_reads, table_by, cursor_after, cursor_read_by};
 
@@ -32,6 +31,7 @@ static XT: [f32; 20] = [
     0.9982377097,
 ];
 
+// Stays: `ib`, 0 or 1, is the Rust's second index of `ysq[ig][ib]`.
 fn node(x: f32, ib: usize) -> f32
     ensures { result ≡ zg_by (eqb ib 0) x }
 {
@@ -69,14 +69,20 @@ fn ib_at(up: bool, k: usize) -> usize
     usize::from((k < 20) == up)
 }
 
-// Forty densities, `ysq[ig][ib]` of the Rust at 2 * ig + ib, and the cursor after the last read. By
-// one walk in rising order of the nodes: each read goes on from the cursor that the one before left.
-fn walk_reads(p: Profile, ht: f32, read: &mut [f32; 40]) -> usize
-    requires { read.old ≡ replicate 40 f0 }
-    ensures { (read.new ≡ walk_reads p.entry.htr.now p.entry.fnsq.now ht 40) × (result ≡ cursor_after p.entry.htr.now p.entry.fnsq.now ht 40) }
+// Forty densities, `ysq[ig][ib]` of the Rust at 2 * ig + ib, and the cursor after the last read.
+#[derive(Clone, Copy, Debug, PartialEq)]
+pub struct Densities {
+    pub ysq: [f32; 40],
+    pub cursor: usize,
+}
+
+// By one walk in rising order of the nodes: each read goes on from the cursor that the one before left.
+fn walk_reads(p: Profile, ht: f32) -> Densities
+    ensures { (result.ysq ≡ walk_reads p.entry.htr.now p.entry.fnsq.now ht 40) × (result.cursor ≡ cursor_after p.entry.htr.now p.entry.fnsq.now ht 40) }
 {
     let up = ht >= 0.0;
     let h0 = p.htr[0];
+    let mut ysq = [0.0; 40];
     let mut ih = 0usize;
     // Stays: the read's number gives the node and its half, and the place in the table.
     for k in 0..40 {
@@ -88,17 +94,17 @@ fn walk_reads(p: Profile, ht: f32, read: &mut [f32; 40]) -> usize
         let g = r.reading;
         let y = g.value();
         let place = 2 * ig + ib;
-        read[place] = y;
+        ysq[place] = y;
     }
-    ih
+    Densities { ysq, cursor: ih }
 }
 
-// By forty scans.
-fn scan_reads(p: Profile, ht: f32, read: &mut [f32; 40])
-    requires { read.old ≡ replicate 40 f0 }
-    ensures { read.new ≡ scan_reads p.entry.htr.now p.entry.fnsq.now ht 40 }
+// By forty scans, which leave the cursor at 0.
+fn scan_reads(p: Profile, ht: f32) -> Densities
+    ensures { (result.ysq ≡ scan_reads p.entry.htr.now p.entry.fnsq.now ht 40) × (result.cursor ≡ 0) }
 {
     let h0 = p.htr[0];
+    let mut ysq = [0.0; 40];
     // Stays: the read's number gives the node and its half, and the place in the table.
     for k in 0..40 {
         let ig = k / 2;
@@ -106,23 +112,22 @@ fn scan_reads(p: Profile, ht: f32, read: &mut [f32; 40])
         let zi = height(h0, ht, ig, ib);
         let g = p.read_by_scan(zi);
         let y = g.value();
-        read[k] = y;
+        ysq[k] = y;
     }
+    Densities { ysq, cursor: 0 }
 }
 
 // The forty densities over `fr`, cut, after all are read; and the cursor.
 // Stays: `p` stands where the Rust has its state, beside its `ht` and `fr`, and one of two ways to read is
 // chosen by its own test, `if !s.htr_rises`.
-pub fn gethp_densities(p: Profile, ht: f32, fr: f32, ysq: &mut [f32; 40]) -> usize
-    requires { ysq.old ≡ replicate 40 f0 }
-    ensures { (ysq.new ≡ table_by p.entry.rises p.entry.htr.now p.entry.fnsq.now ht fr) × (result ≡ cursor_read_by p.entry.rises p.entry.htr.now p.entry.fnsq.now ht) }
+pub fn gethp_densities(p: Profile, ht: f32, fr: f32) -> Densities
+    ensures { (result.ysq ≡ table_by p.entry.rises p.entry.htr.now p.entry.fnsq.now ht fr) × (result.cursor ≡ cursor_read_by p.entry.rises p.entry.htr.now p.entry.fnsq.now ht) }
 {
-    if p.rises {
-        let cursor = walk_reads(p, ht, ysq);
-        integrands::shares(ysq, fr);
-        return cursor;
-    }
-    scan_reads(p, ht, ysq);
-    integrands::shares(ysq, fr);
-    0
+    let mut d = if p.rises {
+        walk_reads(p, ht)
+    } else {
+        scan_reads(p, ht)
+    };
+    integrands::shares(&mut d.ysq, fr);
+    d
 }

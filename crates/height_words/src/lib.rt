@@ -1,16 +1,12 @@
-// Heights, a number found on a grid, a reading and a layer's number as words.
+// Heights, a number found on a grid and a reading as words.
 // Stays: words of any length are lent, as callers in C have them, so a function asks for room.
 #![tactic(auto)]
 
 ghost use Rattle.std.specs.Prelude.{◌≡◌, ◌≤◌, length};
-ghost use Rattle.port_state.specs.Words.{floats_into};
-ghost use Rattle.parabolas.specs.Bendy.{layer_values_of};
-ghost use Rattle.refusal.specs.Number.{answer_number};
 ghost use Rattle.height_words.specs.Words.{heights_into, found_into, reading_into};
 
 use heights::Heights;
 use readings::{Found, Reading};
-use refusal::Refusal;
 
 pub fn heights_into(h: Heights, out: &mut [u32])
     requires { (4 ≤ length out.old) × (h.cursor ≤ 49) }
@@ -40,18 +36,4 @@ pub fn reading_into(r: Reading, out: &mut [u32])
     port_state::floats_into(&x, out, 1);
     out[0] = r.kind();
     out[2] = r.segment_number();
-}
-
-pub fn layer_into(a: Result<f32, Refusal>, out: &mut [u32]) -> u32
-    requires { 1 ≤ length out.old }
-    ensures { (result ≡ answer_number a) × (out.new ≡ floats_into out.old 0 (layer_values_of a)) }
-{
-    match a {
-        Ok(v) => {
-            let x = [v];
-            port_state::floats_into(&x, out, 0);
-            0
-        }
-        Err(r) => u32::from(r),
-    }
 }

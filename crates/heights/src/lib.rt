@@ -20,9 +20,10 @@ pub struct Heights {
     pub hp: f32,
     pub ht: f32,
     // the walk's cursor after its last read; 0 where no walk ran
+    // Stays: a number, since the paper gives 0 there.
     pub cursor: usize,
     // the segment on which the true height was found; 50 where nothing was sought
-    // Stays: the 50 goes to callers in C as it is.
+    // Stays: the paper numbers the segments 0 to 49, and says 50 where nothing is sought.
     pub segment: u32,
 }
 
@@ -56,7 +57,8 @@ fn quadrature(ysq: &[f32; 40]) -> f32
 {
     let mup = integrands::integrands(*ysq);
     let mut hp = 0.0;
-    // Stays: a weight and two integrands by one index, summed in the Rust's order.
+    // Stays: the loop is the Rust's, over `ig`. `WT.iter().zip(mup.chunks_exact(2))` keeps the order too, and is no plainer: the two
+    // integrands would be a list of two, of which it has to be shown that it is of two; the library has no lemma on chunks in a zip.
     for ig in 0..20 {
         let lower = 2 * ig;
         let upper = 2 * ig + 1;
@@ -72,18 +74,18 @@ fn by_densities(p: Profile, ht: f32, fr: f32, segment: u32) -> Heights
 {
     let h0 = p.htr[0];
     let hrmz = ht * 0.5 * 1.0;
-    let mut ysq = [0.0f32; 40];
-    let cursor = gethp_densities(p, ht, fr, &mut ysq);
-    let hp = quadrature(&ysq);
+    let d = gethp_densities(p, ht, fr);
+    let hp = quadrature(&d.ysq);
     Heights {
         hp: h0 + hrmz * hp,
         ht: h0 + ht,
-        cursor,
+        cursor: d.cursor,
         segment,
     }
 }
 
 // Whether the exact rule is used: it is asked for, and the reflecting height is above the lowest one.
+// Stays: `exact` is the Rust's `numerics.exact_virtual_height`, a mark of its state.
 fn rule_used(exact: bool, ht: f32) -> bool
     ensures { result ≡ (exact && (ht >f f0)) }
 {
@@ -124,17 +126,25 @@ pub fn gethp_read(p: Profile, exact: bool, fxx: f32) -> Heights
     by_densities(p, ht, fr, segment)
 }
 
+// A state's profile, lent; `rises` is what a test says of its heights.
+pub fn lent(s: &IonoState, rises: bool) -> Profile<'_>
+    ensures htr { result.htr.now ≡ s.now.htr }
+    ensures fnsq { result.fnsq.now ≡ s.now.fnsq }
+    ensures rises { result.rises ≡ rises }
+{
+    Profile {
+        htr: &s.htr,
+        fnsq: &s.fnsq,
+        rises,
+    }
+}
+
 // The heights of the vertical frequency `fxx`, densities read by a walk or by scans: `gethp` where `rises` is what the rising test says of the state's heights, for a caller that asks for many frequencies on one profile.
 // Stays: `s` and `fxx` are the Rust's parameters, and `rises` goes beside `s` where the test is made once.
 pub fn gethp_rising(s: IonoState, rises: bool, fxx: f32) -> Heights
     ensures { result ≡ gethp_read_of s.exact_virtual_height rises s.htr s.fnsq fxx }
 {
-    let p = Profile {
-        htr: &s.htr,
-        fnsq: &s.fnsq,
-        rises,
-    };
-    gethp_read(p, s.exact_virtual_height, fxx)
+    gethp_read(lent(&s, rises), s.exact_virtual_height, fxx)
 }
 
 // The virtual and the true height of the vertical frequency `fxx`. The heights are tested here: the state's rising mark is not read.

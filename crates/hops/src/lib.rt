@@ -23,6 +23,7 @@ pub struct HopGeometry {
 
 // What the rounds of one layer hold to: critical frequency, tangent frequency, heights, and the
 // geometry of the first pass.
+// Stays: the seven numbers that a round reads, out of the eleven of a geometry and its heights, by the Rust's names.
 #[derive(Clone, Copy, Debug, PartialEq)]
 pub struct Ray {
     pub fc: f32,
@@ -49,7 +50,7 @@ fn hop_ratio(gcdkm: f32, amind: f32, h: f32) -> f32
 {
     let dele = scalar::max(amind, 0.0);
     let del = dele * D2R;
-    let phe = arcs::asin(RZ * waves::cos(del) / (RZ + h));
+    let phe = arcs::asin(incidence(del, h));
     0.5 * gcdkm / ((PIO2 - del - phe) * RZ)
 }
 
@@ -59,10 +60,7 @@ pub fn hop_count(gcdkm: f32, amind: f32, h: f32) -> Result<f32, Refusal>
     ensures hops_say { HopsSay result gcdkm amind h }
 {
     let nhops = scalar::trunc(hop_ratio(gcdkm, amind, h));
-    if nhops < 0 {
-        return Err(Refusal::MufHops);
-    }
-    if nhops > 999 {
+    if nhops < 0 || nhops > 999 {
         return Err(Refusal::MufHops);
     }
     let xhops = (nhops + 1) as f32;
@@ -98,7 +96,7 @@ fn incidence(del: f32, ht: f32) -> f32
     RZ * cdel / (RZ + ht)
 }
 
-fn secant(sphe: f32) -> f32
+pub fn secant(sphe: f32) -> f32
     ensures { result ≡ secp_of sphe }
 {
     1.0 / scalar::sqrt(1.0 - sphe * sphe)
@@ -167,8 +165,7 @@ fn settled(fob2: f32, fob1: f32) -> bool
 }
 
 // At least one round; no more after a change of at most 0.1 MHz, nor after the fifth.
-// Stays: the loop whose `break` hands out the frequency is the Rust's form, kept by a rule of the
-// project.
+// Stays: the loop whose `break` hands out the frequency is a form that the paper names.
 pub fn rounds(p: Ray, start: Round) -> Round
     ensures { result ≡ rounds_of p 5 start }
 {
@@ -185,10 +182,5 @@ pub fn rounds(p: Ray, start: Round) -> Round
             break t.fob;
         }
     };
-    Round {
-        sphe: t.sphe,
-        fob,
-        del: t.del,
-        hp: t.hp,
-    }
+    Round { fob, ..t }
 }

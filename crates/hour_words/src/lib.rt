@@ -39,13 +39,13 @@ fn head_into(h: MufHour, out: &mut [u32])
     let x = [
         h.emuf, h.f1muf, h.f2muf, h.esmuf, h.allmuf, h.fot, h.hpf, h.angmuf,
     ];
-    let modmuf = h.modmuf;
-    let ks = h.ks;
     port_state::floats_into(&x, out, 0);
-    out[8] = port_state::word(modmuf);
-    out[9] = (ks % 0x1_0000_0000) as u32;
+    out[8] = port_state::word(h.modmuf);
+    out[9] = port_state::count(h.ks);
 }
 
+// Stays: the four lines written out, since each call of `line_into` asks that its words are there, and a loop over the lines would
+// have to carry that, and what the lines before left.
 pub fn hour_into(h: MufHour, out: &mut [u32])
     requires { 54 ≤ length out.old }
     ensures { out.new ≡ hour_into h out.old }

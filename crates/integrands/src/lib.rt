@@ -1,6 +1,6 @@
 // What the forty densities of the Gauss rule come to: each over the squared frequency, cut, and 1 over
-// the root of what it leaves of 1. Forty at a time, in loops that the compiler makes vector
-// instructions of.
+// the root of what it leaves of 1. Each step is a loop of its own over all forty, so that the compiler
+// makes vector instructions of the differences and of the divisions of 1.
 #![tactic(auto)]
 
 ghost use Rattle.std.specs.Prelude.{◌≡◌, map};
@@ -9,6 +9,7 @@ ghost use Rattle.scalar.specs.Literals.{f1};
 ghost use Rattle.integrands.specs.Integrands.{share_of, integrand_of};
 
 // Each density becomes its share of `fr`, cut at 0.9999; a NaN becomes 0.9999.
+// Stays: three loops of a line each, here and below; a shared one would be handed its line, and be longer.
 pub fn shares(densities: &mut [f32; 40], fr: f32)
     ensures { densities.new ≡ map (λ d. share_of d fr) densities.old }
 {

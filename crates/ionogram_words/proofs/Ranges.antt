@@ -1,41 +1,25 @@
 -- An angle count is at most 40 and a controlling slot at most 2, so that each is a word.
 use mathlib.Core.Bool.{Bool, true, false, cond}
-use Prim.Native.Nat.{ℕ, zero, suc, ◌+◌, ◌-◌, ◌≤◌}
+use Prim.Native.Nat.{ℕ, ◌-◌, ◌≤◌}
 use native.Mathlib.Omega.{arith}
 use lib.Dec.{eqb}
 use lib.Ieee.{Float}
 use lib.ListN.{get_or}
-use Rattle.scalar.specs.F32.{◌-f◌, ◌<f◌, ◌>f◌, ◌≥f◌, at}
-use Rattle.scalar.specs.Literals.{f0, f0_01, f8_5, f10}
+use Rattle.scalar.specs.F32.{◌-f◌, ◌<f◌, ◌>f◌, at}
+use Rattle.scalar.specs.Literals.{f0, f0_01}
 use Rattle.scalar.specs.Scalar.{abs_of}
 use Rattle.layers.specs.declared.IonoState.{IonoState}
-use Rattle.scan_angles.specs.Angles.{ANG, NANGX, distance_step_of, raised_by, raised_from, angle_count_by, angle_count_of, scan_by, sang_of, scan_value}
+use Rattle.scan_angles.specs.Angles.{NANGX, distance_step_of, scan_by, sang_of}
+use Rattle.answer_words.specs.Words.{number_in}
 use Rattle.selmod.specs.Selmod.{slot_if, selmod_of}
+use Rattle.scan_angles.proofs.Forty.{count-most}
 use Rattle.scan_angles.proofs.Counts.{step_range, nangx-range}
 
-raised_by_lem : (b : Bool) (n m : ℕ) → n ≤ 40 → m ≤ 40 → raised_by b n m ≤ 40
-raised_by_lem true n m p q = p
-raised_by_lem false n m p q = q
-
-raised-range : (amind : Float) (n i : ℕ) → i + n ≤ 40 → raised_from amind n i ≤ 40
-unfolding raised_from
-raised-range amind zero i h = omega arith
-raised-range amind (suc n) i h = raised_by_lem (at ANG i -f f8_5 -f amind ≥f f0) (i + 1) (raised_from amind n (i + 1)) (omega arith) (raised-range amind n (i + 1) (omega arith))
-
-count_by : (b c : Bool) (amind : Float) (iang : ℕ) → iang ≤ 40 → angle_count_by b c amind iang ≤ 40
-count_by true true amind iang h = raised-range amind 40 0 (omega arith)
-count_by true false amind iang h = h
-count_by false c amind iang h = h
-
-count-range : (amind : Float) (iang : ℕ) → iang ≤ 40 → angle_count_of amind iang ≤ 40
-unfolding angle_count_of
-count-range amind iang h = count_by (amind >f f0) (at ANG (iang - 1) -f f10 -f amind <f f0) amind iang h
-
-scan-by : (b : Bool) (amind : Float) (id : ℕ) → id ≤ 8 → scan_value (scan_by b amind id) ≤ 40
+scan-by : (b : Bool) (amind : Float) (id : ℕ) → id ≤ 8 → number_in (scan_by b amind id) ≤ 40
 scan-by true amind id h = omega arith
-scan-by false amind id h = count-range amind (get_or NANGX (id - 1) 0) (nangx-range (id - 1) (omega arith)).1
+scan-by false amind id h = count-most amind (get_or NANGX (id - 1) 0) (nangx-range (id - 1) (omega arith)).1
 
-pub angles-range : (gcdkm amind : Float) → scan_value (sang_of gcdkm amind) ≤ 40
+pub angles-range : (gcdkm amind : Float) → number_in (sang_of gcdkm amind) ≤ 40
 unfolding sang_of
 angles-range gcdkm amind = scan-by (eqb (distance_step_of gcdkm) 0) amind (distance_step_of gcdkm) (step_range gcdkm)
 

@@ -1,11 +1,12 @@
 -- `sang` on words: refused with 1 where no word is lent for the count; a refused call leaves every word.
-use Rattle.std.specs.Prelude.{Bool, true, false, Result, List, ℕ, ltb, eqb, length, set}
+use Rattle.std.specs.Prelude.{Bool, true, false, Result, List, ℕ, ltb, length}
 use Rattle.std.specs.Float.{binary32}
 use Rattle.std.specs.Float.Ieee.{of_bits}
 use Rattle.refusal.specs.declared.Refusal.{Refusal}
 use Rattle.port_state.specs.Ports.{Ported, refused_with}
 use Rattle.refusal.specs.Number.{answer_number}
-use Rattle.scan_angles.specs.Angles.{sang_of, scan_value}
+use Rattle.answer_words.specs.Words.{number_left}
+use Rattle.scan_angles.specs.Angles.{sang_of}
 
 -- has the slice fewer words than its layout
 abbrev pub short : List ℕ → ℕ → Bool
@@ -15,13 +16,8 @@ abbrev pub unless_short : Bool → List ℕ → Ported → Ported
 unless_short true w a = refused_with Refusal.Length w
 unless_short false w a = a
 
--- answered: the count is written
-abbrev pub count_by : Bool → ℕ → List ℕ → List ℕ
-count_by true n out = set out 0 n
-count_by false n out = out
-
 abbrev pub scan_into : Result ℕ Refusal → List ℕ → Ported
-scan_into a out = record { number = answer_number a; words = count_by (eqb (answer_number a) 0) (scan_value a) out }
+scan_into a out = record { number = answer_number a; words = number_left a out }
 
 unfoldable pub sang_words : ℕ → ℕ → List ℕ → Ported
 sang_words gcdkm amind out = unless_short (short out 1) out (scan_into (sang_of (of_bits binary32 gcdkm) (of_bits binary32 amind)) out)

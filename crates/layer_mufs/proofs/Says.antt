@@ -24,7 +24,7 @@ use Rattle.layer_mufs.specs.Lines.{f2_heights_with, bent_of, both_by, deviations
 use Rattle.e_lines.specs.Says.{LineIs}
 use Rattle.layer_mufs.specs.Says.{first_refusal_number, DeviationsSay, F2Says, F1Says}
 use Rattle.layer_mufs.specs.declared.PathNumbers.{PathNumbers}
-use Rattle.tangents.specs.declared.Tangents.{Tangents}
+use Rattle.tangents.specs.declared.F2Tangent.{F2Tangent}
 use Rattle.e_lines.specs.declared.HeightPair.{HeightPair}
 use Rattle.layer_mufs.specs.declared.Deviations.{Deviations}
 
@@ -41,12 +41,12 @@ bent-by : (sig : Result Deviations Refusal) (b : Round) (ht fx2 xhops : Float) �
 bent-by (Ok sig) b ht fx2 xhops = (refl, refl)
 bent-by (Err r) b ht fx2 xhops = (refl, rw (no_answer r))
 
-f2-by : (g : Result HopGeometry Refusal) (l : Slot) (h : HeightPair) (x : Tangents) (f2d : List Float) (clat clck : Float) (c : PathNumbers) → let b = bent_of l.fi2 x.fx2 h (geometry_value g) in let sig = deviations_of f2d b.fob c.ssn clat clck in LineIs (f2_line_by g l h x f2d clat clck c) (first_refusal_number (answer_number g) (answer_number sig)) (layer_line_of (lower_value sig) (upper_value sig) b.del b.hp h.ht x.fx2 (geometry_value g).xhops b.fob)
+f2-by : (g : Result HopGeometry Refusal) (l : Slot) (h : HeightPair) (x : F2Tangent) (f2d : List Float) (clat clck : Float) (c : PathNumbers) → let b = bent_of l.fi2 x.fx2 h (geometry_value g) in let sig = deviations_of f2d b.fob c.ssn clat clck in LineIs (f2_line_by g l h x f2d clat clck c) (first_refusal_number (answer_number g) (answer_number sig)) (layer_line_of (lower_value sig) (upper_value sig) b.del b.hp h.ht x.fx2 (geometry_value g).xhops b.fob)
 unfolding f2_bent_of
 f2-by (Ok g) l h x f2d clat clck c = let b = bent_of l.fi2 x.fx2 h g in bent-by (deviations_of f2d b.fob c.ssn clat clck) b h.ht x.fx2 g.xhops
 f2-by (Err r) l h x f2d clat clck c = (rw (no_answer r), rw (no_answer r, no_answer r))
 
-pub f2-says : (r : Result LayerMuf Refusal) (t : IonoState) (l : Slot) (x : Tangents) (f2d : List Float) (clat clck : Float) (c : PathNumbers) → r ≡ f2_line_of t l x f2d clat clck c → F2Says r t l x f2d clat clck c
+pub f2-says : (r : Result LayerMuf Refusal) (t : IonoState) (l : Slot) (x : F2Tangent) (f2d : List Float) (clat clck : Float) (c : PathNumbers) → r ≡ f2_line_of t l x f2d clat clck c → F2Says r t l x f2d clat clck c
 unfolding f2_line_with F2Says
 f2-says r t l x f2d clat clck c e = let h = f2_heights_with gethp_of t l x in rw e (f2-by (geometry_of c.gcdkm c.amind h.hp h.ht false) l h x f2d clat clck c)
 

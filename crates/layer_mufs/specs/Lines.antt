@@ -18,13 +18,13 @@ use Rattle.layers.specs.declared.LayerMuf.{LayerMuf}
 use Rattle.slot_curves.specs.declared.Slot.{Slot}
 use Rattle.e_lines.specs.Lines.{tenth_of, layer_line_of, read_with}
 use Rattle.layer_mufs.specs.declared.PathNumbers.{PathNumbers}
-use Rattle.tangents.specs.declared.Tangents.{Tangents}
+use Rattle.tangents.specs.declared.F2Tangent.{F2Tangent}
 use Rattle.e_lines.specs.declared.HeightPair.{HeightPair}
 use Rattle.layer_mufs.specs.declared.Deviations.{Deviations}
 
 -- the F2 layer
 
-unfoldable pub parabolic_of : Slot → Tangents → HeightPair
+unfoldable pub parabolic_of : Slot → F2Tangent → HeightPair
 parabolic_of l x =
     record {
       hp = l.hi2 -f l.yi2 +f bendy_at l.fi2 l.yi2 x.fx2 +f (pen_at l.fi0 l.yi0 x.fx2 -f f2 *f l.yi0);
@@ -32,12 +32,12 @@ parabolic_of l x =
     }
 
 -- iedp < 0, fi1 > 0: a NaN counts as no F1 here
-abbrev pub f2_heights_by : Bool → Bool → Finder → IonoState → Slot → Tangents → HeightPair
+abbrev pub f2_heights_by : Bool → Bool → Finder → IonoState → Slot → F2Tangent → HeightPair
 f2_heights_by true f1 find t l x = read_with find t x.fx2
 f2_heights_by false true find t l x = read_with find t x.fx2
 f2_heights_by false false find t l x = parabolic_of l x
 
-unfoldable pub f2_heights_with : Finder → IonoState → Slot → Tangents → HeightPair
+unfoldable pub f2_heights_with : Finder → IonoState → Slot → F2Tangent → HeightPair
 f2_heights_with find t l x = f2_heights_by (profile_only t) (l.fi1 >f f0) find t l x
 
 -- the rounds from the first pass on; they read neither angle nor height of their start
@@ -74,16 +74,16 @@ f2_bent_by (Err r) b ht2 fx2 xhops = Err r
 unfoldable pub f2_bent_of : List Float → Round → Float → Float → Float → Float → Float → Float → Result LayerMuf Refusal
 f2_bent_of f2d b ht2 fx2 xhops ssn clat clck = f2_bent_by (deviations_of f2d b.fob ssn clat clck) b ht2 fx2 xhops
 
-abbrev pub f2_line_by : Result HopGeometry Refusal → Slot → HeightPair → Tangents → List Float → Float → Float → PathNumbers → Result LayerMuf Refusal
+abbrev pub f2_line_by : Result HopGeometry Refusal → Slot → HeightPair → F2Tangent → List Float → Float → Float → PathNumbers → Result LayerMuf Refusal
 f2_line_by (Ok g) l h x f2d clat clck c = f2_bent_of f2d (bent_of l.fi2 x.fx2 h g) h.ht x.fx2 g.xhops c.ssn clat clck
 f2_line_by (Err r) l h x f2d clat clck c = Err r
 
-unfoldable pub f2_line_with : Finder → IonoState → Slot → Tangents → List Float → Float → Float → PathNumbers → Result LayerMuf Refusal
+unfoldable pub f2_line_with : Finder → IonoState → Slot → F2Tangent → List Float → Float → Float → PathNumbers → Result LayerMuf Refusal
 f2_line_with find t l x f2d clat clck c =
     let h = f2_heights_with find t l x in
     f2_line_by (geometry_of c.gcdkm c.amind h.hp h.ht false) l h x f2d clat clck c
 
-abbrev pub f2_line_of : IonoState → Slot → Tangents → List Float → Float → Float → PathNumbers → Result LayerMuf Refusal
+abbrev pub f2_line_of : IonoState → Slot → F2Tangent → List Float → Float → Float → PathNumbers → Result LayerMuf Refusal
 f2_line_of = f2_line_with gethp_of
 
 -- the F1 layer

@@ -15,7 +15,7 @@ use Rattle.e_lines.specs.Lines.{layer_line_of, read_with}
 use Rattle.e_lines.specs.Says.{LineIs}
 use Rattle.layer_mufs.specs.Lines.{f2_heights_with, bent_of, deviations_of, lower_value, upper_value, f1_found_of}
 use Rattle.layer_mufs.specs.declared.PathNumbers.{PathNumbers}
-use Rattle.tangents.specs.declared.Tangents.{Tangents}
+use Rattle.tangents.specs.declared.F2Tangent.{F2Tangent}
 use Rattle.layer_mufs.specs.declared.Deviations.{Deviations}
 
 -- the number of two steps of which the second is taken where the first answers
@@ -32,7 +32,7 @@ DeviationsSay r f2d f2muf ssn clat clck =
     × (upper_value r ≡ cond (eqb number 0) (max_of (deviation_value high) f0_01) f0)
 
 -- the F2 line: its hops, then its deviations
-unfoldable pub F2Says : Result LayerMuf Refusal → IonoState → Slot → Tangents → List Float → Float → Float → PathNumbers → Type 0
+unfoldable pub F2Says : Result LayerMuf Refusal → IonoState → Slot → F2Tangent → List Float → Float → Float → PathNumbers → Type 0
 F2Says r t l x f2d clat clck c =
     let h = f2_heights_with gethp_of t l x in
     let g = geometry_of c.gcdkm c.amind h.hp h.ht false in

@@ -11,7 +11,7 @@ use hops::{HopGeometry, Ray, Round};
 use layers::{IonoState, LayerMuf};
 use refusal::Refusal;
 use slot_curves::Slot;
-use tangents::Tangents;
+use tangents::F2Tangent;
 
 // The numbers of a circuit: path length in radians and in kilometres, least takeoff angle in
 // degrees, sunspot number.
@@ -31,7 +31,8 @@ pub struct Deviations {
 }
 
 // Parabolic F2 over a parabolic E layer.
-fn parabolic(l: Slot, x: Tangents) -> HeightPair
+// Stays: `hp` is as `virtual_by_parabola` of sounding_rows; the Rust writes it out in each of its two modules.
+fn parabolic(l: Slot, x: F2Tangent) -> HeightPair
     ensures { result ≡ parabolic_of l x }
 {
     let bend = parabolas::bendy_at(l.fi2, l.yi2, x.fx2);
@@ -44,13 +45,10 @@ fn parabolic(l: Slot, x: Tangents) -> HeightPair
 }
 
 // By parabolas only if F1 is missing: the closed form is of E and F2 alone.
-fn f2_heights(t: IonoState, l: Slot, x: Tangents) -> HeightPair
+fn f2_heights(t: IonoState, l: Slot, x: F2Tangent) -> HeightPair
     ensures { result ≡ f2_heights_with gethp_of t l x }
 {
-    if layers::profile_only(t) {
-        return HeightPair::from(heights::gethp(t, x.fx2));
-    }
-    if l.fi1 > 0.0 {
+    if layers::profile_only(t) || l.fi1 > 0.0 {
         return HeightPair::from(heights::gethp(t, x.fx2));
     }
     parabolic(l, x)
@@ -121,7 +119,7 @@ fn f2_bent(
 pub fn f2_line(
     t: IonoState,
     l: Slot,
-    x: Tangents,
+    x: F2Tangent,
     f2d: &[f32],
     clat: f32,
     clck: f32,

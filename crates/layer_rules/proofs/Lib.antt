@@ -1,2 +1,4 @@
 -- How many points are taken.
 pub mod Counts
+-- A row stored.
+pub mod Rows

@@ -16,9 +16,7 @@ pub fn set_row(mut table: [f32; 15], k: usize, row: [f32; 3]) -> [f32; 15]
     requires { k < 5 }
     ensures { result ≡ row_set table k row }
 {
-    table[3 * k] = row[0];
-    table[3 * k + 1] = row[1];
-    table[3 * k + 2] = row[2];
+    table[3 * k..3 * k + 3].copy_from_slice(&row);
     table
 }
 

@@ -3,12 +3,28 @@
 // into slots by `ionset` (crate `slots`).
 #![tactic(auto)]
 
-ghost use Rattle.std.specs.Prelude.{◌≡◌};
+ghost use Rattle.std.specs.Prelude.{◌≡◌, ◌<◌, IfOk};
+ghost use Rattle.layers.specs.Slots.{slot_number_of};
 ghost use Rattle.layers.specs.State.{profile_only, zero_state, with_iedp, with_ielect, with_exact};
+
+use refusal::Refusal;
 
 pub mod owners;
 
+// A slot's number, of three; above 2 it is refused.
+#[tactic(auto, unfolding(crate::specs::Slots::slot_number_of))]
+pub fn slot_number(k: usize) -> Result<(), Refusal>
+    ensures value { result ≡ slot_number_of k }
+    ensures within { IfOk result (λ u. k < 3) }
+{
+    if k > 2 {
+        return Err(Refusal::SlotNumber);
+    }
+    Ok(())
+}
+
 // The regular layers over a control point: in each list E first, then F1, then F2.
+// Stays: fi, yi and hi side by side are the Rust's record, lent to callers by columns.
 #[derive(Clone, Copy, Debug, PartialEq)]
 pub struct LayerParams {
     // critical frequency in MHz; an F1 of 0 is no F1
@@ -29,6 +45,7 @@ pub struct EsParams {
 }
 
 // Whose profile a state has: nobody's, a slot's, or one supplied from outside.
+// Stays: nobody is one of the cases, with a number of its own, and no `Option`.
 #[derive(Clone, Copy, Debug, PartialEq, Eq)]
 pub enum Owner {
     None,
@@ -37,6 +54,8 @@ pub enum Owner {
 }
 
 // The tables are flat: `fi[3 * k + i]`, layer i of point or slot k, is the Rust's `fi[k][i]`.
+// Stays: three tables side by side, and htr beside fnsq, are the Rust's state, lent to callers by columns; and places are written as
+// 3 * k + i wherever the Rust writes its two indices, so that a reader finds them again.
 #[derive(Clone, Copy, Debug, PartialEq)]
 pub struct IonoState {
     pub fi: [f32; 15],
@@ -54,9 +73,12 @@ pub struct IonoState {
     pub htr_rises: bool,
     // the slots' `FSECV`; where a slot has no F1 `lecden` leaves its number alone
     pub fsecv: [f32; 3],
-    // below zero the profile alone gives heights, else tables and parabolas do where they can
+    // below zero the profile alone gives heights, else tables and parabolas do where they can.
+    // Stays: the Rust's number, of which only the sign is read.
     pub iedp: i32,
-    // set where the profile came from outside, which makes `lecden` do nothing
+    // set where the profile came from outside, which makes `lecden` do nothing.
+    // Stays: the Rust's, beside `owner`: while it is set the stored owner does not count, and must not
+    // change.
     pub ielect: bool,
     // whose profile it is, as stored: `owners::owner_of` says what counts
     pub owner: Owner,
@@ -65,7 +87,7 @@ pub struct IonoState {
 }
 
 // A layer's MUF line.
-#[derive(Clone, Copy, Debug, PartialEq)]
+#[derive(Clone, Copy, Debug, Default, PartialEq)]
 pub struct LayerMuf {
     pub sigl: f32,
     pub sigu: f32,
@@ -87,6 +109,8 @@ pub struct LayerMuf {
 }
 
 // Every number +0, nothing set.
+// Stays: of a list `Default` promises each element and no equation with the list, which the proof would
+// have to make of each; the zeros are shorter.
 pub fn zero_state() -> IonoState
     ensures { result ≡ zero_state }
 {
@@ -108,7 +132,8 @@ pub fn zero_state() -> IonoState
 }
 
 // The shape that a circuit file asks for, or an INTEGRATE card.
-// Stays: three setters, here and below, of one line each; one for all would have to be told the field.
+// Stays: five setters, here, in `owners` and in crate `losses`, of one line each; one for all would have
+// to be told the field.
 pub fn with_iedp(mut s: IonoState, iedp: i32) -> IonoState
     ensures { result ≡ with_iedp s iedp }
 {

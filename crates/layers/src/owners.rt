@@ -20,6 +20,7 @@ impl From<Owner> for u32 {
 }
 
 // The slot's number, 0 beside the others.
+// Stays: a number, since callers in C have the two side by side, and this is what they are handed.
 pub fn slot(o: Owner) -> usize
     ensures { result ≡ owner_slot o }
 {

@@ -6,6 +6,7 @@ ghost use Rattle.line_words.specs.Lines.{line_of_words, lines_of_words};
 
 use layers::LayerMuf;
 
+// Stays: words and a place in them, as callers in C lend the four lines.
 fn line_of(w: &[u32], i: usize) -> LayerMuf
     requires { i + 11 ≤ length w.now }
     ensures { result ≡ line_of_words w.now i }
@@ -25,6 +26,8 @@ fn line_of(w: &[u32], i: usize) -> LayerMuf
     }
 }
 
+// Stays: the calls written out. An array's `map` over the four places asks at each of its calls that eleven words follow the place,
+// and the closure would have to carry what each place is asked to be.
 pub fn lines_of(w: &[u32]) -> [LayerMuf; 4]
     requires { 44 ≤ length w.now }
     ensures { result ≡ lines_of_words w.now }

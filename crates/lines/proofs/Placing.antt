@@ -7,6 +7,7 @@ use lib.ListN.{set, length-append}
 use Rattle.std.proofs.lemmas.List.{append-nil, take_all, take_more_set, length-take-le}
 use lib.Seq.{take-suc}
 use Rattle.lines.specs.Text.{joined, with_text}
+use lib.Seq.{take-nil}
 
 -- what there is room for of two texts is what there is room for of the first, and of the second after that
 room_then : (n : ℕ) (t u : List ℕ) → take n t ++ take (n - length (take n t)) u ≡ take n (t ++ u)
@@ -29,14 +30,10 @@ put_then n page t u p q =
 pub put_both : (n : ℕ) (page t u : List ℕ) → with_text n (with_text n page t) u ≡ with_text n page (t ++ u)
 put_both n page t u = put_then n page t u refl refl
 
-take_none : (n : ℕ) → take {A = ℕ} n [] ≡ []
-take_none zero = refl
-take_none (suc n) = refl
-
 -- no text
 pub put_none : (n : ℕ) (page : List ℕ) → with_text n page [] ≡ page
 unfolding with_text
-put_none n page = rw (take_none (n - length page)) (append-nil page)
+put_none n page = rw (take-nil (n - length page)) (append-nil page)
 
 -- a byte that has room, and one that has none, where the page is the first `len` of the bytes
 pub put_room : (n len : ℕ) (bytes : List ℕ) (b : ℕ) → length bytes ≡ n → len < n → take (len + 1) (set bytes len b) ≡ with_text n (take len bytes) (b ∷ [])
@@ -44,7 +41,7 @@ unfolding with_text
 put_room n len bytes b e h =
     let k : length (take len bytes) ≡ len = length-take-le len bytes (omega arith) in
     let m : n - length (take len bytes) ≡ suc (n - len - 1) = omega arith in
-    rw m (take_more_set bytes len b (omega arith) ∙ ap (λ (x : List ℕ). take len bytes ++ b ∷ x) (sym (take_none (n - len - 1))))
+    rw m (take_more_set bytes len b (omega arith) ∙ ap (λ (x : List ℕ). take len bytes ++ b ∷ x) (sym (take-nil (n - len - 1))))
 
 pub put_full : (n len : ℕ) (bytes : List ℕ) (b : ℕ) → length bytes ≡ n → len ≤ n → n ≤ len → take len bytes ≡ with_text n (take len bytes) (b ∷ [])
 unfolding with_text

@@ -24,6 +24,8 @@ static EIGHTHS: [u64; 9] = [
     49946518145322873,
 ];
 
+// Stays: a function for each table, as `exponential::sixteenth` and those of `arc_entries`, which tells a caller the definition's
+// entry; a shared one would have each caller's proof open its whole table.
 #[tactic(auto, unfolding(crate::specs::Tables::eighths))]
 fn eighth(i: u64) -> u64
     requires { i < 9 }
@@ -41,8 +43,8 @@ fn excess(s: u64) -> u64
     u / 3 + u * u / 0x4_0000_0000 / 5
 }
 
-// Stays: n and d are the two numbers of a quotient, and no pair that is kept.
 // ln ((d + n) / (d - n)) in units of 2^-56. The quotient n / d has as many places as fit: it is in units of 2^-l.
+// Stays: n and d are the two numbers of a quotient, and no pair that is kept.
 fn twice(n: u64, d: u64) -> u64
     requires { (n ≤ 2 ^ 19) × (2 ^ 24 ≤ d) }
     ensures { result ≡ twice_of n d }
@@ -56,16 +58,6 @@ fn twice(n: u64, d: u64) -> u64
     ((q + q * g / 0x4_0000_0000) * 0x10_0000) >> (l - 37)
 }
 
-// a small function of its own, so that it compiles to no branch: which of the two is larger cannot be foreseen
-fn distance(m: u64, c: u64) -> u64
-    ensures { result ≡ pick (leb c m) (m - c) (c - m) }
-{
-    if c <= m {
-        return m - c;
-    }
-    c - m
-}
-
 // ln (m / 2^23) in units of 2^-56
 // Stays: that m has 24 digits is asked of three functions of this file, each of which reads it as a number; a type for it would
 // be made at three calls and opened at as many.
@@ -76,7 +68,7 @@ fn rest(m: u64) -> u64
     let i = (m - 7864320) / 0x10_0000;
     let c = (8 + i) * 0x10_0000;
     let y = eighth(i);
-    let a = twice(distance(m, c), m + c);
+    let a = twice(m.abs_diff(c), m + c);
     if c <= m {
         return y + a;
     }

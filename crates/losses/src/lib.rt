@@ -1,9 +1,9 @@
 // `alosfv`: a factor of deviative loss for each of an ionogram's thirty rows. A layer's own rows
 // have zero up to the true height at its MUF; the two rows of a cusp between layers have one at any
 // height.
-// Stays: names, order and grouping of the numbers are the Rust's, and a row is two heights lent apart,
-// since an ionogram handed down for each would be copied each time. A loop over rows reads two columns
-// at a row and writes a third.
+// Stays: s, k, ion and layers are the Rust's own parameters, and a row is two heights handed on apart, since
+// an ionogram handed down for each would be copied each time. A loop over rows reads two columns at a row
+// and writes a third.
 #![tactic(auto)]
 
 ghost use Rattle.std.specs.Prelude.{◌≡◌, ◌+◌, ◌<◌, ◌≤◌};
@@ -62,6 +62,7 @@ fn e_loss(cf: f32, htrue: f32, hprim: f32, htmuf: f32, hm: f32, d: Decay) -> Los
     }
 }
 
+// Stays: apart from `tail_rows`, since E's rows take no floor.
 fn e_rows(f: Factors, ion: Ionogram, l: LayerMuf, d: Decay) -> Factors
     ensures { result ≡ e_rows f ion l d 10 }
 {
@@ -183,6 +184,7 @@ fn above(f: Factors, s: IonoState, k: usize, ion: Ionogram, layers: [LayerMuf; 4
     with_f1(f, ion, l1, l2, s.yi[i1], s.yi[i2])
 }
 
+// Stays: not `scalar::max`, which answers otherwise at a NaN.
 fn not_below_zero(a: f32) -> f32
     ensures { result ≡ not_below_zero a }
 {
@@ -231,8 +233,6 @@ pub fn alosfv(
 ) -> Result<Ionogram, Refusal>
     ensures { result ≡ alosfv_answer s k ion layers }
 {
-    if k > 2 {
-        return Err(Refusal::SlotNumber);
-    }
+    layers::slot_number(k)?;
     Ok(alosfv_slot(s, k, ion, layers))
 }

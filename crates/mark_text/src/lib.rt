@@ -10,6 +10,8 @@ ghost use Rattle.mark_text.specs.MarkText.{mark_line, marks_text};
 use lines::Page;
 use shapes::Mark;
 
+// Stays: a mark has two words, its name here and another in pictures (`svg_text`); a `From`, which would have to stand in `shapes`,
+// would not say which of them it gives.
 #[tactic(auto, unfolding(shapes::specs::Mark::name_of))]
 fn name(m: Mark) -> &'static [u8]
     ensures { result.now ≡ name_of m }

@@ -5,7 +5,7 @@ use mathlib.Core.List.{List, [], ◌∷◌}
 use native.Mathlib.Omega.{arith}
 use lib.ListN.{length, take, drop}
 use lib.Seq.{take-take, take-nil}
-use Rattle.records.proofs.Lists.{rest}
+use Rattle.std.proofs.lemmas.List.{take_rest}
 use Rattle.marking.specs.Marked.{sheet_marked}
 
 -- the file and the rest of an input
@@ -15,7 +15,7 @@ pub parts : (n : ℕ) (input : List ℕ)
 parts n input =
     let e : 4 + n - 4 ≡ n = omega arith in
     ap (λ (k : ℕ). sheet_marked (take k (drop 4 input)) (take (length input - (4 + n)) (drop (4 + n) input))) e
-    ∙ ap (sheet_marked (take n (drop 4 input))) (rest (4 + n) input)
+    ∙ ap (sheet_marked (take n (drop 4 input))) (take_rest input (4 + n))
 
 -- a part of a list's beginning
 pub part_of : (a k m : ℕ) (l : List ℕ) → a + k ≤ m → take k (drop a (take m l)) ≡ take k (drop a l)

@@ -1,5 +1,5 @@
 // A marking as a word.
-// Stays: words lent and a number answered, as callers in C have them.
+// Stays: a word lent for what is answered, as callers in C have it.
 #![tactic(auto)]
 
 ghost use Rattle.std.specs.Prelude.{◌≡◌, ◌≤◌, length};
@@ -8,14 +8,12 @@ ghost use Rattle.marking_words.specs.Words.{SmallLine, marking_into};
 
 use refusal::Refusal;
 
-// out: the number of the first line that is not ours, 0 where the sheet is the same. A refusal's
-// number is answered, and nothing is written.
-pub fn marking_into(m: Result<Option<u64>, Refusal>, out: &mut [u32]) -> u32
+// out: the number of the first line that is not ours, 0 where the sheet is the same; where it is
+// refused, nothing is written.
+pub fn marking_into(m: Result<Option<u64>, Refusal>, out: &mut [u32]) -> Result<(), Refusal>
     requires { (1 ≤ length out.old) × SmallLine m }
-    ensures { (result ≡ answer_number m) × (out.new ≡ marking_into m out.old) }
+    ensures { (answer_number result ≡ answer_number m) × (out.new ≡ marking_into m out.old) }
 {
-    if let Ok(line) = m {
-        out[0] = line.unwrap_or(0) as u32;
-    }
-    refusal::answer_number(&m)
+    out[0] = m?.unwrap_or(0) as u32;
+    Ok(())
 }

@@ -25,7 +25,7 @@ use Rattle.layer_mufs.specs.declared.PathNumbers.{PathNumbers}
 use Rattle.sporadic.specs.Sporadic.{ray_of, taken_by, taken_of, hop_by, row_by, es_row_of, start_of, next_by, es_from, es_line_by, es_line_of, row_at, es_found_of}
 use Rattle.muf_domain.specs.Domain.{in_domain, lists_reach, taken_rows_by, taken_rows, row_count_of}
 use Rattle.muf.specs.Curmuf.{es_by, regular_by, regular_with, muf_at_slot_with, muf_from_search_by, muf_from_search_with, muf_of_rows_with, flat_with, flat_of, rewrite_by, found_muf_of, RowBelow}
-use Rattle.sporadic.specs.declared.EsRow.{EsRow}
+use Rattle.layers.specs.declared.EsParams.{EsParams}
 use Rattle.sporadic.specs.declared.EsRay.{EsRay}
 use Rattle.sporadic.specs.declared.EsSearch.{EsSearch}
 use Rattle.muf.specs.declared.RegularLines.{RegularLines}
@@ -39,38 +39,38 @@ abbrev HeldStep : ℕ → Result EsSearch Refusal → Type 0
 HeldStep m (Ok a) = Held m a
 HeldStep m (Err r) = Unit {0}
 
-taken-by : (b : Bool) (m : ℕ) (a : EsSearch) (k : ℕ) (row : EsRow) (ray : EsRay) (hop esd : Float) → k < m → Held m a → Held m (taken_by b a k row ray hop esd)
+taken-by : (b : Bool) (m : ℕ) (a : EsSearch) (k : ℕ) (row : EsParams) (ray : EsRay) (hop esd : Float) → k < m → Held m a → Held m (taken_by b a k row ray hop esd)
 taken-by true m a k row ray hop esd h w = inl h
 taken-by false m a k row ray hop esd h w = w
 
-hop-by : (q : Result Float Refusal) (m : ℕ) (a : EsSearch) (k : ℕ) (row : EsRow) (c : PathNumbers) → k < m → Held m a → HeldStep m (hop_by q a k row c)
+hop-by : (q : Result Float Refusal) (m : ℕ) (a : EsSearch) (k : ℕ) (row : EsParams) (c : PathNumbers) → k < m → Held m a → HeldStep m (hop_by q a k row c)
 unfolding taken_of
 hop-by (Ok hop) m a k row c h w =
     let ray = ray_of row.hs hop c.gcd in
-    let esd = row.fs1 *f ray.secp in
+    let esd = at row.fs 1 *f ray.secp in
     taken-by (a.esmuf -f esd >f f0) m a k row ray hop esd h w
 hop-by (Err r) m a k row c h w = tt
 
-row-by : (b : Bool) (m : ℕ) (a : EsSearch) (k : ℕ) (row : EsRow) (c : PathNumbers) → k < m → Held m a → HeldStep m (row_by b a k row c)
+row-by : (b : Bool) (m : ℕ) (a : EsSearch) (k : ℕ) (row : EsParams) (c : PathNumbers) → k < m → Held m a → HeldStep m (row_by b a k row c)
 row-by true m a k row c h w = w
 row-by false m a k row c h w = hop-by (hops_of c.gcdkm c.amind row.hs) m a k row c h w
 
-row-held : (m : ℕ) (a : EsSearch) (k : ℕ) (row : EsRow) (c : PathNumbers) → k < m → Held m a → HeldStep m (es_row_of a k row c)
+row-held : (m : ℕ) (a : EsSearch) (k : ℕ) (row : EsParams) (c : PathNumbers) → k < m → Held m a → HeldStep m (es_row_of a k row c)
 unfolding es_row_of
-row-held m a k row c h w = row-by (row.fs1 ≤f f0) m a k row c h w
+row-held m a k row c h w = row-by (at row.fs 1 ≤f f0) m a k row c h w
 
 next-held : (m : ℕ) (q : Result EsSearch Refusal) (rest : EsSearch → Result EsSearch Refusal) → HeldStep m q → ((b : EsSearch) → Held m b → HeldStep m (rest b)) → HeldStep m (next_by q rest)
 next-held m (Ok b) rest w f = f b w
 next-held m (Err r) rest w f = tt
 
-from-held : (row : ℕ → EsRow) (c : PathNumbers) (m n k : ℕ) (a : EsSearch) → k + n ≤ m → Held m a → HeldStep m (es_from row c n k a)
+from-held : (row : ℕ → EsParams) (c : PathNumbers) (m n k : ℕ) (a : EsSearch) → k + n ≤ m → Held m a → HeldStep m (es_from row c n k a)
 unfolding es_from
 from-held row c m zero k a h w = w
 from-held row c m (suc n) k a h w =
     next-held m (es_row_of a k (row k) c) (λ b. es_from row c n (k + 1) b) (row-held m a k (row k) c (omega arith) w)
     (λ b v. from-held row c m n (k + 1) b (omega arith) v)
 
-all_held : (row : ℕ → EsRow) (c : PathNumbers) (n : ℕ) → HeldStep n (es_from row c n 0 start_of)
+all_held : (row : ℕ → EsParams) (c : PathNumbers) (n : ℕ) → HeldStep n (es_from row c n 0 start_of)
 unfolding start_of
 all_held row c n = from-held row c n n 0 start_of (omega arith) (inr refl)
 
@@ -106,7 +106,7 @@ done-by-below true true m s step f2d clat clck c w =
 done-by-below true false m s step f2d clat clck c w = tt
 done-by-below false b m s step f2d clat clck c w = tt
 
-pub done_below : (s : IonoState) (n : ℕ) (row : ℕ → EsRow) (f2d clat clck : List Float) (c : PathNumbers) → RowBelow n (rewrite_by (muf_of_rows_with gethp_of s n row f2d clat clck c))
+pub done_below : (s : IonoState) (n : ℕ) (row : ℕ → EsParams) (f2d clat clck : List Float) (c : PathNumbers) → RowBelow n (rewrite_by (muf_of_rows_with gethp_of s n row f2d clat clck c))
 unfolding muf_of_rows_with muf_from_search_with
 done_below s n row f2d clat clck c = done-by-below (in_domain c) (lists_reach (controlling_of s) (length f2d) (length clat) (length clck)) n s (es_from row c n 0 start_of) f2d clat clck c (all_held row c n)
 

@@ -41,7 +41,7 @@ pub regular-says : (r : Result RegularLines Refusal) (t : IonoState) (l : Slot) 
 unfolding regular_with RegularSays
 regular-says r t l f2d clat clck c e =
     let x = tangents_of l c.gcdkm in
-    let f2 = f2_line_of t l x f2d clat clck c in
+    let f2 = f2_line_of t l x.f2 f2d clat clck c in
     let f1 : LayerMuf → Result LayerMuf Refusal = λ m. f1_line_of t l x.fx1 m c.gcdkm c.amind in
     let last : LayerMuf → LayerMuf → Result RegularLines Refusal = λ m n. found_then (f1 m) (λ k. Ok (record { e = m; f1 = k; f2 = n })) in
     let lines : LayerMuf → LayerMuf → RegularLines = λ m n. record { e = m; f1 = line_value (f1 m); f2 = n } in

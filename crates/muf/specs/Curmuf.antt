@@ -17,7 +17,7 @@ use Rattle.layer_mufs.specs.Lines.{f2_line_with, f1_line_with}
 use Rattle.layer_mufs.specs.declared.PathNumbers.{PathNumbers}
 use Rattle.sporadic.specs.Sporadic.{start_of, row_at, es_from, es_line_of}
 use Rattle.muf.specs.Hour.{hour_of}
-use Rattle.sporadic.specs.declared.EsRow.{EsRow}
+use Rattle.layers.specs.declared.EsParams.{EsParams}
 use Rattle.muf.specs.declared.RegularLines.{RegularLines}
 use Rattle.muf.specs.declared.MufAnswer.{MufAnswer}
 use Rattle.muf.specs.declared.AnswerAndRow.{AnswerAndRow}
@@ -35,7 +35,7 @@ unfoldable pub regular_with : Finder → IonoState → Slot → List Float → F
 regular_with find t l f2d clat clck c =
     let x = tangents_of l c.gcdkm in
     found_then (e_line_with find t x.fxe c.gcdkm c.amind)
-    (λ e. found_then (f2_line_with find t l x f2d clat clck c)
+    (λ e. found_then (f2_line_with find t l x.f2 f2d clat clck c)
     (λ f2. found_then (f1_line_with find t l x.fx1 e c.gcdkm c.amind)
     (λ f1. Ok (record { e = e; f1 = f1; f2 = f2 }))))
 
@@ -83,7 +83,7 @@ abbrev pub muf_from_search_of : IonoState → Result EsSearch Refusal → List F
 muf_from_search_of = muf_from_search_with gethp_of
 
 -- n rows of Es, each as `row` gives it
-unfoldable pub muf_of_rows_with : Finder → IonoState → ℕ → (ℕ → EsRow) → List Float → List Float → List Float → PathNumbers → Result AnswerAndRow Refusal
+unfoldable pub muf_of_rows_with : Finder → IonoState → ℕ → (ℕ → EsParams) → List Float → List Float → List Float → PathNumbers → Result AnswerAndRow Refusal
 muf_of_rows_with find s n row f2d clat clck c = muf_from_search_with find s (es_from row c n 0 start_of) f2d clat clck c
 
 unfoldable pub flat_with : Finder → IonoState → List Float → List Float → List Float → List Float → PathNumbers → Result AnswerAndRow Refusal

@@ -21,7 +21,7 @@ unfoldable pub RegularSays : Result RegularLines Refusal → IonoState → Slot 
 RegularSays r t l f2d clat clck c =
     let x = tangents_of l c.gcdkm in
     let e = e_line_of t x.fxe c.gcdkm c.amind in
-    let f2 = f2_line_of t l x f2d clat clck c in
+    let f2 = f2_line_of t l x.f2 f2d clat clck c in
     let f1 = f1_line_of t l x.fx1 (line_value e) c.gcdkm c.amind in
     let number = first_refusal_number (answer_number e) (first_refusal_number (answer_number f2) (answer_number f1)) in
     (answer_number r ≡ number) × (regular_value r ≡ cond (eqb number 0) (record { e = line_value e; f1 = line_value f1; f2 = line_value f2 }) no_lines)

@@ -13,13 +13,13 @@ pub mod lent;
 
 use crate::lent::Numbers;
 use layer_mufs::PathNumbers;
-use layers::{IonoState, LayerMuf};
+use layers::{EsParams, IonoState, LayerMuf};
 use refusal::Refusal;
 use slot_curves::Slot;
-use sporadic::{EsRow, EsSearch, Rewrite};
+use sporadic::{EsSearch, Rewrite};
 
 // The lines of the regular layers.
-#[derive(Clone, Copy)]
+#[derive(Clone, Copy, Debug, PartialEq)]
 pub struct RegularLines {
     pub e: LayerMuf,
     pub f1: LayerMuf,
@@ -33,7 +33,7 @@ pub struct Mode {
     pub modmuf: i32,
 }
 
-#[derive(Clone, Copy)]
+#[derive(Clone, Copy, Debug, PartialEq)]
 pub struct MufHour {
     pub emuf: f32,
     pub f1muf: f32,
@@ -53,7 +53,7 @@ pub struct MufHour {
 }
 
 // The hour, and the state as `lecden` of the controlling slot left it.
-#[derive(Clone, Copy)]
+#[derive(Clone, Copy, Debug, PartialEq)]
 pub struct MufAnswer {
     pub hour: MufHour,
     pub state: IonoState,
@@ -109,6 +109,7 @@ fn hour(m: RegularLines, es: LayerMuf, ks: usize) -> MufHour
     }
 }
 
+// Stays: as `layers::zero_state`, since an hour has a list of lines.
 pub fn zero_hour() -> MufHour
     ensures { result ≡ zero_hour }
 {
@@ -143,13 +144,13 @@ fn regular_lines(
 {
     let x = tangents::tangent_frequencies(l, c.gcdkm);
     let e = e_lines::e_line(t, x.fxe, c.gcdkm, c.amind)?;
-    let f2 = layer_mufs::f2_line(t, l, x, f2d, clat, clck, c)?;
+    let f2 = layer_mufs::f2_line(t, l, x.f2, f2d, clat, clck, c)?;
     let f1 = layer_mufs::f1_line(t, l, x.fx1, e, c)?;
     Ok(RegularLines { e, f1, f2 })
 }
 
 // What is written into which row, once the hour is known.
-#[derive(Clone, Copy)]
+#[derive(Clone, Copy, Debug, PartialEq)]
 pub struct AnswerAndRow {
     pub answer: MufAnswer,
     pub rewrite: Option<Rewrite>,
@@ -211,15 +212,13 @@ pub fn muf_from_search<L: Numbers>(
 }
 
 // Row k of numbers that stand four a row.
-fn flat_row<L: Numbers>(es: L, k: usize) -> EsRow
+fn flat_row<L: Numbers>(es: L, k: usize) -> EsParams
     requires there { 4 * k + 3 < length (L.floats es) }
     requires fits { 4 * k + 3 < 2 ^ 64 }
     ensures { result ≡ row_at (L.floats es) k }
 {
-    EsRow {
-        fs0: es.number(4 * k),
-        fs1: es.number(4 * k + 1),
-        fs2: es.number(4 * k + 2),
+    EsParams {
+        fs: [es.number(4 * k), es.number(4 * k + 1), es.number(4 * k + 2)],
         hs: es.number(4 * k + 3),
     }
 }
@@ -242,7 +241,8 @@ pub fn flat<L: Numbers>(
 
 // The MUF hour; `es` holds four numbers a row: three of `fs`, then `hs`. Only the controlling row's
 // lower decile is rewritten.
-// Stays: s, es, f2d, clat and clck are the Rust's own parameters, in its order; c is its last four.
+// Stays: s, es, f2d, clat and clck are the Rust's own parameters, in its order; es is flat, four numbers a row, as words are, and the
+// Rust's records are crate `muf_records`; c is its last four.
 pub fn curmuf(
     s: IonoState,
     es: &mut [f32],

@@ -6,6 +6,8 @@ ghost use Rattle.muf_domain.specs.Domain.{within_of, in_domain, lists_reach, tak
 
 use layer_mufs::PathNumbers;
 
+// Stays: a range's `contains` answers by the library's partial order of floats, and needs a lemma of our own that this is `<=`; two
+// comparisons are as short.
 fn within(x: f32, top: f32) -> bool
     ensures { result ≡ within_of x top }
 {

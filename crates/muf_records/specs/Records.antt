@@ -6,14 +6,12 @@ use Rattle.layers.specs.declared.EsParams.{EsParams}
 use Rattle.heights.specs.Gethp.{Finder, gethp_of}
 use Rattle.layer_mufs.specs.declared.PathNumbers.{PathNumbers}
 use Rattle.muf.specs.Curmuf.{taken_rows, muf_of_rows_with, answer_by, rewrite_by}
-use Rattle.sporadic.specs.declared.EsRow.{EsRow}
 use Rattle.muf.specs.declared.MufAnswer.{MufAnswer}
 use Rattle.muf.specs.declared.AnswerAndRow.{AnswerAndRow}
-pub use Rattle.sporadic.specs.Sporadic.{as_es_row}
 pub use Rattle.es_records.specs.Records.{no_es, lower_rewritten, records_by}
 
-abbrev pub es_row_at : List EsParams → ℕ → EsRow
-es_row_at es k = as_es_row (get_or es k no_es)
+abbrev pub es_row_at : List EsParams → ℕ → EsParams
+es_row_at es k = get_or es k no_es
 
 -- `find` is the way of finding heights off the profile
 unfoldable pub records_answer_with : Finder → IonoState → List EsParams → List Float → List Float → List Float → PathNumbers → Result AnswerAndRow Refusal

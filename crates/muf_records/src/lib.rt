@@ -10,14 +10,14 @@ use layer_mufs::PathNumbers;
 use layers::{EsParams, IonoState};
 use muf::MufAnswer;
 use refusal::Refusal;
-use sporadic::{EsRow, EsSearch};
+use sporadic::EsSearch;
 
 // The rows in order, at most km of them.
 fn search(es: &[EsParams], km: usize, c: PathNumbers) -> Result<EsSearch, Refusal>
     ensures { result ≡ es_from (es_row_at es.now) c (taken_rows (length es.now) km) 0 start_of }
 {
     let n = muf_domain::rows_taken(es.len(), km);
-    sporadic::search(|k| EsRow::from(es[k]), n, c)
+    sporadic::search(|k| es[k], n, c)
 }
 
 // The MUF hour; records past km are not read. Only the controlling record's lower decile is

@@ -2,7 +2,7 @@
 #![tactic(auto)]
 
 use layer_mufs::PathNumbers;
-use layers::{EsParams, IonoState, LayerParams};
+use layers::{EsParams, IonoState};
 use muf::MufAnswer;
 use refusal::Refusal;
 
@@ -30,10 +30,7 @@ fn say_rows(es: [EsParams; 5]) {
 // The refusal's number or 0, the MUFs, the Es line's deciles and height, of +0 beside a refusal.
 fn print(answer: Result<MufAnswer, Refusal>) {
     let number = refusal::answer_number(&answer);
-    let hour = match answer {
-        Ok(a) => a.hour,
-        Err(_) => muf::zero_hour(),
-    };
+    let hour = answer.map_or(muf::zero_hour(), |a| a.hour);
     let line = hour.layers[3];
     io::print_decimal(1, number as u64);
     say(hour.allmuf);
@@ -57,16 +54,6 @@ fn lend(
     let answer = muf_records::curmuf_records(s, &mut es, f2d, clat, clck, c);
     print(answer);
     say_rows(es);
-}
-
-// km points, alike, as `ionset` leaves them.
-fn slots(km: usize) -> Result<IonoState, Refusal> {
-    let point = LayerParams {
-        fi: [2.75, 5.25, 12.25],
-        yi: [30.0, 39.0, 96.0],
-        hi: [107.0, 185.0, 205.0],
-    };
-    slots::ionset(slots::from_layers([point; 5], km)?)
 }
 
 fn row(fs0: f32, fs1: f32, fs2: f32, hs: f32) -> EsParams {
@@ -99,7 +86,7 @@ fn run(name: &[u8], km: usize, es: [EsParams; 5], gcdkm: f32) {
     let f2d = [0.0f32; 576];
     let clat = [0.7f32; 5];
     let clck = [12.0f32; 5];
-    match slots(km) {
+    match trial_slots::slots(km) {
         Ok(s) => lend(s, es, &f2d, &clat, &clck, circuit(gcdkm)),
         Err(r) => print(Err(r)),
     }

@@ -23,10 +23,11 @@ use Rattle.order.proofs.Sums.{add-key, total_mono}
 use Rattle.muf_domain.specs.Domain.{within_of}
 use Rattle.angles.proofs.Keys.{UpTo, Above, key-size, none-size, div-key, mul-key}
 use Rattle.angles.specs.Angles.{Small}
-use Rattle.angles.proofs.Angles.{sin-answers, cos-answers, and_both, zero-key, f0-fits, f0-finite, hop-constants, half-path, over-hops, gcd-up-to, gcdkm-up-to}
+use Rattle.angles.proofs.Angles.{sin-answers, cos-answers, zero-key, f0-fits, f0-finite, hop-constants, half-path, over-hops, gcd-up-to, gcdkm-up-to}
 use Rattle.nominal_factors.specs.Coefficients.{f225}
 use Rattle.nominal.specs.Nommuf.{hop_of, path_taken}
 use Rattle.nominal.specs.Angles.{nominal_psi, NominalNeverRefused13}
+use Rattle.std.proofs.lemmas.Bool.{and_parts}
 
 abbrev F : Float → Type 0
 F x = T (fits binary32 x)
@@ -166,7 +167,7 @@ psi-by (fin s m e) (fin t n d) h w o = over-hops (fin s m e) (fin t n d) h (reco
 psi-small : (gcd gcdkm hs : Float) → F gcd → F gcdkm → F hs → path_taken gcd gcdkm ≡ true → Small (nominal_psi gcd gcdkm hs)
 unfolding hop_of path_taken
 psi-small gcd gcdkm hs p q r e =
-    let w = and_both (within_of gcdkm f40100) (within_of gcd f6_3) e in
+    let w = and_parts (within_of gcdkm f40100) (within_of gcd f6_3) e in
     let v = root hs r in
     let d = f225 *f sqrt_of hs in
     let n = ratio gcdkm d (gcdkm-up-to gcdkm q w.0) (mul-fits binary32 f225 (sqrt_of hs)) (longest (sqrt_of hs) v.0 v.1) in

@@ -7,12 +7,12 @@ use lib.Dec.{eqb}
 use borrow.Author.Tests.{eqb-true}
 use Rattle.layer_rules.specs.Rules.{count_taken}
 use Rattle.layer_rules.proofs.Counts.{taken-five}
-use Rattle.angles.proofs.Angles.{and_both}
+use Rattle.std.proofs.lemmas.Bool.{and_parts}
 use Rattle.nominal_factors.specs.Factors.{counts_agree}
 
 pub agreed : (km f2m3s : ℕ) → counts_agree km f2m3s ≡ true → (km ≤ 5) × (km ≤ f2m3s)
 unfolding counts_agree
 agreed km f2m3s e =
-    let w = and_both (count_taken km) (eqb f2m3s km) e in
+    let w = and_parts (count_taken km) (eqb f2m3s km) e in
     let q = eqb-true f2m3s km w.1 in
     (taken-five km w.0, omega arith)

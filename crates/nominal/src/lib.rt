@@ -16,7 +16,7 @@ fn lowest_e(points: &[LayerParams]) -> f32
 {
     let mut ec = 1000.0;
     for p in points {
-        ec = nominal_factors::lower_e(ec, p.fi[0]);
+        ec = nominal_factors::lower(ec, p.fi[0]);
     }
     ec
 }
@@ -27,9 +27,9 @@ fn lowest_f2(points: &[LayerParams], f2m3: &[f32], flfc: f32) -> f32
     ensures { result ≡ f2muf_of points.now f2m3.now flfc (length points.now) }
 {
     let mut f2muf = 1000.0;
-    for (k, p) in points.iter().enumerate() {
-        let fmuf = nominal_factors::f2_at(p.fi[2], f2m3[k], flfc);
-        f2muf = nominal_factors::lower_f2(f2muf, fmuf);
+    for (p, x) in points.iter().zip(f2m3) {
+        let fmuf = nominal_factors::f2_at(p.fi[2], *x, flfc);
+        f2muf = nominal_factors::lower(f2muf, fmuf);
     }
     f2muf
 }
@@ -42,6 +42,8 @@ fn hop(gcdkm: f32, hs: f32) -> f32
 }
 
 // The row's turn: at a probability of reflection of 0.5, so by its median.
+// Stays: gcd and gcdkm, here and below, are the Rust's own two; the MUF's `PathNumbers` has an angle and a
+// sunspot number besides, which `nommuf` is not given.
 fn lower_es(esmuf: f32, row: EsParams, gcd: f32, gcdkm: f32) -> f32
     ensures { result ≡ es_step esmuf row gcd gcdkm }
 {
@@ -52,11 +54,7 @@ fn lower_es(esmuf: f32, row: EsParams, gcd: f32, gcdkm: f32) -> f32
     }
     let hs = row.hs;
     let ray = sporadic::es_ray(hs, hop(gcdkm, hs), gcd);
-    let esd = fs1 * ray.secp;
-    if esmuf > esd {
-        return esd;
-    }
-    esmuf
+    nominal_factors::lower(esmuf, fs1 * ray.secp)
 }
 
 // The lowest MUF of Es over the rows, 1000 where none reflects.
@@ -86,8 +84,7 @@ fn nominal(points: &[LayerParams], f2m3: &[f32], es: &[EsParams], gcd: f32, gcdk
     let fot = scalar::max(0.85 * f2muf, emuf);
     let hpf = scalar::max(1.15 * f2muf, emuf);
     let esmuf = lowest_es(es, gcd, gcdkm);
-    let z = e_lines::zero_line();
-    let layers = [z, z, z, z];
+    // Stays: -1 is the Rust's, which has no F1 here.
     MufHour {
         emuf,
         f1muf: -1.0,
@@ -96,10 +93,7 @@ fn nominal(points: &[LayerParams], f2m3: &[f32], es: &[EsParams], gcd: f32, gcdk
         allmuf,
         fot,
         hpf,
-        angmuf: 0.0,
-        modmuf: 0,
-        layers,
-        ks: 0,
+        ..muf::zero_hour()
     }
 }
 
@@ -118,7 +112,7 @@ fn path_taken(gcd: f32, gcdkm: f32) -> bool
 
 // The nominal hour of the first `count` points, their F2M3s and their Es rows; what stands past the
 // count is not read.
-// Stays: points, f2m3, es, gcd and gcdkm are the Rust's own parameters, in its order, with its count.
+// Stays: five places and a count, as the Rust's `fi`, `fs`, `hs` and `km`, here in records; f2m3, gcd and gcdkm are its own.
 pub fn nommuf(
     points: [LayerParams; 5],
     f2m3: &[f32],

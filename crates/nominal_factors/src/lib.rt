@@ -56,14 +56,16 @@ pub fn f2_factor(arc: f32) -> f32
     horner(AF, arc) * arc
 }
 
-// A point's turn in the lowest critical frequency of E.
-pub fn lower_e(ec: f32, f: f32) -> f32
-    ensures { result ≡ ec_step ec f }
+// A point's turn in a lowest number over the points: E's critical frequency, F2's MUF. A NaN is left out.
+// Stays: not `scalar::min`, which answers otherwise where the lowest so far is a NaN.
+pub fn lower(lowest: f32, x: f32) -> f32
+    ensures e { result ≡ ec_step lowest x }
+    ensures f2 { result ≡ f2_step lowest x }
 {
-    if ec > f {
-        return f;
+    if lowest > x {
+        return x;
     }
-    ec
+    lowest
 }
 
 // The MUF of F2 at one point.
@@ -74,17 +76,8 @@ pub fn f2_at(f2: f32, m3: f32, flfc: f32) -> f32
     f2 + flfc * (four - f2)
 }
 
-// A point's turn in the lowest MUF of F2.
-pub fn lower_f2(f2muf: f32, fmuf: f32) -> f32
-    ensures { result ≡ f2_step f2muf fmuf }
-{
-    if fmuf < f2muf {
-        return fmuf;
-    }
-    f2muf
-}
-
-// The circuit's MUF: E's where the two are equal.
+// The circuit's MUF: E's where the two are equal. Stays: not `scalar::max`, which answers otherwise where
+// F2's is a NaN.
 pub fn greater(emuf: f32, f2muf: f32) -> f32
     ensures { result ≡ allmuf_of emuf f2muf }
 {

@@ -19,3 +19,35 @@ pub fn answer<T: AsSlice<u8> + Drop, F: Fn(&[u8]) -> T>(input: &mut [u8], text: 
     let n = io::read_full(0, input);
     write_text(text(&input[..n]).as_slice());
 }
+
+// The text of the next stored file on standard input; false where there is none, or where standard output does not take it.
+fn print_next<T: AsSlice<u8> + Drop, F: Fn(&[u8]) -> T>(input: &mut [u8], text: &F) -> bool
+    requires { F.IsAlwaysCallable text.now }
+{
+    let mut head = [0u8; 2];
+    if io::read_full(0, &mut head) < 2 {
+        return false;
+    }
+    let n = usize::from(u16::from_le_bytes(head));
+    if n > input.len() || io::read_full(0, &mut input[..n]) < n {
+        return false;
+    }
+    io::write_all(1, text(&input[..n]).as_slice())
+}
+
+// Prints the texts of stored files. They stand on standard input, each after its length in two bytes, the lower first; none is longer
+// than the lent bytes.
+// Stays: turns are counted, and no list is read.
+pub fn print_stored<T: AsSlice<u8> + Drop, F: Fn(&[u8]) -> T>(
+    input: &mut [u8],
+    most: usize,
+    text: F,
+)
+    requires { F.IsAlwaysCallable text }
+{
+    for _ in 0..most {
+        if !print_next(input, &text) {
+            return;
+        }
+    }
+}

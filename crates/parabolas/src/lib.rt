@@ -25,6 +25,7 @@ pub fn pen_at(fi: f32, yi: f32, f: f32) -> f32
 }
 
 // The place of layer i of slot k in the tables, where there is one.
+// Stays: not by `layers::slot_number`, since a layer's number is refused with the slot's.
 fn place(i: usize, k: usize) -> Result<usize, Refusal>
     ensures value { result ≡ layer_answer_by (ltb 2 i) (ltb 2 k) (3 * k + i) }
     ensures within { IfOk result (λ (n : ℕ). n < 15) }
@@ -37,7 +38,8 @@ fn place(i: usize, k: usize) -> Result<usize, Refusal>
 
 // How much the virtual height of a frequency is raised by the parabolic layer `i` of slot `k` that
 // reflects it.
-// Stays: `bendy` and `pen` are two names of the Rust, and `s`, `i`, `k` and `f` its parameters.
+// Stays: `bendy` and `pen` are two entries of the Rust, each with a formula of its own behind the same test,
+// and `s`, `i`, `k` and `f` are their parameters there.
 pub fn bendy(s: IonoState, i: usize, k: usize, f: f32) -> Result<f32, Refusal>
     ensures { result ≡ bendy_answer s i k f }
 {

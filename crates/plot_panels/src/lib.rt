@@ -60,7 +60,7 @@ fn put_height<const N: usize>(page: &mut Page<N>, m: Mark, density: f32, h: f32)
 fn put_profile<const N: usize>(page: &mut Page<N>, p: &Profile, marks: &[Mark; 50])
     ensures { page.new ≡ with_text N page.old (profile_text p.now marks.now) }
 {
-    // Stays: three lists are read at one index, and two zips inside each other are no plainer.
+    // Stays: three lists are read at one index, and the library's lemmas on the turns of a zip (`zip_turn`, `zip_end`) are of two lists.
     for i in 0..50 {
         put_height(page, marks[i], p.fnsq[i], p.htr[i]);
     }
@@ -89,7 +89,8 @@ fn put_panels<const N: usize>(page: &mut Page<N>, p: &Plot)
     ensures { page.new ≡ with_text N page.old (joined (panel_at p.now.sheet.rows p.now.profiles p.now.sheet.hour) p.now.sheet.slots) }
 {
     let sheet = &p.sheet;
-    // Stays: k is the slot's number too, and a zip of rows and profiles inside `enumerate` is no plainer.
+    // Stays: k is the slot's number too, and a zip of rows and profiles inside `enumerate` is no plainer. Beside `put_slots` of
+    // `sheet_lines` and `show_page` it puts of a slot what takes its profile and the hour too.
     for k in 0..sheet.slots {
         put_panel(page, &sheet.rows[k], &p.profiles[k], &sheet.hour, k);
     }
@@ -101,7 +102,7 @@ pub fn put_plot<const N: usize>(page: &mut Page<N>, p: &Plot)
     requires { p.now.sheet.slots ≤ 3 }
     ensures { page.new ≡ with_text N page.old (picture_text p.now) }
 {
-    svg_frame::put_head(page, p.sheet.slots as u64, p.sheet.hour.allmuf);
+    svg_frame::put_head(page, p.sheet.slots as u8, p.sheet.hour.allmuf);
     put_panels(page, p);
     page.put_word(b"</svg>\n");
 }

@@ -1,11 +1,12 @@
 -- The calls on words and bytes: the number answered, 0 or the refusal's, and the words or bytes lent, afterwards. The count of words is looked at first; a refused call leaves everything.
-use Rattle.std.specs.Prelude.{Bool, true, false, ◌&&◌, List, [], ℕ, leb, length, set, Result, Ok, Err}
+use Rattle.std.specs.Prelude.{Bool, true, false, ◌&&◌, List, [], ℕ, leb, length, Result, Ok, Err}
 use Rattle.refusal.specs.Number.{number_of, answer_number}
 use Rattle.refusal.specs.declared.Refusal.{Refusal}
 use Rattle.records.specs.Record.{form64}
 use Rattle.circuit.specs.Read.{read_of}
 use Rattle.circuit.specs.declared.Circuit.{Circuit}
 use Rattle.circuit_write.specs.Written as written
+use Rattle.answer_words.specs.Words.{number_left}
 use Rattle.port_circuit.specs.Words.{circuit_of_words, circuit_into}
 
 pub record PortedCircuit : Type 0 where
@@ -33,14 +34,10 @@ pub record Wrote : Type 0 where
   pub words : List ℕ
 
 -- how many bytes were written stands in the first word; at a refusal nothing does
-abbrev pub length_into : Result ℕ Refusal → List ℕ → List ℕ
-length_into (Ok n) out = set out 0 n
-length_into (Err r) out = out
-
 abbrev pub port_write_by : Bool → Circuit → List ℕ → List ℕ → Wrote
 port_write_by true c file out =
     let a = written.write_answer_of form64 c file in
-    record { number = answer_number a; cells = written.left_of form64 c [] file; words = length_into a out }
+    record { number = answer_number a; cells = written.left_of form64 c [] file; words = number_left a out }
 port_write_by false c file out = record { number = number_of Refusal.Length; cells = file; words = out }
 
 unfoldable pub port_write : List ℕ → List ℕ → List ℕ → Wrote

@@ -1,13 +1,13 @@
 // The circuit file for callers in any language: words in, words out. Each function answers 0, or the number of its refusal, and then
 // leaves every lent word or byte as it was.
-// Stays: words and bytes lent side by side, read and written from a place on, and numbers answered, as callers in C have them.
+// Stays: words and bytes lent side by side, read and written from a place on, and numbers answered, as callers in C have them; beside
+// `port_state`, whose words are converted to floats one by one where these are copied.
 #![tactic(auto)]
 
 ghost use Rattle.std.specs.Prelude.{◌≡◌, ◌+◌, ◌≤◌, length};
 ghost use Rattle.port_circuit.specs.Words.{words_from, words_into, circuit_of_words, circuit_into};
 ghost use Rattle.refusal.specs.Number.{answer_number};
-ghost use Rattle.circuit_write.specs.Written.{length_in};
-ghost use Rattle.port_circuit.specs.Exports.{length_into, port_read, port_write};
+ghost use Rattle.port_circuit.specs.Exports.{port_read, port_write};
 
 use circuit::Circuit;
 use refusal::Refusal;
@@ -65,36 +65,39 @@ pub fn circuit_into(c: Circuit, w: &mut [u32])
     words_into(&c.deciles, w, 81);
 }
 
+#[tactic(auto, unfolding(crate::specs::Exports::port_read, crate::specs::Exports::ported_read_of))]
+fn read_into(file: &[u8], out: &mut [u32]) -> Result<(), Refusal>
+    ensures value { answer_number result ≡ (port_read file.now out.old).number }
+    ensures out_after { out.new ≡ (port_read file.now out.old).cells }
+{
+    if out.len() < 657 {
+        return Err(Refusal::Length);
+    }
+    let c = circuit::read(file)?;
+    circuit_into(c, out);
+    Ok(())
+}
+
 // The circuit of a file, into 657 words.
 pub fn port_read(file: &[u8], out: &mut [u32]) -> u32
     ensures value { result ≡ (port_read file.now out.old).number }
     ensures out_after { out.new ≡ (port_read file.now out.old).cells }
 {
-    if out.len() < 657 {
-        return u32::from(Refusal::Length);
-    }
-    match circuit::read(file) {
-        Ok(c) => {
-            circuit_into(c, out);
-            0
-        }
-        Err(r) => u32::from(r),
-    }
+    refusal::answer_number(&read_into(file, out))
 }
 
-// What the writer answered, as its number; how many bytes it wrote, into the word lent, which stays at a refusal.
-// Stays: a length is a usize, which the writer bounds; the numbers of other exports are words.
-pub fn length_into(a: Result<usize, Refusal>, out: &mut [u32]) -> u32
-    requires { (1 ≤ length out.old) × (length_in a ≤ 6912) }
-    ensures { (result ≡ answer_number a) × (out.new ≡ length_into a out.old) }
+#[tactic(auto, unfolding(crate::specs::Exports::port_write))]
+fn write_into(words: &[u32], file: &mut [u8], out: &mut [u32]) -> Result<(), Refusal>
+    ensures value { answer_number result ≡ (port_write words.now file.old out.old).number }
+    ensures file_after { file.new ≡ (port_write words.now file.old out.old).cells }
+    ensures out_after { out.new ≡ (port_write words.now file.old out.old).words }
 {
-    match a {
-        Ok(n) => {
-            out[0] = n as u32;
-            0
-        }
-        Err(r) => u32::from(r),
+    if words.len() < 657 || out.is_empty() {
+        return Err(Refusal::Length);
     }
+    let c = circuit_of(words);
+    let a = circuit_write::write(c, file);
+    answer_words::count_into(a, out)
 }
 
 // The file of the circuit that 657 words hold, and into `out` how many bytes it has.
@@ -103,10 +106,5 @@ pub fn port_write(words: &[u32], file: &mut [u8], out: &mut [u32]) -> u32
     ensures file_after { file.new ≡ (port_write words.now file.old out.old).cells }
     ensures out_after { out.new ≡ (port_write words.now file.old out.old).words }
 {
-    if words.len() < 657 || out.is_empty() {
-        return u32::from(Refusal::Length);
-    }
-    let c = circuit_of(words);
-    let a = circuit_write::write(c, file);
-    length_into(a, out)
+    refusal::answer_number(&write_into(words, file, out))
 }

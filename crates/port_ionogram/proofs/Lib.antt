@@ -1,2 +1,2 @@
--- The slot sheet through words.
+-- A refused sheet.
 pub mod Sheets

@@ -1,15 +1,11 @@
 // The circuit MUF on words. Es rows may be any number: each is read when its turn comes.
 // Stays: the lists of words, state, es, clat, clck, numbers and out, are what callers in C lend, side by side.
 ghost use Rattle.std.specs.Prelude.{◌≡◌, ◌≤◌, length};
-ghost use Rattle.muf.specs.Curmuf.{rewrite_by, flat_of};
-ghost use Rattle.hour_words.specs.HourWords.{WordThere};
 ghost use Rattle.deviation_words.specs.Floats.{floats};
-ghost use Rattle.port_muf.specs.Exports.{leaves, path_numbers_of, done_left, curmuf_left};
-ghost use Rattle.port_state.specs.State.{state_words};
+ghost use Rattle.refusal.specs.Number.{answer_number};
+ghost use Rattle.port_muf.specs.Exports.{leaves, path_numbers_of, curmuf_left};
 
 use layer_mufs::PathNumbers;
-use layers::IonoState;
-use muf::AnswerAndRow;
 use muf::lent::Numbers;
 use port_state::STATE_WORDS;
 use refusal::Refusal;
@@ -30,20 +26,6 @@ impl<'a> Numbers for Words<'a> {
     }
 }
 
-// The whole call but for what it writes.
-fn called(
-    s: IonoState,
-    es: &[u32],
-    deciles: &[f32],
-    clat: &[u32],
-    clck: &[u32],
-    c: PathNumbers,
-) -> Result<AnswerAndRow, Refusal>
-    ensures { result ≡ flat_of s (floats es.now) deciles.now (floats clat.now) (floats clck.now) c }
-{
-    muf::flat(s, Words(es), deciles, Words(clat), Words(clck), c)
-}
-
 fn path_numbers_of(numbers: &[u32]) -> PathNumbers
     requires { 4 ≤ length numbers.now }
     ensures { result ≡ path_numbers_of numbers.now }
@@ -60,25 +42,29 @@ fn path_numbers_of(numbers: &[u32]) -> PathNumbers
     }
 }
 
-fn done_into(
-    d: Result<AnswerAndRow, Refusal>,
+#[tactic(auto, unfolding(crate::specs::Exports::curmuf_left, crate::specs::Exports::done_left))]
+fn curmuf_into(
     state: &mut [u32],
     es: &mut [u32],
+    deciles: &[f32],
+    clat: &[u32],
+    clck: &[u32],
+    numbers: &[u32],
     out: &mut [u32],
-) -> u32
-    requires { (state_words ≤ length state.old) × (54 ≤ length out.old) × WordThere (rewrite_by d) (length es.old) }
-    ensures { leaves result state.new es.new out.new ≡ done_left d state.old es.old out.old }
+) -> Result<(), Refusal>
+    ensures { leaves (answer_number result) state.new es.new out.new ≡ curmuf_left state.old es.old deciles.now clat.now clck.now numbers.now out.old }
 {
-    match d {
-        Ok(d) => {
-            let a = d.answer;
-            port_state::state_into(a.state, state);
-            hour_words::es_into(d.rewrite, es);
-            hour_words::hour_into(a.hour, out);
-            0
-        }
-        Err(r) => u32::from(r),
+    if state.len() < STATE_WORDS || numbers.len() < 4 || out.len() < 54 {
+        return Err(Refusal::Length);
     }
+    let s = port_state::state_of(state);
+    let c = path_numbers_of(numbers);
+    let d = muf::flat(s, Words(es), deciles, Words(clat), Words(clck), c)?;
+    let a = d.answer;
+    port_state::state_into(a.state, state);
+    hour_words::es_into(d.rewrite, es);
+    hour_words::hour_into(a.hour, out);
+    Ok(())
 }
 
 // state STATE_WORDS words; es 4 words a row: fs 3, hs; deciles 576; numbers: gcd, gcdkm, amind, ssn;
@@ -94,17 +80,5 @@ pub fn port_curmuf(
 ) -> u32
     ensures { leaves result state.new es.new out.new ≡ curmuf_left state.old es.old deciles.now clat.now clck.now numbers.now out.old }
 {
-    if state.len() < STATE_WORDS {
-        return u32::from(Refusal::Length);
-    }
-    if numbers.len() < 4 {
-        return u32::from(Refusal::Length);
-    }
-    if out.len() < 54 {
-        return u32::from(Refusal::Length);
-    }
-    let s = port_state::state_of(state);
-    let c = path_numbers_of(numbers);
-    let d = called(s, es, deciles, clat, clck, c);
-    done_into(d, state, es, out)
+    refusal::answer_number(&curmuf_into(state, es, deciles, clat, clck, numbers, out))
 }

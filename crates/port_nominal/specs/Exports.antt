@@ -1,31 +1,26 @@
 -- What the export answers, and the words that it leaves. A slice that is shorter than its layout is refused with 1, before all
 -- else; nothing is written where a call is refused.
-use Rattle.std.specs.Prelude.{Bool, cond, ◌&&◌, List, [], ◌∷◌, ℕ, zero, suc, ◌+◌, ◌*◌, ◌/◌, ◌%◌, leb, eqb, length, replicate, set, Float, Result, Ok, Err}
+use Rattle.std.specs.Prelude.{Bool, cond, ◌&&◌, List, ℕ, ◌+◌, ◌*◌, ◌/◌, ◌%◌, leb, eqb, length, replicate, Result, Ok, Err}
 use Rattle.scalar.specs.Literals.{f0}
 use Rattle.refusal.specs.declared.Refusal.{Refusal}
 use Rattle.layers.specs.declared.EsParams.{EsParams}
 use Rattle.muf.specs.declared.MufHour.{MufHour}
-use Rattle.port_state.specs.Ports.{Ported, refused_with, points_of}
+use Rattle.port_state.specs.Words.{floats_of}
+use Rattle.port_state.specs.Ports.{Ported, refused_with, points_of, rows_of}
 use Rattle.deviation_words.specs.Floats.{number, floats}
 use Rattle.hour_words.specs.HourWords.{hour_into}
 use Rattle.nominal.specs.Nommuf.{nommuf_of}
 
 -- Es row k: four words, fs, hs
 unfoldable pub word_row : List ℕ → ℕ → EsParams
-word_row es k = record { fs = number es (4 * k) ∷ number es (4 * k + 1) ∷ number es (4 * k + 2) ∷ []; hs = number es (4 * k + 3) }
+word_row es k = record { fs = floats_of es (4 * k) 3; hs = number es (4 * k + 3) }
 
 abbrev pub zero_row : EsParams
 zero_row = record { fs = replicate 3 f0; hs = f0 }
 
 -- the first n rows, the rest zero
-unfoldable pub word_rows : List ℕ → ℕ → List EsParams
-word_rows es zero = replicate 5 zero_row
-word_rows es (suc n) = set (word_rows es n) n (word_row es n)
-
--- the first n F2M3s, the rest zero
-unfoldable pub five_of : List ℕ → ℕ → List Float
-five_of f2m3 zero = replicate 5 f0
-five_of f2m3 (suc n) = set (five_of f2m3 n) n (number f2m3 n)
+abbrev pub word_rows : List ℕ → ℕ → List EsParams
+word_rows es n = rows_of (word_row es) zero_row n
 
 unfoldable pub nominal_into : Result MufHour Refusal → List ℕ → Ported
 nominal_into (Ok hour) out = record { number = 0; words = hour_into hour out }

@@ -21,7 +21,11 @@ point_of points k = record { fi = floats_of points (9 * k) 3; yi = floats_of poi
 abbrev pub zero_point : LayerParams
 zero_point = record { fi = replicate 3 f0; yi = replicate 3 f0; hi = replicate 3 f0 }
 
--- the first n points, the rest zero
-unfoldable pub points_of : List ℕ → ℕ → List LayerParams
-points_of points zero = replicate 5 zero_point
-points_of points (suc n) = set (points_of points n) n (point_of points n)
+-- the first n of five rows, the rest zero
+unfoldable pub rows_of : {T : Type 0} → (ℕ → T) → T → ℕ → List T
+rows_of row z zero = replicate 5 z
+rows_of row z (suc n) = set (rows_of row z n) n (row n)
+
+-- the first n points
+abbrev pub points_of : List ℕ → ℕ → List LayerParams
+points_of points n = rows_of (point_of points) zero_point n

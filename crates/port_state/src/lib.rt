@@ -1,12 +1,12 @@
 // States as words, so that any language can call the port: a float is its bits, an i32 its two's complement.
-// Stays: words `w` of any length are lent, as callers in C have them, so a function asks that a state's words are there, and takes the state `s` or the place `from` beside them.
+// Stays: words `w` of any length are lent, as callers in C have them, so a function asks that a state's words are there, and takes the state `s` beside them; and the place `from`, so that what is written is one equation over the whole list.
 #![tactic(auto)]
 
-ghost use Rattle.std.specs.Prelude.{◌≡◌, ◌+◌, ◌*◌, ◌≤◌, length};
-ghost use Rattle.port_state.specs.Words.{floats_of, floats_into, signed_of, word_of, yes_of, flag_of, count_word};
-ghost use Rattle.port_state.specs.State.{state_words, state_of, tables_into, profile_into, counts_into, flags_into, owner_into, exact_into, state_into};
-ghost use Rattle.port_state.specs.Owners.{owner_of_word, slot_owner_word, word_of_owner};
-ghost use Rattle.port_state.specs.Ports.{point_of, points_of, zero_point};
+ghost use Rattle.std.specs.Prelude.{◌≡◌, ℕ, ◌+◌, ◌*◌, ◌≤◌, ◌<◌, length};
+ghost use Rattle.port_state.specs.Words.{floats_of, floats_into, signed_of, word_of, count_word};
+ghost use Rattle.port_state.specs.State.{state_words, state_of, state_into};
+ghost use Rattle.port_state.specs.Owners.{owner_of_word, word_of_owner};
+ghost use Rattle.port_state.specs.Ports.{point_of, points_of, rows_of};
 
 use layers::{IonoState, LayerParams, Owner, owners};
 
@@ -18,11 +18,8 @@ pub fn floats_of(w: &[u32], from: usize, x: &mut [f32])
     requires { from + length x.old ≤ length w.now }
     ensures { x.new ≡ floats_of w.now from (length x.old) }
 {
-    // Stays: a float's place gives its word's too.
-    for i in 0..x.len() {
-        let j = from + i;
-        let v = scalar::number(w[j]);
-        x[i] = v;
+    for (i, v) in x.iter_mut().enumerate() {
+        *v = scalar::number(w[from + i]);
     }
 }
 
@@ -40,50 +37,23 @@ pub fn floats_into(x: &[f32], w: &mut [u32], from: usize)
     requires { from + length x.now ≤ length w.old }
     ensures { w.new ≡ floats_into w.old from x.now }
 {
-    // Stays: a float's place gives its word's too.
-    for i in 0..x.len() {
-        let j = from + i;
-        let v = scalar::bits(x[i]);
-        w[j] = v;
+    for (i, v) in x.iter().enumerate() {
+        w[from + i] = scalar::bits(*v);
     }
 }
 
+#[tactic(auto, using(crate::proofs::Signs::signed_is))]
 pub fn signed(w: u32) -> i32
     ensures { result ≡ signed_of w }
 {
-    if w < 0x8000_0000 {
-        return w as i32;
-    }
-    -1 - ((0xffff_ffff - w) as i32)
+    w.cast_signed()
 }
 
+#[tactic(auto, using(crate::proofs::Signs::word_is, crate::proofs::Signs::read_back))]
 pub fn word(n: i32) -> u32
     ensures { result ≡ word_of n }
 {
-    if n >= 0 {
-        return n as u32;
-    }
-    0xffff_ffff - ((-1 - n) as u32)
-}
-
-pub fn yes(w: u32) -> bool
-    ensures { result ≡ yes_of w }
-{
-    w != 0
-}
-
-#[tactic(auto, unfolding(crate::specs::Words::flag_of))]
-pub fn flag(b: bool) -> u32
-    ensures { result ≡ flag_of b }
-{
-    u32::from(b)
-}
-
-// A word fits a usize.
-pub fn wide(w: u32) -> usize
-    ensures { result ≡ w }
-{
-    w as usize
+    n.cast_unsigned()
 }
 
 // A word that is no owner counts as none.
@@ -93,30 +63,24 @@ fn owner_of_word(w: u32) -> Owner
 {
     match w {
         4 => Owner::Supplied,
-        1..=3 => Owner::Slot(wide(w - 1)),
+        1..=3 => Owner::Slot(w as usize - 1),
         _ => Owner::None,
     }
 }
 
-fn slot_word(k: usize) -> u32
-    ensures { result ≡ slot_owner_word k }
-{
-    if k < 3 {
-        return k as u32 + 1;
-    }
-    0
-}
-
+// A slot above 2 has no word.
+// Stays: 0 to 4 are an owner's words in the layout that callers in C have.
 fn owner_word(o: Owner) -> u32
     ensures { result ≡ word_of_owner o }
 {
     match o {
-        Owner::None => 0,
-        Owner::Slot(k) => slot_word(k),
+        Owner::Slot(k) if k < 3 => k as u32 + 1,
+        Owner::None | Owner::Slot(_) => 0,
         Owner::Supplied => 4,
     }
 }
 
+#[tactic(auto, unfolding(crate::specs::State::state_of, crate::specs::Words::yes_of))]
 pub fn state_of(w: &[u32]) -> IonoState
     requires { state_words ≤ length w.now }
     ensures { result ≡ state_of w.now }
@@ -125,15 +89,15 @@ pub fn state_of(w: &[u32]) -> IonoState
     s.fi = floats(w, 0);
     s.yi = floats(w, 15);
     s.hi = floats(w, 30);
-    s.km = wide(w[45]);
-    s.kfx = wide(w[46]);
+    s.km = w[45] as usize;
+    s.kfx = w[46] as usize;
     s.htr = floats(w, 47);
     s.fnsq = floats(w, 97);
-    s.htr_rises = yes(w[147]);
+    s.htr_rises = w[147] != 0;
     s.fsecv = floats(w, 148);
     s.iedp = signed(w[151]);
-    s.ielect = yes(w[152]);
-    s.exact_virtual_height = yes(w[154]);
+    s.ielect = w[152] != 0;
+    s.exact_virtual_height = w[154] != 0;
     owners::with_owner(s, owner_of_word(w[153]))
 }
 
@@ -143,70 +107,40 @@ pub fn count(n: usize) -> u32
     (n % 0x1_0000_0000) as u32
 }
 
-// Stays: beside `profile_into`, a list of fields with their places; what the two share is `floats_into`.
-fn tables_into(s: IonoState, w: &mut [u32])
-    requires { state_words ≤ length w.old }
-    ensures { w.new ≡ tables_into s w.old }
-{
-    floats_into(&s.fi, w, 0);
-    floats_into(&s.yi, w, 15);
-    floats_into(&s.hi, w, 30);
-}
-
-fn profile_into(s: IonoState, w: &mut [u32])
-    requires { state_words ≤ length w.old }
-    ensures { w.new ≡ profile_into s w.old }
-{
-    floats_into(&s.htr, w, 47);
-    floats_into(&s.fnsq, w, 97);
-    floats_into(&s.fsecv, w, 148);
-}
-
-fn counts_into(s: IonoState, w: &mut [u32])
-    requires { state_words ≤ length w.old }
-    ensures { w.new ≡ counts_into s w.old }
-{
-    w[45] = count(s.km);
-    w[46] = count(s.kfx);
-}
-
-fn marks_into(s: IonoState, w: &mut [u32])
-    requires { state_words ≤ length w.old }
-    ensures { w.new ≡ flags_into s w.old }
-{
-    let iedp = s.iedp;
-    w[147] = flag(s.htr_rises);
-    w[151] = word(iedp);
-    w[152] = flag(s.ielect);
-}
-
-fn owner_into(s: IonoState, w: &mut [u32])
-    requires { state_words ≤ length w.old }
-    ensures { w.new ≡ owner_into s w.old }
-{
-    let o = s.owner;
-    w[153] = owner_word(o);
-}
-
-fn exact_into(s: IonoState, w: &mut [u32])
-    requires { state_words ≤ length w.old }
-    ensures { w.new ≡ exact_into s w.old }
-{
-    w[154] = flag(s.exact_virtual_height);
-}
-
+#[tactic(auto, unfolding(crate::specs::State::state_into, crate::specs::State::tables_into, crate::specs::State::profile_into, crate::specs::State::counts_into, crate::specs::State::flags_into, crate::specs::State::owner_into, crate::specs::State::exact_into, crate::specs::Words::flag_of))]
 pub fn state_into(s: IonoState, w: &mut [u32])
     requires { state_words ≤ length w.old }
     ensures { w.new ≡ state_into s w.old }
 {
-    tables_into(s, w);
-    profile_into(s, w);
-    counts_into(s, w);
-    marks_into(s, w);
-    owner_into(s, w);
-    exact_into(s, w);
+    floats_into(&s.fi, w, 0);
+    floats_into(&s.yi, w, 15);
+    floats_into(&s.hi, w, 30);
+    floats_into(&s.htr, w, 47);
+    floats_into(&s.fnsq, w, 97);
+    floats_into(&s.fsecv, w, 148);
+    w[45] = count(s.km);
+    w[46] = count(s.kfx);
+    w[147] = u32::from(s.htr_rises);
+    w[151] = word(s.iedp);
+    w[152] = u32::from(s.ielect);
+    w[153] = owner_word(s.owner);
+    w[154] = u32::from(s.exact_virtual_height);
 }
 
+// The first n of five rows, the rest as `zero`.
+pub fn rows_of<T: Copy, F: Fn(usize) -> T>(n: usize, zero: T, row: F) -> [T; 5]
+    requires count { n ≤ 5 }
+    requires called { (k : ℕ) → k < n → F.pre row k }
+    ensures { (of : ℕ → T) → ((k : ℕ) (r : T) → F.post row k r → r ≡ of k) → result ≡ rows_of of zero n }
+{
+    let mut l = [zero; 5];
+    for (k, r) in l[..n].iter_mut().enumerate() {
+        *r = row(k);
+    }
+    l
+}
+
+#[tactic(auto, unfolding(crate::specs::Ports::point_of))]
 fn point_of(points: &[u32], k: usize) -> LayerParams
     requires { 9 * k + 9 ≤ length points.now }
     ensures { result ≡ point_of points.now k }
@@ -219,25 +153,14 @@ fn point_of(points: &[u32], k: usize) -> LayerParams
     }
 }
 
-fn zero_point() -> LayerParams
-    ensures { result ≡ zero_point }
-{
-    LayerParams {
-        fi: [0.0; 3],
-        yi: [0.0; 3],
-        hi: [0.0; 3],
-    }
-}
-
 pub fn points_of(points: &[u32], n: usize) -> [LayerParams; 5]
     requires { (n ≤ 5) × (9 * n ≤ length points.now) }
     ensures { result ≡ points_of points.now n }
 {
-    let mut l = [zero_point(); 5];
-    // Stays: k is the point's place in the words too.
-    for k in 0..n {
-        let p = point_of(points, k);
-        l[k] = p;
-    }
-    l
+    let zero = LayerParams {
+        fi: [0.0; 3],
+        yi: [0.0; 3],
+        hi: [0.0; 3],
+    };
+    rows_of(n, zero, |k| point_of(points, k))
 }

@@ -3,19 +3,33 @@
 #![tactic(auto)]
 
 ghost use Rattle.std.specs.Prelude.{◌≡◌};
+ghost use Rattle.refusal.specs.Number.{answer_number};
 ghost use Rattle.port_tariff.specs.Exports.{price_left};
 
 use refusal::Refusal;
 
-// muf: its bits; tops in tenths of a MHz, rates in cents a minute; out: the cents
-pub fn port_price(muf: u32, tops: &[u32], rates: &[u32], seconds: u32, out: &mut [u32]) -> u32
-    ensures { (result ≡ (price_left muf tops.now rates.now seconds out.old).number) × (out.new ≡ (price_left muf tops.now rates.now seconds out.old).words) }
+#[tactic(auto, unfolding(crate::specs::Exports::price_left))]
+fn price_into(
+    muf: u32,
+    tops: &[u32],
+    rates: &[u32],
+    seconds: u32,
+    out: &mut [u32],
+) -> Result<(), Refusal>
+    ensures { (answer_number result ≡ (price_left muf tops.now rates.now seconds out.old).number) × (out.new ≡ (price_left muf tops.now rates.now seconds out.old).words) }
 {
     if out.len() < 1 {
-        return u32::from(Refusal::Length);
+        return Err(Refusal::Length);
     }
     answer_words::number_into(
         tariff::price(scalar::number(muf), tops, rates, seconds),
         out,
     )
+}
+
+// muf: its bits; tops in tenths of a MHz, rates in cents a minute; out: the cents
+pub fn port_price(muf: u32, tops: &[u32], rates: &[u32], seconds: u32, out: &mut [u32]) -> u32
+    ensures { (result ≡ (price_left muf tops.now rates.now seconds out.old).number) × (out.new ≡ (price_left muf tops.now rates.now seconds out.old).words) }
+{
+    refusal::answer_number(&price_into(muf, tops, rates, seconds, out))
 }

@@ -3,18 +3,26 @@
 #![tactic(auto)]
 
 ghost use Rattle.std.specs.Prelude.{◌≡◌};
+ghost use Rattle.refusal.specs.Number.{answer_number};
 ghost use Rattle.port_totals.specs.Exports.{total_left};
 
 use refusal::Refusal;
+
+#[tactic(auto, unfolding(crate::specs::Exports::total_left))]
+fn total_into(prices: &[u32], out: &mut [u32]) -> Result<(), Refusal>
+    ensures { (answer_number result ≡ (total_left prices.now out.old).number) × (out.new ≡ (total_left prices.now out.old).words) }
+{
+    if out.len() < 1 {
+        return Err(Refusal::Length);
+    }
+    answer_words::number_into(totals::total(prices), out)
+}
 
 // out: the cents
 pub fn port_total(prices: &[u32], out: &mut [u32]) -> u32
     ensures { (result ≡ (total_left prices.now out.old).number) × (out.new ≡ (total_left prices.now out.old).words) }
 {
-    if out.len() < 1 {
-        return u32::from(Refusal::Length);
-    }
-    answer_words::number_into(totals::total(prices), out)
+    refusal::answer_number(&total_into(prices, out))
 }
 
 // the same, of prices that begin with the latest call: their order does not matter

@@ -5,7 +5,7 @@
 ghost use Rattle.std.specs.Prelude.{◌≡◌};
 ghost use Rattle.port_totals.specs.Exports.{total_left};
 
-// out: the cents; from the first price to the last
+// out: the cents
 #[unsafe(no_mangle)]
 pub extern "C" fn port_total(prices: &[u32], out: &mut [u32]) -> u32
     ensures { (result ≡ (total_left prices.now out.old).number) × (out.new ≡ (total_left prices.now out.old).words) }
@@ -13,7 +13,7 @@ pub extern "C" fn port_total(prices: &[u32], out: &mut [u32]) -> u32
     port_totals::port_total(prices, out)
 }
 
-// the same, from the last price to the first
+// the same, of prices that begin with the latest call: their order does not matter
 #[unsafe(no_mangle)]
 pub extern "C" fn port_total_last(prices: &[u32], out: &mut [u32]) -> u32
     ensures { (result ≡ (total_left prices.now out.old).number) × (out.new ≡ (total_left prices.now out.old).words) }

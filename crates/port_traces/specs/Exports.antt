@@ -1,10 +1,11 @@
 -- What each export answers, 0 or the refusal's number, and the lists lent, afterwards. A list that is shorter than its layout
 -- is refused with 1, before all else; a refused call leaves everything.
-use Rattle.std.specs.Prelude.{Bool, true, false, ◌||◌, List, ◌++◌, ℕ, ltb, eqb, ℤ, Result, Ok, Err, length, set, drop}
+use Rattle.std.specs.Prelude.{Bool, true, false, ◌||◌, List, ◌++◌, ℕ, ltb, ℤ, Result, Ok, Err, length, drop}
 use Rattle.refusal.specs.Number.{number_of, answer_number}
 use Rattle.refusal.specs.declared.Refusal.{Refusal}
 use Rattle.port_state.specs.Words.{floats_of}
-use Rattle.traces.specs.Lines.{Compared, compared_of, count_in}
+use Rattle.traces.specs.Lines.{Compared, compared_of}
+use Rattle.answer_words.specs.Words.{number_left}
 use Rattle.computed_trace.specs.Computed.{trace_of}
 use Rattle.computed_trace.specs.declared.ComputedTrace.{ComputedTrace}
 
@@ -22,13 +23,6 @@ pub record PortedLines : Type 0 where
   pub out : List ℕ
 
 -- answered: the count is written
-abbrev pub count_by : Bool → ℕ → List ℕ → List ℕ
-count_by true n out = set out 0 n
-count_by false n out = out
-
-abbrev pub count_into : Result ℕ Refusal → List ℕ → List ℕ
-count_into c out = count_by (eqb (answer_number c) 0) (count_in c) out
-
 abbrev pub lines_into : Compared → List ℕ → PortedLines
 lines_into c out =
     record {
@@ -36,7 +30,7 @@ lines_into c out =
       khz = c.khz;
       which = c.which;
       difference = c.difference;
-      out = count_into c.answer out;
+      out = number_left c.answer out;
     }
 
 abbrev pub lines_unless : Bool → Compared → List ℕ → List ℕ → List ℤ → List ℕ → PortedLines

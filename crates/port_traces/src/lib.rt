@@ -3,11 +3,35 @@
 // Stays: lists side by side, and words lent for what is answered, as callers in C have them.
 #![tactic(auto)]
 
-ghost use Rattle.std.specs.Prelude.{◌≡◌, ◌+◌, ◌≤◌, length};
-ghost use Rattle.port_traces.specs.Exports.{port_compare, words_at_start, trace_into, port_trace};
+ghost use Rattle.std.specs.Prelude.{◌≡◌};
+ghost use Rattle.refusal.specs.Number.{answer_number};
+ghost use Rattle.port_traces.specs.Exports.{port_compare, port_trace};
 
-use computed_trace::ComputedTrace;
 use refusal::Refusal;
+
+#[tactic(auto, unfolding(crate::specs::Exports::port_compare))]
+fn compare_into(
+    a: &[u32],
+    ah: &[u32],
+    b: &[u32],
+    bh: &[u32],
+    khz: &mut [u32],
+    which: &mut [u32],
+    difference: &mut [i64],
+    out: &mut [u32],
+) -> Result<(), Refusal>
+    ensures value { answer_number result ≡ (port_compare a.now ah.now b.now bh.now khz.old which.old difference.old out.old).number }
+    ensures khz_after { khz.new ≡ (port_compare a.now ah.now b.now bh.now khz.old which.old difference.old out.old).khz }
+    ensures which_after { which.new ≡ (port_compare a.now ah.now b.now bh.now khz.old which.old difference.old out.old).which }
+    ensures difference_after { difference.new ≡ (port_compare a.now ah.now b.now bh.now khz.old which.old difference.old out.old).difference }
+    ensures out_after { out.new ≡ (port_compare a.now ah.now b.now bh.now khz.old which.old difference.old out.old).out }
+{
+    if out.is_empty() {
+        return Err(Refusal::Length);
+    }
+    let count = traces::compare(a, ah, b, bh, khz, which, difference);
+    answer_words::count_into(count, out)
+}
 
 // The kHz and heights of the first trace, a and ah, and of the second, b and bh; the lines into three lists; out: their count.
 pub fn port_compare(
@@ -26,34 +50,24 @@ pub fn port_compare(
     ensures difference_after { difference.new ≡ (port_compare a.now ah.now b.now bh.now khz.old which.old difference.old out.old).difference }
     ensures out_after { out.new ≡ (port_compare a.now ah.now b.now bh.now khz.old which.old difference.old out.old).out }
 {
-    if out.len() < 1 {
-        return u32::from(Refusal::Length);
-    }
-    let count = traces::compare(a, ah, b, bh, khz, which, difference);
-    answer_words::count_into(count, out)
+    refusal::answer_number(&compare_into(a, ah, b, bh, khz, which, difference, out))
 }
 
-fn words_into(x: &[u32], w: &mut [u32])
-    requires { length x.now ≤ length w.old }
-    ensures { w.new ≡ words_at_start x.now w.old }
+#[tactic(auto, unfolding(crate::specs::Exports::port_trace))]
+fn trace_into(rows: &[u32], khz: &mut [u32], height: &mut [u32]) -> Result<(), Refusal>
+    ensures value { answer_number result ≡ (port_trace rows.now khz.old height.old).number }
+    ensures khz_after { khz.new ≡ (port_trace rows.now khz.old height.old).khz }
+    ensures height_after { height.new ≡ (port_trace rows.now khz.old height.old).height }
 {
-    w[..x.len()].copy_from_slice(x);
-}
-
-fn trace_into(t: Result<ComputedTrace, Refusal>, khz: &mut [u32], height: &mut [u32]) -> u32
-    requires { (30 ≤ length khz.old) × (30 ≤ length height.old) }
-    ensures value { result ≡ (trace_into t khz.old height.old).number }
-    ensures khz_after { khz.new ≡ (trace_into t khz.old height.old).khz }
-    ensures height_after { height.new ≡ (trace_into t khz.old height.old).height }
-{
-    match t {
-        Ok(trace) => {
-            words_into(&trace.khz, khz);
-            words_into(&trace.height, height);
-            0
-        }
-        Err(r) => u32::from(r),
+    if rows.len() < 60 || khz.len() < 30 || height.len() < 30 {
+        return Err(Refusal::Length);
     }
+    let fvert = port_state::floats(rows, 0);
+    let hprim = port_state::floats(rows, 30);
+    let trace = computed_trace::trace_of(fvert, hprim)?;
+    khz[..30].copy_from_slice(&trace.khz);
+    height[..30].copy_from_slice(&trace.height);
+    Ok(())
 }
 
 // rows: fvert and hprim of thirty rows, 60 words, with which an ionogram's 150 begin; khz and height: 30 words each.
@@ -62,10 +76,5 @@ pub fn port_trace(rows: &[u32], khz: &mut [u32], height: &mut [u32]) -> u32
     ensures khz_after { khz.new ≡ (port_trace rows.now khz.old height.old).khz }
     ensures height_after { height.new ≡ (port_trace rows.now khz.old height.old).height }
 {
-    if rows.len() < 60 || khz.len() < 30 || height.len() < 30 {
-        return u32::from(Refusal::Length);
-    }
-    let fvert = port_state::floats(rows, 0);
-    let hprim = port_state::floats(rows, 30);
-    trace_into(computed_trace::trace_of(fvert, hprim), khz, height)
+    refusal::answer_number(&trace_into(rows, khz, height))
 }

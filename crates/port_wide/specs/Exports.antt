@@ -6,7 +6,8 @@ use Rattle.refusal.specs.declared.Refusal.{Refusal}
 use Rattle.circuit.specs.declared.Circuit.{Circuit}
 use Rattle.circuit_write.specs.Written as written
 use Rattle.port_circuit.specs.Words.{words_from, words_into, circuit_of_words, circuit_into}
-use Rattle.port_circuit.specs.Exports.{PortedCircuit, refused_read, Wrote, length_into}
+use Rattle.port_circuit.specs.Exports.{PortedCircuit, refused_read, Wrote}
+use Rattle.answer_words.specs.Words.{number_left}
 use Rattle.wide_circuit.specs.declared.WideCircuit.{WideCircuit}
 use Rattle.wide_circuit.specs.Wide.{form128, wide_of}
 
@@ -29,7 +30,7 @@ port_read128 file w = port_read128_by (leb 662 (length w)) file w
 abbrev pub port_write128_by : Bool → Circuit → List ℕ → List ℕ → List ℕ → Wrote
 port_write128_by true c f2m3 file out =
     let a = written.write_answer_of form128 c file in
-    record { number = answer_number a; cells = written.left_of form128 c f2m3 file; words = length_into a out }
+    record { number = answer_number a; cells = written.left_of form128 c f2m3 file; words = number_left a out }
 port_write128_by false c f2m3 file out = record { number = number_of Refusal.Length; cells = file; words = out }
 
 unfoldable pub port_write128 : List ℕ → List ℕ → List ℕ → Wrote

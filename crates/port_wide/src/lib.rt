@@ -4,6 +4,7 @@
 #![tactic(auto)]
 
 ghost use Rattle.std.specs.Prelude.{◌≡◌, ◌≤◌, length};
+ghost use Rattle.refusal.specs.Number.{answer_number};
 ghost use Rattle.port_wide.specs.Exports.{wide_into, port_read128, port_write128};
 
 use refusal::Refusal;
@@ -17,21 +18,40 @@ fn wide_into(a: WideCircuit, w: &mut [u32])
     port_circuit::words_into(&a.f2m3, w, 657);
 }
 
+#[tactic(auto, unfolding(crate::specs::Exports::port_read128, crate::specs::Exports::ported_wide_of))]
+fn read_into(file: &[u8], out: &mut [u32]) -> Result<(), Refusal>
+    ensures value { answer_number result ≡ (port_read128 file.now out.old).number }
+    ensures out_after { out.new ≡ (port_read128 file.now out.old).cells }
+{
+    if out.len() < 662 {
+        return Err(Refusal::Length);
+    }
+    let a = wide_circuit::read(file)?;
+    wide_into(a, out);
+    Ok(())
+}
+
 // The circuit of a file into 657 words, and its F2M3 into five more.
 pub fn port_read128(file: &[u8], out: &mut [u32]) -> u32
     ensures value { result ≡ (port_read128 file.now out.old).number }
     ensures out_after { out.new ≡ (port_read128 file.now out.old).cells }
 {
-    if out.len() < 662 {
-        return u32::from(Refusal::Length);
+    refusal::answer_number(&read_into(file, out))
+}
+
+#[tactic(auto, unfolding(crate::specs::Exports::port_write128))]
+fn write_into(words: &[u32], file: &mut [u8], out: &mut [u32]) -> Result<(), Refusal>
+    ensures value { answer_number result ≡ (port_write128 words.now file.old out.old).number }
+    ensures file_after { file.new ≡ (port_write128 words.now file.old out.old).cells }
+    ensures out_after { out.new ≡ (port_write128 words.now file.old out.old).words }
+{
+    if words.len() < 662 || out.is_empty() {
+        return Err(Refusal::Length);
     }
-    match wide_circuit::read(file) {
-        Ok(a) => {
-            wide_into(a, out);
-            0
-        }
-        Err(r) => u32::from(r),
-    }
+    let c = port_circuit::circuit_of(words);
+    let f2m3 = port_circuit::words(words, 657);
+    let a = wide_circuit::write(c, f2m3, file);
+    answer_words::count_into(a, out)
 }
 
 // The file of the circuit and the F2M3 that 662 words hold, and into `out` how many bytes it has.
@@ -40,11 +60,5 @@ pub fn port_write128(words: &[u32], file: &mut [u8], out: &mut [u32]) -> u32
     ensures file_after { file.new ≡ (port_write128 words.now file.old out.old).cells }
     ensures out_after { out.new ≡ (port_write128 words.now file.old out.old).words }
 {
-    if words.len() < 662 || out.is_empty() {
-        return u32::from(Refusal::Length);
-    }
-    let c = port_circuit::circuit_of(words);
-    let f2m3 = port_circuit::words(words, 657);
-    let a = wide_circuit::write(c, f2m3, file);
-    port_circuit::length_into(a, out)
+    refusal::answer_number(&write_into(words, file, out))
 }

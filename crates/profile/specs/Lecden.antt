@@ -1,5 +1,5 @@
 -- `lecden`: the density profile of slot k. It writes the slot's F1 height and semi-thickness, `fsecv[k]`, the profile, the rising mark and the owner, which is slot k; nothing where the profile is supplied. The paper's refusal: 6 for a slot above 2.
-use Rattle.std.specs.Prelude.{Bool, true, false, map, ℕ, ◌+◌, ◌*◌, ltb, set, Result, Ok, Err}
+use Rattle.std.specs.Prelude.{Bool, true, false, map, ℕ, ◌+◌, ◌*◌, ltb, set, Option, None, Some, Result, Ok, Err}
 use Rattle.scalar.specs.F32.{at}
 use Rattle.refusal.specs.declared.Refusal.{Refusal}
 use Rattle.layers.specs.State.{with_tables, with_fsecv, with_profile, with_owner}
@@ -9,8 +9,9 @@ use Rattle.profile.specs.Rising.{rises_of}
 use Rattle.slot_curves.specs.F1.{valley_of, f1_of, reshaped_of}
 use Rattle.slot_curves.specs.Grid.{heights_of}
 use Rattle.shape_densities.specs.Density.{density_of}
-use Rattle.slot_curves.specs.Draw.{tail_of, curves_of}
+use Rattle.slot_curves.specs.Draw.{tail_of, curves_of, drawn_of}
 use Rattle.slot_curves.specs.declared.Slot.{Slot}
+use Rattle.slot_curves.specs.declared.Drawn.{Drawn}
 
 unfoldable pub slot_at : IonoState → ℕ → Slot
 slot_at s k =
@@ -23,6 +24,14 @@ slot_written s k p = with_fsecv (with_tables s s.fi (set s.yi (3 * k + 1) p.yi1)
 -- whether the profile came from outside
 unfoldable pub supplied_of : IonoState → Bool
 supplied_of s = s.ielect
+
+-- the shapes of slot k as it stands; none where the profile is supplied
+abbrev pub drawn_by : Bool → Slot → Option Drawn
+drawn_by true p = None
+drawn_by false p = Some (drawn_of p)
+
+unfoldable pub slot_drawn : IonoState → ℕ → Option Drawn
+slot_drawn s k = drawn_by (supplied_of s) (slot_at s k)
 
 -- the profile of a slot whose numbers are p, and what of it is written at slot k
 abbrev pub profiled_of : IonoState → ℕ → Slot → IonoState

@@ -3,11 +3,11 @@
 
 ghost use Rattle.std.specs.Prelude.{◌≡◌, ◌<◌};
 ghost use Rattle.profile.specs.Rising.{rises_of};
-ghost use Rattle.profile.specs.Lecden.{slot_at, slot_written, supplied_of, lecden_of, lecden_answer};
+ghost use Rattle.profile.specs.Lecden.{slot_at, slot_written, slot_drawn, lecden_of, lecden_answer};
 
 use layers::{IonoState, Owner, owners};
 use refusal::Refusal;
-use slot_curves::Slot;
+use slot_curves::{Drawn, Slot};
 
 // The rising test: is each height below the next. A NaN fails it.
 pub fn rises_throughout(htr: &[f32; 50]) -> bool
@@ -18,7 +18,7 @@ pub fn rises_throughout(htr: &[f32; 50]) -> bool
         .all(|(lower, upper)| *lower < *upper)
 }
 
-// Stays: `s` and `k` are the Rust's parameters here and above, and `k < 3` is asked of the number: it
+// Stays: `s` and `k` are the Rust's parameters here and in the crates above, and `k < 3` is asked of the number: it
 // indexes the tables and counts loops, which would have to make a number of a type of its own at each turn.
 pub fn slot_at(s: IonoState, k: usize) -> Slot
     requires { k < 3 }
@@ -52,11 +52,15 @@ fn write_slot(mut s: IonoState, k: usize, p: Slot) -> IonoState
     s
 }
 
-// Whether the profile came from outside.
-pub fn supplied(s: IonoState) -> bool
-    ensures { result ≡ supplied_of s }
+// The shapes of slot k as `lecden` is to find it; none where the profile came from outside.
+pub fn drawn(s: IonoState, k: usize) -> Option<Drawn>
+    requires { k < 3 }
+    ensures { result ≡ slot_drawn s k }
 {
-    s.ielect
+    if s.ielect {
+        return None;
+    }
+    Some(slot_curves::draw(slot_at(s, k)))
 }
 
 // Slot k's profile; nothing where the profile is supplied.
@@ -64,17 +68,13 @@ pub fn lecden_slot(s: IonoState, k: usize) -> IonoState
     requires { k < 3 }
     ensures { result ≡ lecden_of s k }
 {
-    if supplied(s) {
+    let Some(d) = drawn(s, k) else {
         return s;
-    }
-    let p = slot_at(s, k);
-    let d = slot_curves::draw(p);
-    let q = d.slot;
-    let curves = d.curves;
+    };
     let htr = d.htr;
-    let fnsq = shape_densities::densities(curves, htr);
+    let fnsq = d.curves.densities(htr);
     let rises = rises_throughout(&htr);
-    let mut r = write_slot(s, k, q);
+    let mut r = write_slot(s, k, d.slot);
     r.htr = htr;
     r.fnsq = fnsq;
     r.htr_rises = rises;
@@ -84,8 +84,6 @@ pub fn lecden_slot(s: IonoState, k: usize) -> IonoState
 pub fn lecden(s: IonoState, k: usize) -> Result<IonoState, Refusal>
     ensures { result ≡ lecden_answer s k }
 {
-    if k < 3 {
-        return Ok(lecden_slot(s, k));
-    }
-    Err(Refusal::SlotNumber)
+    layers::slot_number(k)?;
+    Ok(lecden_slot(s, k))
 }

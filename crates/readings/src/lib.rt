@@ -7,6 +7,7 @@ ghost use Rattle.readings.specs.Scan.{segment_of, scan_of, value_of, reading_kin
 ghost use Rattle.readings.specs.Cursor.{climb_of, read_on_of};
 
 // The segment from (from0, to0) to (from1, to1): does it hold the probe, and with which number.
+// Stays: the line through two nodes is written out at each place, as in the Rust.
 pub fn segment(from0: f32, from1: f32, to0: f32, to1: f32, probe: f32) -> Option<f32>
     ensures { result ≡ segment_of from0 from1 to0 to1 probe }
 {
@@ -67,7 +68,7 @@ impl Reading {
     }
 
     // The segment of a reading, from 0: the lower of its two nodes' numbers.
-    // Stays: one of two numbers that go with a case, not the case's own, which `kind` gives.
+    // Stays: the paper numbers the segments 0 to 49, and a case has its own number too, which `kind` gives.
     #[tactic(auto, unfolding(crate::specs::Scan::segment_number))]
     pub fn segment_number(self) -> u32
         ensures { result ≡ segment_number self }
@@ -98,6 +99,7 @@ pub fn scan(from: &[f32; 50], to: &[f32; 50], probe: f32) -> Reading
 }
 
 // A number found by a search, and the segment that it was found on.
+// Stays: the paper numbers the segments 0 to 49, and says 50 where nothing is sought.
 #[derive(Clone, Copy, Debug, PartialEq)]
 pub struct Found {
     pub value: f32,
@@ -126,18 +128,13 @@ pub struct Read {
 pub fn climb(htr: &[f32; 50], zi: f32, ih: usize) -> usize
     ensures { result ≡ climb_of htr.now zi ih }
 {
-    // Stays: the answer is where it stops, found by the height above that place.
-    for on in ih..49 {
-        let next = on + 1;
-        if !(zi >= htr[next]) {
-            return on;
-        }
-    }
-    ih.max(49)
+    (ih..49)
+        .find(|on| !(zi >= htr[*on + 1]))
+        .unwrap_or(ih.max(49))
 }
 
 // A profile lent to be read.
-// Stays: `rises` is said of the heights, and no value hangs on it.
+// Stays: `rises` is the Rust's `htr_rises`, a mark beside the heights: it says of htr whether it rises.
 #[derive(Clone, Copy)]
 pub struct Profile<'a> {
     // fifty heights in km
@@ -163,6 +160,7 @@ impl Profile<'_> {
 
     // The density at the height `zi` where the heights rise, read on from the cursor `ih`. Where `ih`
     // is not above the count of `zi` it is the scan's (crate `walk`).
+    // Stays: the floor's test stands here as in `read_by_scan`, whose answer has no cursor.
     pub fn read_on(self, zi: f32, ih: usize) -> Read
         ensures { result ≡ read_on_of self.entry.htr.now self.entry.fnsq.now zi ih }
     {

@@ -9,7 +9,8 @@ ghost use Rattle.reason_text.specs.ReasonText.{reason_of};
 use lines::Page;
 use refusal::Refusal;
 
-// Stays: neither the refusal nor the bytes are types of this crate, so no `From` can stand here.
+// Stays: a `From` could stand only in crate `refusal`, below everything, and would not say that these are the words of one page; a
+// function's name does.
 #[tactic(auto, unfolding(crate::specs::ReasonText::reason_of, crate::specs::ReasonText::file_reason, crate::specs::ReasonText::hour_reason))]
 fn reason(r: Refusal) -> &'static [u8]
     ensures { result.now ≡ reason_of r }

@@ -16,7 +16,7 @@ use Rattle.std.specs.Prelude.{Option, Some, None, Result, Ok, Err}
 use Rattle.records.specs.declared.Form.{Form}
 use Rattle.records.specs.Record.{Fit, record_at}
 use Rattle.record_chain.specs.Chain.{length_good, record_count, km_of, head_good, by_step, step_of, pick_chain, sound_by, answered_chain, order_in, walk, chain_of, chain_along}
-use Rattle.records.proofs.Lists.{both}
+use Rattle.std.proofs.lemmas.Bool.{and_parts}
 use Rattle.record_chain.proofs.Members.{length-padded}
 use Rattle.record_chain.proofs.Steps.{step-to, in-file, counted, Head, head-facts}
 
@@ -159,8 +159,8 @@ module _ (o : Form) (fit : Fit o) (f : List ℕ) (c : Chain) where
       let inner = pick_chain (head_good o (record_at o f 0)) walked (Err Refusal.RecordZero) in
       let a = picked (length_good o f) inner Refusal.Length c e in
       let b = picked (head_good o (record_at o f 0)) walked Refusal.RecordZero c a.1 in
-      let g = both (eqb (length f % o.size) 0) (leb (2 * o.size) (length f) && leb (length f) (64 * o.size)) a.0 in
-      let l = both (leb (2 * o.size) (length f)) (leb (length f) (64 * o.size)) g.1 in
+      let g = and_parts (eqb (length f % o.size) 0) (leb (2 * o.size) (length f) && leb (length f) (64 * o.size)) a.0 in
+      let l = and_parts (leb (2 * o.size) (length f)) (leb (length f) (64 * o.size)) g.1 in
       from-walk (eqb-true _ _ g.0) (leb-true _ _ l.0) (leb-true _ _ l.1) (head-facts o (record_at o f 0) b.0) b.1
 
 module _ (o : Form) (f : List ℕ) (c : Chain) (t : Followed o f c) where

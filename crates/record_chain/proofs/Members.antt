@@ -8,7 +8,7 @@ use lib.Seq.{take_at, drop_at}
 use lib.Dec.{eqb}
 use Rattle.std.specs.List.{list_any}
 use Rattle.record_chain.specs.Chain.{member, padded}
-use Rattle.records.proofs.Lists.{drop-replicate}
+use Rattle.std.proofs.lemmas.List.{drop-replicate}
 use native.Mathlib.Nat.{add-sub_cancel_left}
 
 eqb-comm : (a b : ℕ) → eqb a b ≡ eqb b a
@@ -33,7 +33,7 @@ placed N w a xs ns ys e l m h =
       e,
       take_at ns (replicate (N - length ns) 0) a l,
       drop_at ns (replicate (N - length ns) 0) a l,
-      drop-replicate (N - length ns) w,
+      drop-replicate {X = ℕ} w (N - length ns) 0,
       q,
       append_assoc,
     )

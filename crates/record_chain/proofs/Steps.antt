@@ -11,7 +11,7 @@ use lib.Seq.{take-suc-set, set_at, length-take-le}
 use lib.Dec.{eqb, leb, ltb}
 use mathlib.Core.Logic.{◌⊎◌, inl, inr}
 use borrow.Author.Tests.{ltb-true, leb-true, eqb-true, eq-eqb, ne_eqb}
-use Rattle.records.proofs.Lists.{both}
+use Rattle.std.proofs.lemmas.Bool.{and_parts}
 use Rattle.refusal.specs.declared.Refusal.{Refusal}
 use Rattle.refusal.specs.Number.{answer_number}
 use Rattle.record_chain.specs.declared.Chain.{Chain}
@@ -127,9 +127,6 @@ as-answered a k e t =
     ap {B = Result Chain Refusal} (λ (l : List ℕ). Ok (record { order = l; count = k })) e
     ∙ ap {B = Result Chain Refusal} (λ (m : ℕ). Ok (record { order = padded 64 (take k a); count = m })) (sym t)
 
-pub one_more : (a : List ℕ) (k n : ℕ) → k < length a → take (k + 1) (set a k n) ≡ take k a ++ (n ∷ [])
-one_more a k n h = rw add-one (take-suc-set a k n h)
-
 -- the array of 64 after one more record is stored
 pub stored : (a : List ℕ) (k n : ℕ) → k < 64 → length a ≡ 64 → a ≡ padded 64 (take k a)
     → set a k n ≡ padded 64 (take (k + 1) (set a k n))
@@ -153,11 +150,11 @@ pub record Head (o : Form) (r : List ℕ) : Type 0 where
 pub head-facts : (o : Form) (r : List ℕ) → head_good o r ≡ true → Head o r
 unfolding head_good
 head-facts o r e =
-    let a = both _ _ e in
-    let b = both _ _ a.1 in
-    let c = both _ _ b.1 in
-    let d = both _ _ c.1 in
-    let g = both _ _ d.1 in
+    let a = and_parts _ _ e in
+    let b = and_parts _ _ a.1 in
+    let c = and_parts _ _ b.1 in
+    let d = and_parts _ _ c.1 in
+    let g = and_parts _ _ d.1 in
     record {
       kind = eqb-true _ _ a.0;
       some = leb-true _ _ b.0;

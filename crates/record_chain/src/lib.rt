@@ -33,6 +33,8 @@ struct File<'a> {
 
 impl<'a> File<'a> {
     // Record n, as its part of the file.
+    // Stays: that record n is there is asked here and of the two below that read one. A chain keeps
+    // numbers, and a type for such a number would be made at each step.
     fn record(&self, n: usize) -> &'a [u8]
         requires { self.now.form.size * n + self.now.form.size ≤ length self.now.bytes.now }
         ensures { result.now ≡ record_at self.now.form self.now.bytes.now n }
@@ -41,28 +43,17 @@ impl<'a> File<'a> {
         &self.bytes[from..from + self.form.size]
     }
 
+    #[tactic(auto, using(std::proofs::lemmas::List::take_rest), unfolding(crate::specs::Chain::head_good))]
     fn head_good(&self) -> bool
         requires { self.now.form.size ≤ length self.now.bytes.now }
         ensures { result ≡ head_good self.now.form (record_at self.now.form self.now.bytes.now 0) }
     {
         let r = self.record(0);
-        if records::half(r, 0) != self.form.first {
-            return false;
-        }
-        let km = records::byte(r, 4);
-        if km < 1 {
-            return false;
-        }
-        if km > 5 {
-            return false;
-        }
-        if records::byte(r, 5) > 1 {
-            return false;
-        }
-        if !records::all_zero(&r[6..8]) {
-            return false;
-        }
-        records::all_zero(&r[24..])
+        records::half(r, 0) == self.form.first
+            && (1..=5).contains(&records::byte(r, 4))
+            && records::byte(r, 5) <= 1
+            && records::all_zero(&r[6..8])
+            && records::all_zero(&r[24..])
     }
 
     // The step out of record `at`, after the records of `order`: to no record, or to one that is there and was not met before.
@@ -125,8 +116,8 @@ impl<'a> File<'a> {
 }
 
 // The chain of a file, or where it is turned away.
-// Stays: `Fit o` is asked here, and not held by the form: that it holds is a law about any three numbers, which a form could not state
-// of itself.
+// Stays: `Fit o` is asked here, since `every-fit` (crate `statement_checks`) speaks of any three numbers, and a `Form` that held the fact
+// could not be written down there.
 pub fn follow_form(o: Form, file: &[u8]) -> Result<Chain, Refusal>
     requires { Fit o }
     ensures { result ≡ chain_of o file.now }

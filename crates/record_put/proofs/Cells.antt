@@ -9,7 +9,7 @@ use lib.ListN.{length, get_or, take, drop, replicate, length-replicate, length-a
 use lib.Seq.{take_at, drop_at, drop-drop, take-suc, length-take-le}
 use Rattle.circuit.specs.declared.Circuit.{Circuit}
 use Rattle.records.specs.declared.Form.{Form}
-use Rattle.records.proofs.Lists.{rest, drop-replicate}
+use Rattle.std.proofs.lemmas.List.{take_rest, drop-replicate}
 use Rattle.record_put.specs.Bytes.{half_of, word_bytes, bytes_of, record_of, head_of}
 
 module _ (l l₀ p : List ℕ) (a : ℕ) (e : l ≡ p ++ drop a l₀) (n : length p ≡ a) where
@@ -96,7 +96,7 @@ module _ (l ws : List ℕ) (kind next : ℕ) (k : 4 + 4 * length ws ≤ length l
   unfolding record_of front
   put_all =
       let q : length (take (length three - (4 + 4 * length ws)) (drop (4 + 4 * length ws) three)) ≡ length l - (4 + 4 * length ws)
-      = ap length (rest (4 + 4 * length ws) three) ∙ simp (length-drop, three-long) in
+      = ap length (take_rest three (4 + 4 * length ws)) ∙ simp (length-drop, three-long) in
       fill_end three l front (4 + 4 * length ws) three-is front_long _
       ∙ ap (λ (n : ℕ). front ++ replicate n 0) q
       ∙ rw append_assoc refl
@@ -116,7 +116,7 @@ point-put size next ws extra h =
       add-sub_cancel_left 64 (4 * length extra),
       take_at (bytes_of ws) zeros 60 n,
       drop_at (bytes_of ws) zeros 60 n,
-      drop-replicate (size - (4 + 4 * length ws)) (4 * length extra),
+      drop-replicate {X = ℕ} (4 * length extra) (size - (4 + 4 * length ws)) 0,
       q,
       bytes-append,
       append_assoc,

@@ -1,2 +1,4 @@
 -- Lists of bytes and words.
 pub mod Lists
+-- An array's `map`.
+pub mod Maps

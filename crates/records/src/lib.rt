@@ -2,8 +2,12 @@
 // Stays: the record r is the part of the file itself, so its readers take it with a place `at`, or with the words `out` that they fill.
 #![tactic(auto)]
 
-ghost use Rattle.std.specs.Prelude.{◌≡◌, ◌+◌, ◌*◌, ◌≤◌, ◌<◌, length, get_or};
+ghost use Rattle.std.specs.Prelude.{◌≡◌, ◌+◌, ◌*◌, ◌≤◌, ◌<◌, length, get_or, drop};
 ghost use Rattle.records.specs.Record.{half_at, word_at, record_words, all_zero, fits};
+
+// The bytes that a program reads of a file in the paper's form: a record more than the longest, so that a longer one is seen to be
+// too long.
+pub const INPUT: usize = 4160;
 
 // How a file is laid out: bytes in a record, the kind of record 0, and the words that a point has after its fifteen. Which three
 // numbers are fit is a law about any three (`Fit`), so readers and writers ask for it, and the type does not hold it.
@@ -24,7 +28,7 @@ pub enum Kind {
 }
 
 // The paper's form.
-// Stays: a function, beside the other form's, since a constant promises nothing of its value.
+// Stays: a function, beside the other form's: a constant has no contract, so a wrong number in it would not be refused in this crate.
 pub fn form64() -> Form
     ensures { result ≡ Rattle.records.specs.Record.form64 }
 {
@@ -67,13 +71,13 @@ pub fn word(r: &[u8], at: usize) -> u32
     u32::from_le_bytes([r[at], r[at + 1], r[at + 2], r[at + 3]])
 }
 
-// The words from byte 4 on, as many as `out` holds.
-pub fn words(r: &[u8], out: &mut [u32])
-    requires { 4 + 4 * length out.old ≤ length r.now }
-    ensures { out.new ≡ record_words r.now (length out.old) }
+// The words after the first `skip`, of those from byte 4 on, as many as `out` holds.
+pub fn words(r: &[u8], skip: usize, out: &mut [u32])
+    requires { 4 + 4 * (skip + length out.old) ≤ length r.now }
+    ensures { out.new ≡ drop skip (record_words r.now (skip + length out.old)) }
 {
     for (i, w) in out.iter_mut().enumerate() {
-        *w = word(r, 4 + 4 * i);
+        *w = word(r, 4 + 4 * (skip + i));
     }
 }
 

@@ -1,12 +1,8 @@
 // The reflectrix: for each angle of the scan thirty cells, the oblique frequency of each row in
 // whole kHz.
-// Stays: ion, nang and cells are the Rust's, and thirty cells an angle lie one after the other, as a
-// caller in C lends them.
-ghost use Rattle.std.specs.Prelude.{◌≡◌, map, ◌*◌, ◌≤◌, Float, length};
-ghost use Rattle.scalar.specs.F32.{◌+f◌, ◌*f◌};
-ghost use Rattle.constants.specs.Constants;
-ghost use Rattle.waves.specs.SinCos.{cos_of};
-ghost use Rattle.scan_angles.specs.Angles;
+// Stays: ion and nang are the Rust's; cells are lent, thirty an angle one after the other, as a
+// caller in C has them.
+ghost use Rattle.std.specs.Prelude.{◌≡◌, ◌*◌, ◌≤◌, length};
 ghost use Rattle.reflectrix.specs.Fobby.{angles_into, cells_after, fobby_outcome};
 
 use crate::Ionogram;
@@ -14,21 +10,14 @@ use cell_rows::Rows;
 use constants::RZ;
 use refusal::Refusal;
 
-// The Earth's radius by the cosine of each angle of the scan.
-const RCOSD: [f32; 40] = [
+// The Earth's radius times the cosine of each angle of the scan.
+static RCOSD: [f32; 40] = [
     6370.0, 6369.7573, 6369.0298, 6366.1196, 6361.27, 6354.4834, 6345.7603, 6335.1045, 6308.0073,
     6273.225, 6230.8003, 6180.7837, 6123.237, 6058.23, 5985.842, 5906.161, 5819.284, 5725.3184,
     5624.376, 5516.5815, 5402.0664, 5280.9697, 5153.4385, 5019.6284, 4879.703, 4733.8325,
     4582.1943, 4424.974, 4262.362, 4094.5571, 3921.7637, 3744.1924, 3562.0588, 3184.9998,
     2692.0781, 2178.6685, 1648.6775, 1106.1392, 555.1825, 1.1121886,
 ];
-
-// Built once a call, and lent: a constant that is indexed is built again each time.
-fn rcosds() -> [f32; 40]
-    ensures { result ≡ map (λ (a : Float). Constants.RZ *f cos_of (a *f Constants.D2R)) Angles.ANG }
-{
-    RCOSD
-}
 
 // The rows are laid out once for all angles.
 fn angles(ion: Ionogram, nang: usize, cells: &mut [i32])
@@ -37,7 +26,7 @@ fn angles(ion: Ionogram, nang: usize, cells: &mut [i32])
 {
     let radii = cell_rows::each(cell_rows::padded(ion.htrue), |h| RZ + h);
     let rows = Rows::new(cell_rows::padded(ion.fvert), radii);
-    rows.scan(&rcosds(), nang, cells);
+    rows.scan(&RCOSD, nang, cells);
 }
 
 // Cells past the last angle stay; a refused call leaves every cell.
@@ -45,10 +34,7 @@ pub fn fobby(ion: Ionogram, nang: usize, cells: &mut [i32]) -> Result<(), Refusa
     ensures value { result ≡ fobby_outcome nang cells.old }
     ensures cells_after { cells.new ≡ cells_after ion nang cells.old }
 {
-    if nang > 40 {
-        return Err(Refusal::Reflectrix);
-    }
-    if cells.len() < 30 * nang {
+    if nang > 40 || cells.len() < 30 * nang {
         return Err(Refusal::Reflectrix);
     }
     angles(ion, nang, cells);

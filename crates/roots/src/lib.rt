@@ -1,7 +1,7 @@
 // Forty square roots at a time. Each is guessed with floats and tested by whole numbers, in loops with
 // no branch and no call, so that the compiler makes vector instructions of them. Where one of the
 // forty guesses is not proved right by its test, all are worked out one by one.
-// Stays: lists of forty side by side (patterns b, guesses q and g), since vector instructions take one kind of number from a list,
+// Stays: lists of forty side by side (patterns b and guesses g), since vector instructions take one kind of number from a list,
 // and a list of records would have to be taken apart first.
 #![tactic(auto)]
 
@@ -20,7 +20,7 @@ fn pattern(x: f32) -> u32
     scalar::bits(x)
 }
 
-// Of the number from 1 to below 4 with x's digits, from which x differs by a power of 4: the last 24
+// Of the number from 1 to below 4 with the digits of b's, which differ by a power of 4: the last 24
 // digits of its pattern, the exponent's last one among them.
 fn folded(b: u32) -> u32
     ensures { result < 2 ^ 24 }
@@ -28,46 +28,8 @@ fn folded(b: u32) -> u32
     (b % 0x100_0000 + 0x80_0000) % 0x100_0000
 }
 
-// 1 over the root of that number, within five in a million: a pattern that falls by half of its
-// pattern, then two steps of Newton's rule.
-fn near_inverse(t: u32) -> f32
-    requires { t < 2 ^ 24 }
-{
-    let h = 0.5 * f32::from_bits(0x3f80_0000 + t);
-    let q = f32::from_bits(0x3f77_5a86 - t / 2);
-    let p = q * (1.5 - h * q * q);
-    p * (1.5 - h * p * p)
-}
-
-// The last 25 digits of a float's pattern, 0 of a NaN.
-fn last_digits(v: f64) -> u32 {
-    if v != v {
-        return 0;
-    }
-    (f64::to_bits(v) % 0x200_0000) as u32
-}
-
-// As an f64, 0 of a NaN.
-fn widened(q: f32) -> f64 {
-    if q != q {
-        return 0.0;
-    }
-    q as f64
-}
-
-// The root of that number from 1 over it, nearly: one step more, within four in 10^11. What is added
-// last leaves the root's 24 digits at the end of the sum's pattern.
-fn near_digits(t: u32, q: f32) -> u32
-    requires { t < 2 ^ 24 }
-{
-    let x = f64::from_bits(0x3ff0_0000_0000_0000 + t as u64 * 0x2000_0000);
-    let y = widened(q);
-    let a = x * y;
-    let c = 0.5 - 0.5 * (a * y);
-    last_digits((a + a * c) + 805306368.0)
-}
-
 // Whether b is the pattern of a float that is above zero, finite and not subnormal: 1, else 0.
+// Stays: numbers, here and in `right`: eighty tests are counted with no branch, and `roots` compares the count once.
 fn normal(b: u32) -> u64
     ensures { (result ≤ 1) × ((result ≡ 1) → Normal b) }
 {
@@ -76,6 +38,8 @@ fn normal(b: u32) -> u64
 
 // Whether the digits guessed are those of the root: 1, else 0. The square less r is below what is
 // rooted, and the square and r are not.
+// Stays: what is rooted is worked out as by `root_pattern` of scalar, which takes the exponent moved by an odd number, so with the
+// other parity: two lines, of which one differs.
 fn right(b: u32, g: u32) -> u64
     ensures { (result ≤ 1) × (result ≡ 1 → Right b (g % 2 ^ 25)) }
 {
@@ -95,8 +59,8 @@ fn packed(b: u32, g: u32) -> f32
     f32::from_bits((b + 0x3e80_0000) / 0x100_0000 * 0x80_0000 + g % 0x200_0000)
 }
 
-// Stays: so also the loops of `pack` and `one_by_one`. By `map` of an array it takes three times as long; and of the lists that a
-// `zip` with `iter_mut` leaves a proof knows the lengths alone, which is enough for guesses.
+// Stays: by `map` of an array it takes three times as long, and of the lists that a `zip` with `iter_mut` leaves a proof knows the
+// lengths alone, which is enough for guesses. So too `pack` and `one_by_one`, loops of a line, which a shared one would be handed.
 fn patterns(x: &[f32; 40], b: &mut [u32; 40])
     ensures { (b.new ≡ put_each (λ k. to_bits binary32 (at x.now k)) b.old 40) × HeldByBits x.now 40 }
 {
@@ -105,15 +69,9 @@ fn patterns(x: &[f32; 40], b: &mut [u32; 40])
     }
 }
 
-fn near_inverses(b: &[u32; 40], q: &mut [f32; 40]) {
-    for (q, b) in q.iter_mut().zip(b) {
-        *q = near_inverse(folded(*b));
-    }
-}
-
-fn guesses(b: &[u32; 40], q: &[f32; 40], g: &mut [u32; 40]) {
-    for (g, (b, q)) in g.iter_mut().zip(b.iter().zip(q)) {
-        *g = near_digits(folded(*b), *q);
+fn guesses(b: &[u32; 40], g: &mut [u32; 40]) {
+    for (g, b) in g.iter_mut().zip(b) {
+        *g = scalar::near_root(folded(*b));
     }
 }
 
@@ -150,11 +108,9 @@ pub fn roots(x: &[f32; 40], out: &mut [f32; 40])
     ensures { out.new ≡ roots_into x.now out.old 40 }
 {
     let mut b = [0u32; 40];
-    let mut q = [0.0f32; 40];
     let mut g = [0u32; 40];
     patterns(x, &mut b);
-    near_inverses(&b, &mut q);
-    guesses(&b, &q, &mut g);
+    guesses(&b, &mut g);
     if passed(&b, &g) == 80 {
         pack(&b, &g, out);
         return;

@@ -1,5 +1,6 @@
 // A slot's rows for the eye: numbers in decimals, in columns.
-// Stays: functions of our own and no `Display`, for the reason in crate `lines`.
+// Stays: functions of our own and no `Display`, for the reason in crate `lines`; `ion` and `i` are a row, since the ionogram has its
+// rows by columns, as the Rust has.
 #![tactic(auto, using(lines::proofs::Placing::putting))]
 
 ghost use Rattle.std.specs.Prelude.{◌≡◌, ◌≤◌, ◌<◌};
@@ -11,6 +12,7 @@ use lines::Page;
 use reflectrix::Ionogram;
 
 // A number after two spaces.
+// Stays: width and places are those of `decimal_text::put_number`, and each column has its own.
 #[tactic(auto, using(lines::proofs::Placing::putting), unfolding(crate::specs::RowTable::number_column))]
 fn put_column<const N: usize>(page: &mut Page<N>, width: usize, places: usize, v: f32)
     requires { (width ≤ 10) × (places ≤ 9) }
@@ -20,6 +22,7 @@ fn put_column<const N: usize>(page: &mut Page<N>, width: usize, places: usize, v
     decimal_text::put_number(page, width, places, v);
 }
 
+// Stays: ion and i, here and below, are a row, since the ionogram has its rows by columns, as the Rust has.
 #[tactic(auto, using(lines::proofs::Placing::putting), unfolding(crate::specs::RowTable::table_row_fields))]
 fn put_numbers<const N: usize>(page: &mut Page<N>, ion: &Ionogram, i: usize)
     requires { i < 30 }

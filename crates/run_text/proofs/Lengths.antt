@@ -1,7 +1,7 @@
 -- The runs of a slot have at most 1,100 bytes: at each height at most a start of six and an end of sixteen.
 use mathlib.Core.Bool.{Bool, true, false}
 use mathlib.Core.List.{List}
-use Prim.Native.Nat.{ℕ, ◌+◌}
+use Prim.Native.Nat.{ℕ}
 use native.Mathlib.Omega.{arith}
 use Rattle.lines.specs.Text.{decimal_of}
 use Rattle.lines.proofs.Sizes.{AtMost, ◌then◌, word, line-feed, times}
@@ -9,16 +9,24 @@ use Rattle.aligned.specs.Ascii.{ascii}
 use Rattle.aligned.proofs.Widths.{right-most}
 use Rattle.shapes.specs.declared.Mark.{Mark}
 use Rattle.mark_text.proofs.Lengths.{name}
-use Rattle.run_text.specs.RunText.{mark_at, begins_at, ends_at, start_text, end_text, run_text, runs_text}
+use Rattle.run_text.specs.RunText.{start_at, end_at, mark_at, begins_at, ends_at, start_text, end_text, run_text, runs_text}
+
+first : (n : ℕ) → AtMost (start_at n) 6
+unfolding start_at
+first n = right-most 2 (decimal_of n) then word (ascii " to ")
+
+last : (n : ℕ) (m : Mark) → AtMost (end_at n m) 16
+unfolding end_at
+last n m = right-most 2 (decimal_of n) then word (ascii "  ") then name m then line-feed
 
 start : (b : Bool) (i : ℕ) → AtMost (start_text b i) 6
 unfolding start_text
-start true i = right-most 2 (decimal_of (i + 1)) then word (ascii " to ")
+start true i = first _
 start false i = record { most = omega arith }
 
 end : (b : Bool) (i : ℕ) (m : Mark) → AtMost (end_text b i m) 16
 unfolding end_text
-end true i m = right-most 2 (decimal_of (i + 1)) then word (ascii "  ") then name m then line-feed
+end true i m = last _ m
 end false i m = record { most = omega arith }
 
 pub runs-most : (marks : List Mark) → AtMost (runs_text marks) 1100

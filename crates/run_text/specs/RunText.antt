@@ -19,12 +19,20 @@ begins_at marks i = cond (eqb i 0) true (not (same_mark (mark_at marks (i - 1)) 
 unfoldable pub ends_at : List Mark → ℕ → Bool
 ends_at marks i = cond (eqb i 49) true (not (same_mark (mark_at marks i) (mark_at marks (i + 1))))
 
+-- a run's first height, numbered from 1
+unfoldable pub start_at : ℕ → List ℕ
+start_at n = right 2 (decimal_of n) ++ ascii " to "
+
+-- its last height, and the name of its mark
+unfoldable pub end_at : ℕ → Mark → List ℕ
+end_at n m = right 2 (decimal_of n) ++ (ascii "  " ++ (name_of m ++ (line_feed ∷ [])))
+
 unfoldable pub start_text : Bool → ℕ → List ℕ
-start_text true i = right 2 (decimal_of (i + 1)) ++ ascii " to "
+start_text true i = start_at (i + 1)
 start_text false i = []
 
 unfoldable pub end_text : Bool → ℕ → Mark → List ℕ
-end_text true i m = right 2 (decimal_of (i + 1)) ++ (ascii "  " ++ (name_of m ++ (line_feed ∷ [])))
+end_text true i m = end_at (i + 1) m
 end_text false i m = []
 
 unfoldable pub run_text : List Mark → ℕ → List ℕ

@@ -10,7 +10,6 @@ pub mod WholeRoot
 pub mod MeanStep
 pub mod Closest
 pub mod RoundedRoot
-pub mod Sizes
 pub mod RootDigits
 pub mod RootPattern
 pub mod Normalise

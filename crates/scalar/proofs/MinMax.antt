@@ -4,25 +4,11 @@ use mathlib.Core.Path.{◌≡◌, refl, sym, ap, ◌∙◌}
 use mathlib.Core.Logic.{◌⊎◌, inl, inr}
 use mathlib.Core.Bool.{Bool, true, false, ◌||◌, true≢false}
 use lib.Dec.{T}
-use lib.Ieee.{Float, nan, lt, le, eq, ne, is_nan}
+use lib.Ieee.{Float, nan, lt, le, eq, is_nan}
 use Rattle.scalar.specs.Scalar.{or_second, min_of, max_of}
 use Rattle.scalar.specs.Laws as Laws
-use Rattle.scalar.proofs.Nan.{nan-only, differs-is-nan}
+use Rattle.scalar.proofs.Nan.{nan-only}
 use Rattle.scalar.proofs.Order.{at-most-itself, in_order, less-at-most, equal-not-less, equal-number, nan-not-less, not-less-than-nan}
-
--- ---- what the code's tests say, for its two functions
-module _ (better : Float → Float → Bool) (a b : Float) where
-  pub of_nan : ne a a ≡ true → b ≡ or_second (is_nan a || better b a) a b
-  unfolding or_second
-  of_nan n = rw (← differs-is-nan a, n)
-
-  pub of-better : ne a a ≡ false → better b a ≡ true → b ≡ or_second (is_nan a || better b a) a b
-  unfolding or_second
-  of-better n e = rw (← differs-is-nan a, n, e)
-
-  pub of_other : ne a a ≡ false → better b a ≡ false → a ≡ or_second (is_nan a || better b a) a b
-  unfolding or_second
-  of_other n e = rw (← differs-is-nan a, n, e)
 
 -- ---- the sentences
 nan_is : is_nan nan ≡ true

@@ -3,7 +3,7 @@ use mathlib.Core.Path.{◌≡◌, refl, sym, ap, ap₂, ◌∙◌, subst}
 use mathlib.Core.Bool.{Bool, true, false, not, ◌&&◌, ◌||◌, beq, false≢true}
 use Prim.Native.Nat.{ℕ, ◌*◌, ◌%◌, ◌^◌, ◌≤◌, ◌<◌}
 use lib.Dec.{T, eqb, eqb_refl}
-use lib.Ieee.{Float, nan, inf, fin, binary32, binary64, up, down, div, eq, ne, is_nan, nan_bits, of_bits, to_bits}
+use lib.Ieee.{Float, nan, inf, fin, binary32, up, down, div, eq, ne, is_nan, nan_bits, of_bits}
 use lib.Ieee.Bits.{is_true, nan_bits_is, nan_bits_above}
 use borrow.Author.Tests.{lt-ltb, le-ltb}
 
@@ -23,7 +23,11 @@ nan-only nan e = refl
 nan-only (inf s) e = absurd (false≢true e)
 nan-only (fin s m f) e = absurd (false≢true e)
 
--- after the test `x != x`
+-- after the test `x.is_nan()`, with the answer t
+pub tested : (x : Float) (r t : Bool) → r ≡ is_nan x → r ≡ t → ne x x ≡ t
+tested x r t e f = differs-is-nan x ∙ sym e ∙ f
+
+-- where x differs from itself
 pub differs : (x : Float) → ne x x ≡ true → x ≡ nan
 differs x e = nan-only x (sym (differs-is-nan x) ∙ e)
 
@@ -31,18 +35,11 @@ pub not-nan : (x : Float) → ne x x ≡ false → T (not (is_nan x))
 not-nan x e = subst (λ (t : Bool). T (not t)) (sym (sym (differs-is-nan x) ∙ e)) tt
 
 -- ---- patterns
-pub nan-bits : to_bits binary32 nan ≡ 0x7fc0_0000
-unfolding to_bits
-nan-bits = refl
-
 pub nan_pattern : (b : ℕ) → 0x7f80_0000 < b % 2 ^ 31 → of_bits binary32 b ≡ nan
 nan_pattern b h = nan-only (of_bits binary32 b) (sym (nan_bits_is binary32 b) ∙ nan_bits_above binary32 b ∙ lt-ltb (255 * 2 ^ 23) (b % 2 ^ 31) h)
 
 pub number-pattern : (b : ℕ) → b % 2 ^ 31 ≤ 0x7f80_0000 → T (not (nan_bits binary32 b))
 number-pattern b h = subst (λ (x : Bool). T (not x)) (sym (nan_bits_above binary32 b ∙ le-ltb (255 * 2 ^ 23) (b % 2 ^ 31) h)) tt
-
-pub number-pattern-64 : (b : ℕ) → b % 2 ^ 63 ≤ 0x7ff0_0000_0000_0000 → T (not (nan_bits binary64 b))
-number-pattern-64 b h = subst (λ (x : Bool). T (not x)) (sym (nan_bits_above binary64 b ∙ le-ltb (2047 * 2 ^ 52) (b % 2 ^ 63) h)) tt
 
 -- how the code makes a NaN
 pub zero_by_zero : div binary32 (of_bits binary32 0) (of_bits binary32 0) ≡ nan

@@ -1,31 +1,20 @@
--- The three tests of `abs`: below zero the sign is turned, a zero becomes +0, and every other value, NaN too, has no sign. Assumes nothing.
-use mathlib.Core.Path.{◌≡◌, refl, sym, ap, ◌∙◌, subst}
-use mathlib.Core.Bool.{Bool, true, false, ◌&&◌, ◌||◌, true≢false, false≢true}
-use Prim.Native.Nat.{ℕ, zero, suc, ◌+◌, ◌*◌, ◌^◌, ◌≤◌, ◌<◌}
+-- A zero of the format without its sign is +0. Assumes nothing.
+use mathlib.Core.Path.{◌≡◌, refl, sym, ap}
+use mathlib.Core.Bool.{Bool, true, false, ◌&&◌, false≢true}
+use Prim.Native.Nat.{ℕ, zero, suc, ◌*◌, ◌^◌, ◌<◌}
 use native.Mathlib.Nat.{mul-pos, pow-succ'}
 use native.Mathlib.Omega.{arith}
 use lib.IntN.{ℤ, pos, negsuc}
-use lib.Dec.{T, eqb, ltb, eqb→eq}
+use lib.Dec.{T, eqb→eq}
 use lib.Pow.{pow_pos}
-use lib.Ieee.{Float, nan, inf, fin, binary32, up, down, neg, lt, eq, fits, of_bits}
+use lib.Ieee.{Float, nan, inf, fin, binary32, up, down, eq, fits, of_bits}
 use lib.Ieee.Fits.{up_pos}
-use borrow.Author.Tests.{ltb-true, ltb-false, eqb-true}
+use borrow.Author.Tests.{eqb-true}
 use Rattle.scalar.specs.Scalar.{abs_of}
 
 pub plus-zero : of_bits binary32 0 ≡ fin false 0 (pos 0)
 unfolding of_bits
 plus-zero = refl
-
-none_below : (a b : ℕ) → a ≡ 0 → ltb b a ≡ true → ⊥
-none_below a b z e = let l : b < a = ltb-true b a e in omega arith
-
-pub below-zero : (x : Float) → lt x (fin false 0 (pos 0)) ≡ true → neg x ≡ abs_of x
-unfolding lt neg abs_of
-below-zero nan e = absurd (false≢true e)
-below-zero (inf true) e = refl
-below-zero (inf false) e = absurd (false≢true e)
-below-zero (fin true m e') e = refl
-below-zero (fin false m e') e = absurd (none_below (0 * 1 * down e') (m * up e' * 1) (omega arith) e)
 
 -- the only zeros of a format are fin s 0 (pos 0)
 two_up : (k : ℕ) → 2 ^ suc k ≡ 1 → ⊥
@@ -49,17 +38,3 @@ at_zero (fin s (suc m) d) h e = absurd (some (suc m * up d * 1) (0 * 1 * down d)
   where
     some : (a b : ℕ) → 0 < a → b ≡ 0 → a ≡ b → ⊥
     some a b p z e = omega arith
-
-pub above_zero : (x : Float) → lt x (fin false 0 (pos 0)) ≡ false → eq x (fin false 0 (pos 0)) ≡ false → x ≡ abs_of x
-unfolding lt eq abs_of
-above_zero nan l e = refl
-above_zero (inf true) l e = absurd (true≢false l)
-above_zero (inf false) l e = refl
-above_zero (fin false m d) l e = refl
-above_zero (fin true m d) l e = absurd (go (m * up d * 1) (0 * 1 * down d) (omega arith) l e)
-  where
-    go : (a b : ℕ) → b ≡ 0 → ltb 0 (a + b) ≡ false → (eqb a b && (false || eqb a 0)) ≡ false → ⊥
-    go a b z k n =
-        let p : a + b ≤ 0 = ltb-false 0 (a + b) k in
-        let q : a ≡ 0 = omega arith in
-        true≢false (sym (subst (λ (v : ℕ). (eqb v 0 && (false || eqb v 0)) ≡ true) (sym q) refl) ∙ subst (λ (v : ℕ). (eqb a v && (false || eqb a 0)) ≡ false) z n)

@@ -7,24 +7,14 @@ ghost use Rattle.std.specs.Float.Ieee.{of_bits};
 ghost use Rattle.scalar.specs.Root.{root, sqrt_of};
 ghost use Rattle.scalar.specs.RootPattern.{root_pattern};
 
-// A guess at the root of n, rounded. y is 1.7 over the root within three in a hundred: t holds n's
-// pattern as a float but for its leading part, and y's pattern falls by half of it. g * part is the
-// root to a scale within seven in ten thousand, and with `rest` within two in 10^10. What is added
-// last leaves the digits at the end of the sum's pattern. One guess in 600 is off, by one. No proof
-// rests on that: `rounded_root` corrects any guess.
-// Stays: what n and t are below is asked here and once more; a type for either would be made in one place and read in one.
-fn near_root(n: u64, t: u64) -> u64
-    requires { (n < 2 ^ 48) × (t < 2 ^ 24) }
+// The digits of the root of the float from 1 to below 4 whose pattern is t above that of 1, as the machine takes it. No proof rests on
+// that: `rounded_root` tests the guess, and corrects any.
+pub fn near_root(t: u32) -> u32
+    requires { t < 2 ^ 24 }
     ensures { result < 2 ^ 25 }
 {
-    let w = n as f64;
-    let y = f64::from_bits(0x3e8a_fab0_0000_0000 - t * 0x1000_0000);
-    let g = w * y;
-    let h = g * y;
-    let part = 8.755958941603463 - h;
-    let rest = h * (part * part) - 165.53025385697867;
-    let near = g * part * (rest * rest + 21920.188392918262) + 1180591620717411303424.0;
-    f64::to_bits(near) % 0x200_0000
+    let y = f32::from_bits(0x3f80_0000 + t).sqrt();
+    0x80_0000 + f32::to_bits(y) % 0x80_0000
 }
 
 // The root of n, rounded, from any guess: mostly the guess itself. It is the r with n above r * r - r
@@ -57,7 +47,7 @@ fn root_pattern(e: u32) -> u32
     let m = 0x80_0000 + e % 0x80_0000;
     let scale = 0x80_0000 + e / 0x80_0000 % 2 * 0x80_0000;
     let n = m as u64 * scale as u64;
-    let digits = rounded_root(n, near_root(n, (e % 0x100_0000) as u64));
+    let digits = rounded_root(n, u64::from(near_root(e % 0x100_0000)));
     e / 0x100_0000 * 0x80_0000 + digits as u32
 }
 

@@ -1,2 +1,3 @@
--- Counts of angles.
+-- Counts of angles, and that they are at most 40.
 pub mod Counts
+pub mod Forty

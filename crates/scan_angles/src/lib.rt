@@ -9,14 +9,14 @@ ghost use Rattle.scan_angles.specs.Angles.{distance_step_of, step_found, raised_
 
 use refusal::Refusal;
 
-const ANG: [f32; 40] = [
+static ANG: [f32; 40] = [
     0.0, 0.5, 1.0, 2.0, 3.0, 4.0, 5.0, 6.0, 8.0, 10.0, 12.0, 14.0, 16.0, 18.0, 20.0, 22.0, 24.0,
     26.0, 28.0, 30.0, 32.0, 34.0, 36.0, 38.0, 40.0, 42.0, 44.0, 46.0, 48.0, 50.0, 52.0, 54.0, 56.0,
     60.0, 65.0, 70.0, 75.0, 80.0, 85.0, 89.99,
 ];
 
 // The count of angles for each step of 2000 km: a longer path has flat rays only.
-const NANGX: [usize; 8] = [40, 34, 29, 24, 19, 14, 12, 9];
+static NANGX: [usize; 8] = [40, 34, 29, 24, 19, 14, 12, 9];
 
 pub fn angle(ia: usize) -> f32
     requires { ia < 40 }
@@ -40,10 +40,7 @@ fn step(gcdkm: f32) -> Option<usize>
     if id < 1 {
         return None;
     }
-    if id > 8 {
-        return Some(8);
-    }
-    Some(id as usize)
+    Some(id.min(8) as usize)
 }
 
 // The first place of an angle at least 8.5 degrees above the least takeoff angle.

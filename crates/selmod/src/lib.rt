@@ -1,4 +1,5 @@
 // `selmod`: the slot by which ray paths are worked out.
+// Stays: beside crate `controlling_slot`, whose tests answer otherwise at a NaN and at 0.01.
 #![tactic(auto)]
 
 ghost use Rattle.std.specs.Prelude.{◌≡◌};

@@ -1,3 +1,2 @@
--- A branch that is never reached, and a list made of another.
+-- A branch that is never reached.
 pub mod NeverBoth
-pub mod MapAt

@@ -4,7 +4,7 @@
 ghost use Rattle.std.specs.Prelude.{◌≡◌, map};
 ghost use Rattle.shape_densities.specs.Density.{fnd_of, density_of};
 
-pub mod density;
+mod density;
 
 // All that the five shapes use.
 // Stays: `lin` and `s1` are two numbers of the Rust, each with its value on every path: a slope is worked out for some parabolas too.
@@ -45,25 +45,28 @@ pub struct Candidates {
     pub fn2: f32,
 }
 
-// The tail's densities, in a loop of their own: what is left of a density has no call.
-pub fn tails(c: Curves, mut htr: [f32; 50]) -> [f32; 50]
-    ensures { result ≡ map (fnd_of c) htr }
-{
-    for h in &mut htr {
-        *h = density::tail_density(c, *h);
+impl Curves {
+    // The tail's densities, in a loop of their own: what is left of a density has no call.
+    pub fn tails(self, mut htr: [f32; 50]) -> [f32; 50]
+        ensures { result ≡ map (fnd_of self) htr }
+    {
+        for h in &mut htr {
+            *h = self.tail_density(*h);
+        }
+        htr
     }
-    htr
-}
 
-pub fn densities(c: Curves, htr: [f32; 50]) -> [f32; 50]
-    ensures { result ≡ map (density_of c) htr }
-{
-    let fnd = tails(c, htr);
-    let mut fnsq = htr;
-    // Stays: three lists by one index, and two zips inside each other are no plainer.
-    for ih in 0..50 {
-        let d = density::largest(density::candidates(c, fnd[ih], htr[ih]));
-        fnsq[ih] = d;
+    pub fn densities(self, htr: [f32; 50]) -> [f32; 50]
+        ensures { result ≡ map (density_of self) htr }
+    {
+        let fnd = self.tails(htr);
+        let mut fnsq = htr;
+        // Stays: a turn writes one list from two, and of what `iter_mut` under a zip leaves a proof knows the
+        // lengths alone.
+        for ih in 0..50 {
+            let d = self.candidates(fnd[ih], htr[ih]).largest();
+            fnsq[ih] = d;
+        }
+        fnsq
     }
-    fnsq
 }

@@ -8,6 +8,7 @@ use borrow.Author.Tests.{ltb-true, ltb-false, not-false}
 use lib.Dec.{T, ltb}
 use lib.Ieee.{Float, eq, ne, le, is_nan, of_bits}
 use lib.Ieee.Bits.{is_true}
+use Rattle.std.proofs.lemmas.Bool.{and_from, and_right}
 use Rattle.scalar.specs.F32.{◌-f◌, ◌≤f◌, ◌≥f◌, ◌==f◌}
 use Rattle.scalar.specs.Literals.{f0}
 use Rattle.scalar.specs.Scalar.{max_of}
@@ -50,13 +51,6 @@ equal-itself : (x : Float) → is_nan x ≡ false → eq x x ≡ true
 unfolding ne
 equal-itself x n = not-false (eq x x) (differs-is-nan x ∙ n)
 
-and_both : (a b : Bool) → a ≡ true → b ≡ true → (a && b) ≡ true
-and_both a b i j = rw (i, j)
-
-and_second : (a b : Bool) → b ≡ false → (a && b) ≡ false
-and_second true b e = e
-and_second false b e = refl
-
 -- what +0 is equal to is zero
 zero-turned : (x : Float) → Least x → eq f0 x ≡ true → eq x f0 ≡ true
 unfolding le is_nan of_bits
@@ -90,7 +84,7 @@ last_one c h t e v f = go (is c h Mark.F2) refl
 
 module _ (c : Curves) (h : Float) where
   missed : (m : Mark) → is c h m ≡ false → makes m c h ≡ false
-  missed m e = and_second (worked_out m c h) (is c h m) e
+  missed m e = and_right (worked_out m c h) (is c h m) e
 
   -- a density that is not zero
   module _ (some : (density_of c h ==f f0) ≡ false) where
@@ -101,7 +95,7 @@ module _ (c : Curves) (h : Float) where
         absurd (true≢false (sym (zero-turned (density_of c h) (density-least c h) z) ∙ some))
 
     made : (m : Mark) → is c h m ≡ true → makes m c h ≡ true
-    made m e = and_both (worked_out m c h) (is c h m) (worked m e (worked_out m c h) refl) e
+    made m e = and_from (worked_out m c h) (is c h m) (worked m e (worked_out m c h) refl) e
 
     -- nothing before m makes the density, where no shape before m is equal to it
     before : (m : Mark) → mark_number_of m ≤ 5 → (1 < mark_number_of m → is c h Mark.Tail ≡ false) → (2 < mark_number_of m → is c h Mark.E ≡ false) → (3 < mark_number_of m → is c h Mark.Valley ≡ false) → (4 < mark_number_of m → is c h Mark.F1 ≡ false)

@@ -10,9 +10,10 @@ ghost use Rattle.shapes.specs.Marks.{first_of, mark_of, unmarked, marks_of};
 use layers::IonoState;
 use shape_densities::{Candidates, Curves};
 
+// Stays: no mark is one of the cases, with a number and a word of its own, and no `Option`.
 #[derive(Clone, Copy, Debug, PartialEq, Eq)]
 pub enum Mark {
-    // of a supplied profile, and beside a refusal
+    // of a supplied profile, and of a slot that is not there
     None = 0,
     // the exponential tail from the D region up to E
     Tail = 1,
@@ -54,13 +55,13 @@ fn first(c: Candidates, density: f32) -> Mark
     Mark::F2
 }
 
-// Stays: the shapes c and the height h, as in crate `shape_densities`.
+// Stays: the shapes c and the height h are no one thing: the loop has the same shapes at fifty heights.
 fn mark_at(c: Curves, fnd: f32, h: f32) -> Mark
     requires { fnd ≡ fnd_of c h }
     ensures { result ≡ mark_of c h }
 {
-    let shapes = shape_densities::density::candidates(c, fnd, h);
-    let density = shape_densities::density::largest(shapes);
+    let shapes = c.candidates(fnd, h);
+    let density = shapes.largest();
     if density == 0.0 {
         return Mark::Gap;
     }
@@ -77,9 +78,10 @@ pub fn no_marks() -> [Mark; 50]
 fn marks_on(c: Curves, htr: [f32; 50]) -> [Mark; 50]
     ensures { result ≡ map (mark_of c) htr }
 {
-    let fnd = shape_densities::tails(c, htr);
+    let fnd = c.tails(htr);
     let mut marks = no_marks();
-    // Stays: three lists by one index, and two zips inside each other are no plainer.
+    // Stays: a turn writes one list from two, and of what `iter_mut` under a zip leaves a proof knows the
+    // lengths alone.
     for ih in 0..50 {
         marks[ih] = mark_at(c, fnd[ih], htr[ih]);
     }
@@ -91,12 +93,8 @@ pub fn marks_slot(s: IonoState, k: usize) -> [Mark; 50]
     requires { k < 3 }
     ensures { result ≡ marks_of s k }
 {
-    if profile::supplied(s) {
+    let Some(d) = profile::drawn(s, k) else {
         return no_marks();
-    }
-    let p = profile::slot_at(s, k);
-    let d = slot_curves::draw(p);
-    let curves = d.curves;
-    let htr = d.htr;
-    marks_on(curves, htr)
+    };
+    marks_on(d.curves, d.htr)
 }

@@ -6,9 +6,7 @@ use lib.ListN.{get_or}
 use lib.Ieee.{Float, binary32, to_bits}
 use Rattle.lines.specs.Text.{space}
 use Rattle.lines.proofs.Sizes.{AtMost, ◌then◌, word, line-feed, digits-below, field, hex, times}
-use Rattle.figures.specs.Figure.{figure_of}
-use Rattle.figure_text.specs.FigureText.{figure_text}
-use Rattle.figure_text.proofs.Widths.{figure-five}
+use Rattle.figure_text.proofs.Widths.{figure-most}
 use Rattle.scalar.specs.F32.{at}
 use Rattle.muf.specs.declared.MufHour.{MufHour}
 use Rattle.reflectrix.specs.declared.Ionogram.{Ionogram}
@@ -30,12 +28,9 @@ muf-line : (h : MufHour) → AtMost (muf_line h) 91
 unfolding muf_line
 muf-line h = word muf_word then mufs h then field (natural h.modmuf) then field h.ks then line-feed
 
-figure : (x : Float) → AtMost (figure_text (figure_of x)) 5
-figure x = record { most = omega (arith, figure-five x) }
-
 call_line_lem : (h : MufHour) → AtMost (call_line h) 11
 unfolding call_line
-call_line_lem h = word call_word then figure h.allmuf then line-feed
+call_line_lem h = word call_word then figure-most h.allmuf then line-feed
 
 row-fields : (ion : Ionogram) (i : ℕ) → AtMost (row_fields ion i) 36
 unfolding row_fields

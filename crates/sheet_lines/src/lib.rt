@@ -25,11 +25,7 @@ fn put_mufs<const N: usize>(page: &mut Page<N>, h: &MufHour)
 fn mode(h: &MufHour) -> u64
     ensures { result ≡ natural h.now.modmuf }
 {
-    let m = h.modmuf;
-    if m < 0 {
-        return 0;
-    }
-    m as u64
+    h.modmuf.max(0) as u64
 }
 
 #[tactic(auto, using(lines::proofs::Placing::putting), unfolding(crate::specs::SheetLines::muf_line))]
@@ -71,6 +67,7 @@ fn put_slot<const N: usize>(page: &mut Page<N>, slot: &SlotRows, k: usize)
     mark_text::put_marks(page, &slot.marks);
 }
 
+// Stays: beside `put_slots` of `show_page`, since a function over what is put of a slot would take a contract longer than this loop.
 fn put_slots<const N: usize>(page: &mut Page<N>, s: &Sheet)
     requires { s.now.slots ≤ 3 }
     ensures { page.new ≡ with_text N page.old (joined (slot_text_at s.now.rows) s.now.slots) }

@@ -22,12 +22,12 @@ use Rattle.tangents.specs.Tangents.{tangents_of}
 use Rattle.e_lines.specs.Lines.{read_with, e_heights_with, e_line_by, e_line_with}
 use Rattle.layer_mufs.specs.Lines.{f2_heights_with, bent_of, both_by, deviations_of, f2_bent_by, f2_bent_of, f2_line_by, f2_line_with, f1_own_by, f1_own_with, f1_line_by, f1_line_with}
 use Rattle.layer_mufs.specs.declared.PathNumbers.{PathNumbers}
-use Rattle.tangents.specs.declared.Tangents.{Tangents}
+use Rattle.tangents.specs.declared.F2Tangent.{F2Tangent}
 use Rattle.e_lines.specs.declared.HeightPair.{HeightPair}
 use Rattle.layer_mufs.specs.declared.Deviations.{Deviations}
 use Rattle.controlling_slot.proofs.Small.{controlling-small}
 use Rattle.sporadic.specs.Sporadic.{hop_by, row_by, es_row_of, start_of, row_at, next_by, es_from}
-use Rattle.sporadic.specs.declared.EsRow.{EsRow}
+use Rattle.layers.specs.declared.EsParams.{EsParams}
 use Rattle.sporadic.specs.declared.EsSearch.{EsSearch}
 use Rattle.muf.specs.Hour.{mode_by, mode_of, hour_of}
 use Rattle.muf.specs.Curmuf.{in_domain, lists_reach, found_then, regular_with, found_muf_of, es_by, regular_by, muf_at_slot_with, muf_from_search_by, muf_from_search_with, muf_of_rows_with, row_count_of, flat_with, flat_of, answer_by, curmuf_of}
@@ -94,14 +94,14 @@ module _ (P : Refusal → Type 0) (input : P Refusal.MufInput) (hops : P Refusal
   bent-by (Ok sig) b ht fx x p = tt
   bent-by (Err r) b ht fx x p = p
 
-  f2-by : (g : Result HopGeometry Refusal) (l : Slot) (h : HeightPair) (x : Tangents) (f2d : List Float) (clat clck : Float) (c : PathNumbers) → eqb (length f2d) 576 ≡ true → IfErr g P → IfErr (f2_line_by g l h x f2d clat clck c) P
+  f2-by : (g : Result HopGeometry Refusal) (l : Slot) (h : HeightPair) (x : F2Tangent) (f2d : List Float) (clat clck : Float) (c : PathNumbers) → eqb (length f2d) 576 ≡ true → IfErr g P → IfErr (f2_line_by g l h x f2d clat clck c) P
   unfolding f2_bent_of
   f2-by (Ok g) l h x f2d clat clck c e p =
       let b = bent_of l.fi2 x.fx2 h g in
       bent-by (deviations_of f2d b.fob c.ssn clat clck) b h.ht x.fx2 g.xhops (deviations-in f2d b.fob c.ssn clat clck e)
   f2-by (Err r) l h x f2d clat clck c e p = p
 
-  f2-in : (find : Finder) (t : IonoState) (l : Slot) (x : Tangents) (f2d : List Float) (clat clck : Float) (c : PathNumbers) → eqb (length f2d) 576 ≡ true → IfErr (f2_line_with find t l x f2d clat clck c) P
+  f2-in : (find : Finder) (t : IonoState) (l : Slot) (x : F2Tangent) (f2d : List Float) (clat clck : Float) (c : PathNumbers) → eqb (length f2d) 576 ≡ true → IfErr (f2_line_with find t l x f2d clat clck c) P
   unfolding f2_line_with
   f2-in find t l x f2d clat clck c e =
       let h = f2_heights_with find t l x in
@@ -129,16 +129,16 @@ module _ (P : Refusal → Type 0) (input : P Refusal.MufInput) (hops : P Refusal
   regular-in find t l f2d clat clck c h =
       let x = tangents_of l c.gcdkm in
       then-in (e_line_with find t x.fxe c.gcdkm c.amind) _ (e-in find t x.fxe c.gcdkm c.amind)
-      (λ (e : LayerMuf). then-in (f2_line_with find t l x f2d clat clck c) _ (f2-in find t l x f2d clat clck c h)
+      (λ (e : LayerMuf). then-in (f2_line_with find t l x.f2 f2d clat clck c) _ (f2-in find t l x.f2 f2d clat clck c h)
       (λ (f2 : LayerMuf). then-in (f1_line_with find t l x.fx1 e c.gcdkm c.amind) _ (f1-in find t l x.fx1 e c.gcdkm c.amind) (λ (f1 : LayerMuf). tt)))
 
   -- ---- Es
 
-  hop-by : (o : Result Float Refusal) (a : EsSearch) (k : ℕ) (row : EsRow) (c : PathNumbers) → IfErr o P → IfErr (hop_by o a k row c) P
+  hop-by : (o : Result Float Refusal) (a : EsSearch) (k : ℕ) (row : EsParams) (c : PathNumbers) → IfErr o P → IfErr (hop_by o a k row c) P
   hop-by (Ok x) a k row c p = tt
   hop-by (Err r) a k row c p = p
 
-  row-by : (b : Bool) (a : EsSearch) (k : ℕ) (row : EsRow) (c : PathNumbers) → IfErr (row_by b a k row c) P
+  row-by : (b : Bool) (a : EsSearch) (k : ℕ) (row : EsParams) (c : PathNumbers) → IfErr (row_by b a k row c) P
   row-by true a k row c = tt
   row-by false a k row c = hop-by (hops_of c.gcdkm c.amind row.hs) a k row c (hops-in c.gcdkm c.amind row.hs)
 
@@ -146,10 +146,10 @@ module _ (P : Refusal → Type 0) (input : P Refusal.MufInput) (hops : P Refusal
   next-by (Ok a) f p q = q a
   next-by (Err r) f p q = p
 
-  es-in : (row : ℕ → EsRow) (c : PathNumbers) (n k : ℕ) (a : EsSearch) → IfErr (es_from row c n k a) P
+  es-in : (row : ℕ → EsParams) (c : PathNumbers) (n k : ℕ) (a : EsSearch) → IfErr (es_from row c n k a) P
   unfolding es_from es_row_of
   es-in row c zero k a = tt
-  es-in row c (suc n) k a = next-by (es_row_of a k (row k) c) (λ b. es_from row c n (k + 1) b) (row-by ((row k).fs1 ≤f f0) a k (row k) c) (λ b. es-in row c n (k + 1) b)
+  es-in row c (suc n) k a = next-by (es_row_of a k (row k) c) (λ b. es_from row c n (k + 1) b) (row-by (at (row k).fs 1 ≤f f0) a k (row k) c) (λ b. es-in row c n (k + 1) b)
 
   -- ---- the whole
 

@@ -1,5 +1,6 @@
 // The thirty rows of a slot, as lines of text put on a page.
-// Stays: functions of our own and no `Display`, for the reason in crate `lines`.
+// Stays: functions of our own and no `Display`, for the reason in crate `lines`; `ion` and `i` are a row, since the ionogram has its
+// rows by columns, as the Rust has.
 #![tactic(auto, using(lines::proofs::Placing::putting))]
 
 ghost use Rattle.std.specs.Prelude.{◌≡◌, ◌<◌};
@@ -18,6 +19,7 @@ pub fn put_bits<const N: usize>(page: &mut Page<N>, x: f32)
     page.put_hex(scalar::bits(x));
 }
 
+// Stays: ion and i, here and below, are a row, since the ionogram has its rows by columns, as the Rust has.
 #[tactic(auto, using(lines::proofs::Placing::putting), unfolding(crate::specs::SheetRows::row_fields))]
 fn put_numbers<const N: usize>(page: &mut Page<N>, ion: &Ionogram, i: usize)
     requires { i < 30 }

@@ -1,9 +1,10 @@
 -- What is printed of a file, by the answer: a sheet's text, or what is said of the refusal.
-use mathlib.Core.Path.{◌≡◌}
+use mathlib.Core.Path.{◌≡◌, ◌∙◌}
 use mathlib.Core.List.{List}
 use Prim.Native.Nat.{ℕ}
 use native.Mathlib.Omega.{arith}
 use Rattle.std.specs.Prelude.{Result, Ok, Err}
+use Rattle.std.specs.Result.{MatchResult}
 use Rattle.refusal.specs.declared.Refusal.{Refusal}
 use Rattle.lines.specs.Text.{refused_text}
 use Rattle.circuit_sheet.specs.declared.Sheet.{Sheet}
@@ -18,10 +19,8 @@ refusal_by_answer : (a : Result Sheet Refusal) (r : Refusal) → Err r ≡ text_
 refusal_by_answer (Ok s) r e = let z : ◌≡◌ {A = ℕ} 0 1 = cc in absurd (omega arith)
 refusal_by_answer (Err q) r e = let z : r ≡ q = cc in rw z
 
-pub text_printed : (f t : List ℕ) → Ok t ≡ text_by (sheet_of f) → t ≡ sheet_text f
+pub printed : (f t : List ℕ) (a : Result (List ℕ) Refusal) → a ≡ text_by (sheet_of f)
+    → MatchResult a (λ x. t ≡ x) (λ r. t ≡ refused_text r) → t ≡ sheet_text f
 unfolding sheet_text
-text_printed f t e = text_by_answer (sheet_of f) t e
-
-pub refusal_printed : (f : List ℕ) (r : Refusal) → Err r ≡ text_by (sheet_of f) → refused_text r ≡ sheet_text f
-unfolding sheet_text
-refusal_printed f r e = refusal_by_answer (sheet_of f) r e
+printed f t (Ok x) e m = m ∙ text_by_answer (sheet_of f) x e
+printed f t (Err r) e m = m ∙ refusal_by_answer (sheet_of f) r e

@@ -8,11 +8,8 @@ ghost use Rattle.sheet_text.specs.SheetText.{sheet_text, text_by, answered_text}
 
 use circuit_sheet::Sheet;
 use lines::Page;
+pub use records::INPUT;
 use refusal::Refusal;
-
-// The bytes that a program reads: a record more than the longest file, so that a longer one is seen to be
-// too long.
-pub const INPUT: usize = 4160;
 
 // The bytes of a page: a text of three slots has room.
 pub const ROOM: usize = 8192;
@@ -43,11 +40,10 @@ pub fn answer(file: &[u8]) -> Result<Page<ROOM>, Refusal>
 }
 
 // What is printed of the file: of a refused one the refusal.
+// Stays: beside `show_text` and `plot_text`, each of a line or two over its own answer; a function over what is put of either
+// case is no plainer.
 pub fn sheet_text(file: &[u8]) -> Page<ROOM>
     ensures { result ≡ sheet_text file.now }
 {
-    match answer(file) {
-        Ok(text) => text,
-        Err(r) => refused(r),
-    }
+    answer(file).unwrap_or_else(refused)
 }

@@ -9,6 +9,8 @@ use lines::Page;
 // The bytes of a page: one of three slots has room.
 pub const ROOM: usize = 9216;
 
+// Stays: beside `sheet_text` and `plot_text`, each of a line or two over its own answer; a function over what is put of either
+// case is no plainer.
 pub fn show_text(file: &[u8]) -> Page<ROOM>
     ensures { result ≡ show_text file.now }
 {

@@ -42,6 +42,7 @@ pub fn valley(s: Slot) -> Valley
 
 // Where F2 reaches F1's critical frequency above F1's peak, F1 stays a parabola; else its peak is
 // moved there, and it is a parabola that starts with F2, or a line.
+// Stays: -1 is the Rust's number for a profile without a cusp, and is compared and exported as such.
 pub fn reshape(s: Slot, v: Valley) -> F1Shape
     ensures { result ≡ f1_of s v }
 {
@@ -115,15 +116,9 @@ pub fn reshaped(s: Slot, f: F1Shape) -> Slot
     ensures { result ≡ reshaped_of s f }
 {
     Slot {
-        fi0: s.fi0,
-        fi1: s.fi1,
-        fi2: s.fi2,
-        yi0: s.yi0,
         yi1: f.yi1,
-        yi2: s.yi2,
-        hi0: s.hi0,
         hi1: f.hi1,
-        hi2: s.hi2,
         fsec: f.fsec,
+        ..s
     }
 }

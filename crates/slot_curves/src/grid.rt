@@ -5,12 +5,12 @@ ghost use Rattle.slot_curves.specs.Grid.{filled, lower_of, f2_only_of, upper_of,
 use crate::Slot;
 
 // The n places after `from`, each hdif above the one before.
-fn fill(htr: [f32; 50], from: usize, n: usize, hdif: f32) -> [f32; 50]
-    requires { from + n < 50 }
-    ensures { result ≡ filled htr from hdif n }
+// Stays: a turn reads the place that the turn before it wrote.
+pub fn fill<const M: usize>(htr: [f32; M], from: usize, n: usize, hdif: f32) -> [f32; M]
+    requires { from + n < M }
+    ensures { result ≡ filled htr.entry from hdif n }
 {
     let mut l = htr;
-    // Stays: each place is made of the one before it.
     for k in 0..n {
         let i = from + k;
         let v = l[i] + hdif;

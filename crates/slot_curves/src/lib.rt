@@ -7,9 +7,11 @@ mod grid;
 ghost use Rattle.std.specs.Prelude.{◌≡◌};
 ghost use Rattle.slot_curves.specs.Draw.{tail_of, curves_of, drawn_of};
 
+pub use grid::fill;
 use shape_densities::Curves;
 
 // One slot's layers, the Rust's `fi[k][0]` as `fi0`.
+// Stays: one slot's row of the flat tables, with a name for each number that `lecden` reads, as the formulas have them.
 #[derive(Clone, Copy, Debug, PartialEq)]
 pub struct Slot {
     pub fi0: f32,
@@ -81,6 +83,7 @@ fn tail_of(s: Slot) -> Tail
     Tail { hex, alp, fsq }
 }
 
+// Stays: number by number, since `Curves` has them flat, for the loop over fifty heights that reads them.
 fn curves_of(s: Slot, v: Valley, f: F1Shape, t: Tail) -> Curves
     ensures { result ≡ curves_of s v f t }
 {

@@ -13,6 +13,7 @@ use shapes::Mark;
 
 // The ionogram of a slot, the marks of its fifty heights, and the state as `lecden` of the slot left
 // it.
+// Stays: a slot's sheet also leaves the state, and the sheet of a file keeps rows and marks alone of the slots.
 #[derive(Clone, Copy, Debug, PartialEq)]
 pub struct SlotSheet {
     pub state: IonoState,
@@ -31,9 +32,7 @@ pub fn slot_sheet(
     ensures value { result ≡ slot_sheet_of s k nang layers cells.old }
     ensures cells_after { cells.new ≡ sheet_cells_of s k nang cells.old }
 {
-    if k > 2 {
-        return Err(Refusal::SlotNumber);
-    }
+    layers::slot_number(k)?;
     let marks = shapes::marks_slot(s, k);
     let t = profile::lecden_slot(s, k);
     let ion = sounding::genion_slot(t, k);

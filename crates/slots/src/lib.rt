@@ -29,16 +29,14 @@ fn set_point(mut s: IonoState, k: usize, p: LayerParams) -> IonoState
     s
 }
 
-// Stays: the state s and how many points or slots, n, of which the loops take the first.
+// Stays: s and n, here and at `settle_slots`, are the Rust's state and the bound of its loops.
 fn set_points(s: IonoState, params: [LayerParams; 5], n: usize) -> IonoState
     requires { n ≤ 5 }
     ensures { result ≡ points_set s params n }
 {
     let mut t = s;
-    // Stays: k is the point's row in the tables too.
-    for k in 0..n {
-        let p = params[k];
-        t = set_point(t, k, p);
+    for (k, p) in params[..n].iter().enumerate() {
+        t = set_point(t, k, *p);
     }
     t
 }
@@ -65,6 +63,7 @@ fn layer_from(mut s: IonoState, k: usize, p: usize, i: usize) -> IonoState
     s
 }
 
+// Stays: two and three slots apart, as in the Rust.
 fn two_slots(mut s: IonoState) -> IonoState
     ensures { result ≡ two_slots s }
 {

@@ -12,10 +12,8 @@ fn fvert_at(s: IonoState, k: usize) -> [f32; 30]
     requires { k < 3 }
     ensures { result ≡ fvert_at s k }
 {
-    let e = 3 * k;
-    let f1 = 3 * k + 1;
-    let f2 = 3 * k + 2;
-    sounding_grid::fvert(s.fi[e], s.fi[f1], s.fi[f2])
+    let l = profile::slot_at(s, k);
+    sounding_grid::fvert(l.fi0, l.fi1, l.fi2)
 }
 
 // The ionogram of slot k, whose number is at most 2.
@@ -31,9 +29,7 @@ pub fn genion_slot(s: IonoState, k: usize) -> Ionogram
 pub fn genion(s: IonoState, k: usize) -> Result<Ionogram, Refusal>
     ensures { result ≡ genion_answer s k }
 {
-    if k > 2 {
-        return Err(Refusal::SlotNumber);
-    }
+    layers::slot_number(k)?;
     if !owners::owned_by(s, k) {
         return Err(Refusal::Owner);
     }

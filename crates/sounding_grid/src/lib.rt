@@ -2,25 +2,10 @@
 // and F2, or F2 alone.
 #![tactic(auto)]
 
-ghost use Rattle.std.specs.Prelude.{◌≡◌, ◌+◌, ◌<◌};
-ghost use Rattle.slot_curves.specs.Grid.{filled};
+ghost use Rattle.std.specs.Prelude.{◌≡◌};
 ghost use Rattle.sounding_grid.specs.Grid.{e_grid, nose_grid, f_grid, fvert_of};
 
-// The n places after `from`, each fdif above the one before. Stays: a turn reads the place that the turn
-// before it wrote.
-fn fill(fv: [f32; 30], from: usize, n: usize, fdif: f32) -> [f32; 30]
-    requires { from + n < 30 }
-    ensures { result ≡ filled fv from fdif n }
-{
-    let mut l = fv;
-    for k in 0..n {
-        let i = from + k;
-        let v = l[i] + fdif;
-        let j = from + k + 1;
-        l[j] = v;
-    }
-    l
-}
+use slot_curves::fill;
 
 fn e_grid(fv: [f32; 30], fi0: f32) -> [f32; 30]
     ensures { result ≡ e_grid fv fi0 }

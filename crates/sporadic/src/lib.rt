@@ -2,36 +2,13 @@
 #![tactic(auto)]
 
 ghost use Rattle.std.specs.Prelude.{◌≡◌, ℕ, ◌<◌};
-ghost use Rattle.sporadic.specs.Sporadic.{as_es_row, ray_of, taken_of, es_row_of, start_of, es_from, Reads, sigl4_of, es_found_of, es_line_of};
+ghost use Rattle.sporadic.specs.Sporadic.{ray_of, taken_of, es_row_of, start_of, es_from, Reads, sigl4_of, es_found_of, es_line_of};
 ghost use Rattle.sporadic.specs.Says.{RowSays, RowsSay};
 
 use constants::RZ;
 use layer_mufs::PathNumbers;
 use layers::{EsParams, LayerMuf};
 use refusal::Refusal;
-
-// One Es row: the three frequencies of an `EsParams`, in its order, and the height.
-#[derive(Clone, Copy, Debug, PartialEq)]
-pub struct EsRow {
-    pub fs0: f32,
-    pub fs1: f32,
-    pub fs2: f32,
-    pub hs: f32,
-}
-
-impl From<EsParams> for EsRow {
-    ghost from_gives = { λ e row. row ≡ as_es_row e };
-
-    fn from(e: EsParams) -> EsRow {
-        let fs = e.fs;
-        EsRow {
-            fs0: fs[0],
-            fs1: fs[1],
-            fs2: fs[2],
-            hs: e.hs,
-        }
-    }
-}
 
 // A row's ray: the tangent of its takeoff angle, and the secant at the layer.
 #[derive(Clone, Copy, Debug, PartialEq)]
@@ -46,13 +23,9 @@ pub struct EsRay {
 pub struct EsSearch {
     pub esmuf: f32,
     pub ksx: usize,
-    pub tdelx: f32,
-    pub secpx: f32,
+    pub ray: EsRay,
     pub hop: f32,
-    pub fs0: f32,
-    pub fs1: f32,
-    pub fs2: f32,
-    pub hs: f32,
+    pub row: EsParams,
 }
 
 // The row whose lower decile is written anew, and that decile.
@@ -63,7 +36,7 @@ pub struct Rewrite {
 }
 
 // The Es line, and what is written into its row if one controls.
-#[derive(Clone, Copy)]
+#[derive(Clone, Copy, Debug, PartialEq)]
 pub struct EsLine {
     pub line: LayerMuf,
     pub rewrite: Option<Rewrite>,
@@ -76,47 +49,33 @@ pub fn es_ray(hs: f32, hop: f32, gcd: f32) -> EsRay
     let tdel = (waves::cos(psi) - RZ / (RZ + hs)) / waves::sin(psi);
     let cdel = 1.0 / scalar::sqrt(1.0 + tdel * tdel);
     let sphe = RZ * cdel / (RZ + hs);
-    let secp = 1.0 / scalar::sqrt(1.0 - sphe * sphe);
+    let secp = hops::secant(sphe);
     EsRay { tdel, secp }
 }
 
 // Row k controls where its MUF is the lowest so far.
-fn es_taken(a: EsSearch, k: usize, row: EsRow, ray: EsRay, hop: f32) -> EsSearch
+fn es_taken(a: EsSearch, k: usize, row: EsParams, ray: EsRay, hop: f32) -> EsSearch
     ensures { result ≡ taken_of a k row ray hop }
 {
-    let esd = row.fs1 * ray.secp;
+    let esd = row.fs[1] * ray.secp;
     if a.esmuf - esd > 0.0 {
         return EsSearch {
             esmuf: esd,
             ksx: k,
-            tdelx: ray.tdel,
-            secpx: ray.secp,
+            ray,
             hop,
-            fs0: row.fs0,
-            fs1: row.fs1,
-            fs2: row.fs2,
-            hs: row.hs,
+            row,
         };
     }
-    EsSearch {
-        esmuf: a.esmuf,
-        ksx: a.ksx,
-        tdelx: a.tdelx,
-        secpx: a.secpx,
-        hop,
-        fs0: a.fs0,
-        fs1: a.fs1,
-        fs2: a.fs2,
-        hs: a.hs,
-    }
+    EsSearch { hop, ..a }
 }
 
 // One row's turn: passed over where its median is at most 0.
-pub fn es_row(a: EsSearch, k: usize, row: EsRow, c: PathNumbers) -> Result<EsSearch, Refusal>
+pub fn es_row(a: EsSearch, k: usize, row: EsParams, c: PathNumbers) -> Result<EsSearch, Refusal>
     ensures value { result ≡ es_row_of a k row c }
     ensures row_says { RowSays result a k row c }
 {
-    if row.fs1 <= 0.0 {
+    if row.fs[1] <= 0.0 {
         return Ok(a);
     }
     let hop = hops::hop_count(c.gcdkm, c.amind, row.hs)?;
@@ -125,28 +84,35 @@ pub fn es_row(a: EsSearch, k: usize, row: EsRow, c: PathNumbers) -> Result<EsSea
 }
 
 // No row controls yet.
+// Stays: 1000 is where the Rust starts, and a row at or above it does not count; so in `nominal`.
 pub fn es_start() -> EsSearch
     ensures { result ≡ start_of }
 {
     EsSearch {
         esmuf: 1000.0,
         ksx: 0,
-        tdelx: 0.0,
-        secpx: 0.0,
+        ray: EsRay {
+            tdel: 0.0,
+            secp: 0.0,
+        },
         hop: 0.0,
-        fs0: 0.0,
-        fs1: 0.0,
-        fs2: 0.0,
-        hs: 0.0,
+        row: EsParams {
+            fs: [0.0; 3],
+            hs: 0.0,
+        },
     }
 }
 
 // The first n rows, in order, each as `row` reads it.
 // Stays: a row's number is what its reader is asked by, and what the search keeps of it.
-pub fn search<F: Fn(usize) -> EsRow>(row: F, n: usize, c: PathNumbers) -> Result<EsSearch, Refusal>
+pub fn search<F: Fn(usize) -> EsParams>(
+    row: F,
+    n: usize,
+    c: PathNumbers,
+) -> Result<EsSearch, Refusal>
     requires { (k : ℕ) → k < n → F.pre row k }
-    ensures value { (rows : ℕ → EsRow) → Reads (F.post row) n rows → result ≡ es_from rows c n 0 start_of }
-    ensures rows_say { (rows : ℕ → EsRow) → Reads (F.post row) n rows → RowsSay result rows c n 0 start_of }
+    ensures value { (rows : ℕ → EsParams) → Reads (F.post row) n rows → result ≡ es_from rows c n 0 start_of }
+    ensures rows_say { (rows : ℕ → EsParams) → Reads (F.post row) n rows → RowsSay result rows c n 0 start_of }
 {
     let mut a = es_start();
     for k in 0..n {
@@ -175,23 +141,17 @@ fn lower_spread(xes: f32, sigb: f32, sigu4: f32) -> f32
 fn es_found(a: EsSearch, fe: f32) -> EsLine
     ensures { result ≡ es_found_of a fe }
 {
-    let sigu4 = (a.fs2 - a.fs1) / 1.28;
-    let sigb = (a.fs1 - a.fs0) / 1.28;
-    let sigz = (a.fs1 - 0.1) / 3.1;
-    let xes = fe - a.fs0;
+    let EsParams { fs, hs } = a.row;
+    let [fs0, fs1, fs2] = fs;
+    let EsRay { tdel, secp } = a.ray;
+    let sigu4 = (fs2 - fs1) / 1.28;
+    let sigb = (fs1 - fs0) / 1.28;
+    let sigz = (fs1 - 0.1) / 3.1;
+    let xes = fe - fs0;
     let sigl4 = scalar::min(lower_spread(xes, sigb, sigu4), sigz);
-    let lower = a.fs1 - 1.28 * sigl4;
-    let del = arcs::atan(a.tdelx);
-    let line = e_lines::line(
-        sigl4 * a.secpx,
-        sigu4 * a.secpx,
-        del,
-        a.hs,
-        a.hs,
-        a.fs1,
-        a.hop,
-        a.esmuf,
-    );
+    let lower = fs1 - 1.28 * sigl4;
+    let del = arcs::atan(tdel);
+    let line = e_lines::line(sigl4 * secp, sigu4 * secp, del, hs, hs, fs1, a.hop, a.esmuf);
     EsLine {
         line,
         rewrite: Some(Rewrite { ksx: a.ksx, lower }),

@@ -23,13 +23,10 @@ use Rattle.port_state.specs.Owners.{owner_of_word, word_of_owner}
 use Rattle.port_state.specs.State.{state_of, tables_into, profile_into, counts_into, flags_into, owner_into, exact_into, state_into}
 use Rattle.state_laws.specs.ReadBack.{Floats, WordsSuffice, StateReadBack, WordsSufficeRead}
 use Rattle.state_laws.proofs.Owners.{owner-read-back}
+use Rattle.std.proofs.lemmas.Bool.{and_parts}
+use Rattle.std.proofs.lemmas.List.{get_or-map}
 
 -- ---- lists
-
-map_at : {A B : Type 0} (f : A → B) (l : List A) (i : ℕ) (d : B) (e : A) → i < length l → get_or (map f l) i d ≡ f (get_or l i e)
-map_at f [] i d e h = absurd (omega arith)
-map_at f (x ∷ l) zero d e h = refl
-map_at f (x ∷ l) (suc i) d e h = map_at f l i d e (omega arith)
 
 -- n floats written from word a on
 module _ (w : List ℕ) (a n : ℕ) (x : List Float) (long : length x ≡ n) (room : a + n ≤ length w) where
@@ -56,7 +53,7 @@ module _ (w : List ℕ) (a n : ℕ) (x : List Float) (long : length x ≡ n) (ro
       get_or-append (take a w ++ map (to_bits binary32) x) (drop (a + length x) w) 0 (a + i) (rw body-length (omega arith))
       ∙ ap (λ (k : ℕ). get_or (take a w ++ map (to_bits binary32) x) (k + i) 0) (sym head-length)
       ∙ get_or-append-add (take a w) (map (to_bits binary32) x) i 0
-      ∙ map_at (to_bits binary32) x i 0 nan (rw long h)
+      ∙ get_or-map (to_bits binary32) x i nan 0 (rw long h)
 
 -- n floats read from word a on
 floats-are : (u : List ℕ) (a n : ℕ) (x : List Float) → Floats n x → a + n ≤ length u → ((i : ℕ) → i < n → word u (a + i) ≡ to_bits binary32 (at x i)) → floats_of u a n ≡ x
@@ -66,7 +63,7 @@ floats-are u a n x f room h =
     let l : length part ≡ n = length-take-le n (drop a u) (rw length-drop (omega arith)) in
     ext_get_or nan (map (of_bits binary32) part) x (rw length-map (l ∙ sym f.0))
     (λ i b. let k : i < n = subst (λ (m : ℕ). i < m) (rw length-map l) b in
-    map_at (of_bits binary32) part i nan 0 (rw l k)
+    get_or-map (of_bits binary32) part i 0 nan (rw l k)
     ∙ ap (of_bits binary32) (get_or-take n (drop a u) i 0 k ∙ get_or-drop a u i 0 ∙ h i k)
     ∙ of_bits-to_bits binary32 (at x i) (f.1 i))
 
@@ -302,11 +299,6 @@ signed-small : (w : ℕ) → w < 0x1_0000_0000 → mag (signed_of w) < 0x8000_00
 unfolding signed_of
 signed-small w h = signed_by_lem (ltb w 0x8000_0000) w refl h
 
-second-of : (a b : Bool) → (a && b) ≡ true → b ≡ true
-second-of true b e = e
-second-of false true e = refl
-second-of false false e = e
-
 owner-by : (a b : Bool) (w : ℕ) → (b ≡ true → w ≤ 3) → owner_slot (cond a Owner.Supplied (cond b (Owner.Slot (w - 1)) Owner.None)) < 3
 owner-by true b w h = omega arith
 owner-by false true w h = let k = h refl in omega arith
@@ -314,7 +306,7 @@ owner-by false false w h = omega arith
 
 owner-read : (w : ℕ) → owner_slot (owner_of_word w) < 3
 unfolding owner_of_word
-owner-read w = owner-by (eqb w 4) (leb 1 w && leb w 3) w (λ e. leb-true w 3 (second-of (leb 1 w) (leb w 3) e))
+owner-read w = owner-by (eqb w 4) (leb 1 w && leb w 3) w (λ e. leb-true w 3 (and_parts (leb 1 w) (leb w 3) e).1)
 
 pub words-suffice : WordsSufficeRead
 unfolding state_of

@@ -5,7 +5,7 @@ use lib.Ieee.{Float}
 use Rattle.lines.proofs.Sizes.{AtMost, ◌then◌, word, decimal}
 use Rattle.aligned.specs.Ascii.{ascii}
 use Rattle.svg_trace.proofs.Lengths.{counted}
-use Rattle.svg_text.proofs.Lengths.{figure}
+use Rattle.figure_text.proofs.Widths.{figure-most}
 use Rattle.svg_axes.proofs.Lengths.{axes}
 use Rattle.svg_legend.proofs.Lengths.{shapes, lines}
 use Rattle.svg_frame.specs.Frame.{size_text, style_text, dots_text, forms_text, call_text, defined_text, head_text}
@@ -31,7 +31,7 @@ forms = counted forms_text 422 refl
 call : (muf : Float) → AtMost (call_text muf) 167
 unfolding call_text
 call muf =
-    word (ascii "<text class='b' x='300' y='240'>Circuit MUF ") then figure muf then word (ascii " MHz</text>\n") then word (ascii "<text class='n e' x='6400' y='240'>Not drawn: what is outside a frame, below zero or not a number.</text>\n")
+    word (ascii "<text class='b' x='300' y='240'>Circuit MUF ") then figure-most muf then word (ascii " MHz</text>\n") then word (ascii "<text class='n e' x='6400' y='240'>Not drawn: what is outside a frame, below zero or not a number.</text>\n")
 
 defined : AtMost defined_text 2877
 unfolding defined_text

@@ -3,17 +3,16 @@
 // Stays: functions of our own and no `Display`, for the reason in crate `lines`.
 #![tactic(auto, using(lines::proofs::Placing::putting))]
 
-ghost use Rattle.std.specs.Prelude.{◌≡◌, ◌≤◌};
+ghost use Rattle.std.specs.Prelude.{◌≡◌};
 ghost use Rattle.lines.specs.Text.{with_text};
 ghost use Rattle.svg_frame.specs.Frame.{size_text, style_text, dots_text, forms_text, call_text, defined_text, head_text};
 
 use lines::Page;
 
-fn put_size<const N: usize>(page: &mut Page<N>, slots: u64)
-    requires { slots ≤ 3 }
+fn put_size<const N: usize>(page: &mut Page<N>, slots: u8)
     ensures { page.new ≡ with_text N page.old (size_text slots) }
 {
-    let height = 80 + 400 * slots;
+    let height = 80 + 400 * u64::from(slots);
     page.put_word(b"<svg xmlns='http://www.w3.org/2000/svg' width='700' height='");
     page.put_decimal(height);
     page.put_word(b"' viewBox='0 0 7000 ");
@@ -87,8 +86,7 @@ fn put_defined<const N: usize>(page: &mut Page<N>)
 }
 
 #[tactic(auto, using(lines::proofs::Placing::putting), unfolding(crate::specs::Frame::head_text))]
-pub fn put_head<const N: usize>(page: &mut Page<N>, slots: u64, muf: f32)
-    requires { slots ≤ 3 }
+pub fn put_head<const N: usize>(page: &mut Page<N>, slots: u8, muf: f32)
     ensures { page.new ≡ with_text N page.old (head_text slots muf) }
 {
     put_size(page, slots);

@@ -6,18 +6,13 @@ use lib.Ieee.{Float}
 use Rattle.std.specs.Prelude.{Option, None, Some}
 use Rattle.scalar.specs.Literals.{f0}
 use Rattle.lines.proofs.Sizes.{AtMost, ◌then◌, word, decimal}
-use Rattle.figures.specs.Figure.{figure_of}
-use Rattle.figure_text.specs.FigureText.{figure_text}
-use Rattle.figure_text.proofs.Widths.{figure-five}
+use Rattle.figure_text.proofs.Widths.{figure-most}
 use Rattle.shapes.specs.declared.Mark.{Mark}
 use Rattle.svg_points.specs.declared.Place.{Place}
 use Rattle.aligned.specs.Ascii.{ascii}
 use Rattle.svg_points.specs.Points.{point_drawn_of}
 use Rattle.svg_text.specs.Pieces.{id_of, use_text, mark_by, mark_text, line_text, muf_by, muf_text}
 use Rattle.svg_trace.proofs.Lengths.{counted, none}
-
-pub figure : (x : Float) → AtMost (figure_text (figure_of x)) 5
-figure x = record { most = omega (arith, figure-five x) }
 
 id : (m : Mark) → AtMost (id_of m) 6
 unfolding id_of
@@ -45,7 +40,7 @@ mark m f h = mark-by (point_drawn_of f h) m
 line : (x : ℕ) (muf : Float) → AtMost (line_text x muf) 124
 unfolding line_text
 line x muf =
-    word (ascii "<path class='muf' d='M") then decimal x then word (ascii " 500V3500'/><text class='m' x='") then decimal x then word (ascii "' y='440'>MUF ") then figure muf then word (ascii " MHz</text>\n")
+    word (ascii "<path class='muf' d='M") then decimal x then word (ascii " 500V3500'/><text class='m' x='") then decimal x then word (ascii "' y='440'>MUF ") then figure-most muf then word (ascii " MHz</text>\n")
 
 muf-by : (d : Option Place) (muf : Float) → AtMost (muf_by d muf) 124
 muf-by (Some p) muf = line p.x muf

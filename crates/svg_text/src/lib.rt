@@ -10,7 +10,8 @@ use lines::Page;
 use shapes::Mark;
 use svg_points::Place;
 
-// Stays: neither the mark nor the bytes are types of this crate, so no `From` can stand here.
+// Stays: neither the mark nor its word is a type of this crate, so no `From` can stand here, and a trait of our own for one match is
+// no plainer.
 #[tactic(auto, unfolding(crate::specs::Pieces::id_of))]
 fn id(m: Mark) -> &'static [u8]
     ensures { result.now ≡ id_of m }
@@ -48,6 +49,7 @@ pub fn put_mark<const N: usize>(page: &mut Page<N>, m: Mark, f: f32, h: f32)
     }
 }
 
+// Stays: a text of its own beside that of `svg_axes`, `put_across`, of which only a piece is alike.
 #[tactic(auto, using(lines::proofs::Placing::putting), unfolding(crate::specs::Pieces::line_text))]
 fn put_line<const N: usize>(page: &mut Page<N>, x: u64, muf: f32)
     ensures { page.new ≡ with_text N page.old (line_text x muf) }

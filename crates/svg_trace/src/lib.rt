@@ -39,6 +39,7 @@ fn put_step<const N: usize>(page: &mut Page<N>, last: Option<Place>, here: Optio
 }
 
 // The line through thirty rows, broken where a row has no point.
+// Stays: two columns side by side, since the ionogram has its rows by columns, as the Rust has.
 #[tactic(auto, using(lines::proofs::Placing::putting), unfolding(crate::specs::Trace::before_of))]
 pub fn put_trace<const N: usize>(page: &mut Page<N>, f: &[f32; 30], h: &[f32; 30])
     ensures { page.new ≡ with_text N page.old (trace_text f.now h.now) }

@@ -38,5 +38,4 @@ f2_tangent_of l gcdkm =
 unfoldable pub tangents_of : Slot → Float → Tangents
 tangents_of l gcdkm =
     let xte = xt_of l.yi0 l.hi0 in
-    let f2 = f2_tangent_of l gcdkm in
-    record { fxe = xte *f l.fi0; fx1 = fx1_of l; fx2 = f2.fx2; xt2 = f2.xt2 }
+    record { fxe = xte *f l.fi0; fx1 = fx1_of l; f2 = f2_tangent_of l gcdkm }

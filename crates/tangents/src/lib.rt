@@ -6,19 +6,18 @@ ghost use Rattle.tangents.specs.Tangents.{xt_of, fx1_of, beta_of, f2_tangent_of,
 
 use slot_curves::Slot;
 
+// F2's tangent frequency, and its ratio to the critical one.
 #[derive(Clone, Copy, Debug, PartialEq)]
 pub struct F2Tangent {
     pub fx2: f32,
     pub xt2: f32,
 }
 
-// Tangent frequencies, and the F2 ratio that one of them was made with.
 #[derive(Clone, Copy, Debug, PartialEq)]
 pub struct Tangents {
     pub fxe: f32,
     pub fx1: f32,
-    pub fx2: f32,
-    pub xt2: f32,
+    pub f2: F2Tangent,
 }
 
 // The tangent frequency of a layer over its critical one.
@@ -28,7 +27,8 @@ fn tangent_ratio(y: f32, h: f32) -> f32
     1.0 / scalar::sqrt(1.0 + 0.5 * y / h)
 }
 
-// 0 without an F1; a NaN counts as none.
+// 0 without an F1; a NaN counts as none. Stays: the 0 is the Rust's, and an `Option` could not say of a
+// NaN that it is none here and an F1 to `f1_line`.
 fn f1_tangent(l: Slot) -> f32
     ensures { result ≡ fx1_of l }
 {
@@ -71,7 +71,6 @@ pub fn tangent_frequencies(l: Slot, gcdkm: f32) -> Tangents
     Tangents {
         fxe: xte * l.fi0,
         fx1,
-        fx2: f2.fx2,
-        xt2: f2.xt2,
+        f2,
     }
 }

@@ -1,5 +1,5 @@
 -- Each test of the definition holds where its meaning does, and only there.
-use mathlib.Core.Bool.{Bool, true, false, cond, ◌&&◌, false≢true}
+use mathlib.Core.Bool.{Bool, true, false, cond, ◌&&◌}
 use mathlib.Core.List.{List, [], ◌∷◌}
 use mathlib.Core.Path.{◌≡◌, refl, ap, sym}
 use Prim.Native.Nat.{ℕ, zero, suc, ◌+◌, ◌*◌, ◌/◌, ◌%◌, ◌≤◌, ◌<◌}
@@ -13,6 +13,8 @@ use lib.ListN.{length, get_or}
 use Rattle.std.specs.Prelude.{Some, Ok, Err}
 use Rattle.std.specs.Int.{div_ceil}
 use Rattle.std.specs.List.{list_all, position_or_len, IsAllAdjacentAnswer}
+use Rattle.std.proofs.Math.Bool.{and-false}
+use Rattle.std.proofs.lemmas.Bool.{and_parts}
 use Rattle.std.proofs.lemmas.Bool.Decides.{nat_tests}
 use Rattle.std.proofs.lemmas.List.Recursion.{same_from_clauses, is_position_or_len}
 use Rattle.refusal.specs.declared.Refusal.{Refusal}
@@ -21,25 +23,13 @@ use Rattle.figures.specs.declared.Printed.{Printed}
 use Rattle.tariff.specs.Price.{within, rising, tariff_good, first_band, band_of, rounded_up, figure_price, printed_price, price_of}
 use Rattle.tariff.specs.Meaning.{Described, TariffRule, FirstBand, BandRule, LeastCents, CentsRule, Priced, OnlySeconds, PriceRule}
 
-pub and_left : (a b : Bool) → (a && b) ≡ true → a ≡ true
-and_left true b t = refl
-and_left false b t = absurd (false≢true t)
-
-pub and_right : (a b : Bool) → (a && b) ≡ true → b ≡ true
-and_right true b t = t
-and_right false b t = absurd (false≢true t)
-
-pub and-false : (a : Bool) → (a && false) ≡ false
-and-false true = refl
-and-false false = refl
-
 -- ---- the lists
 
 pub within-is : (most : ℕ) (xs : List ℕ) → within most xs ≡ true → (i : ℕ) → i < length xs → get_or xs i 0 ≤ most
 unfolding within
 within-is most [] t i h = absurd (omega arith)
-within-is most (x ∷ xs) t zero h = leb-true x most (and_left _ _ t)
-within-is most (x ∷ xs) t (suc i) h = within-is most xs (and_right (leb x most) _ t) i (omega arith)
+within-is most (x ∷ xs) t zero h = leb-true x most (and_parts _ _ t).0
+within-is most (x ∷ xs) t (suc i) h = within-is most xs (and_parts (leb x most) _ t).1 i (omega arith)
 
 pub within-only : (most : ℕ) (xs : List ℕ) → ((i : ℕ) → i < length xs → get_or xs i 0 ≤ most) → within most xs ≡ true
 unfolding within
@@ -50,8 +40,8 @@ pub rising-is : (xs : List ℕ) → rising xs ≡ true → (i : ℕ) → suc i <
 unfolding rising
 rising-is [] t i h = absurd (omega arith)
 rising-is (x ∷ []) t i h = absurd (omega arith)
-rising-is (x ∷ y ∷ ys) t zero h = ltb-true x y (and_left _ _ t)
-rising-is (x ∷ y ∷ ys) t (suc i) h = rising-is (y ∷ ys) (and_right (ltb x y) _ t) i (omega arith)
+rising-is (x ∷ y ∷ ys) t zero h = ltb-true x y (and_parts _ _ t).0
+rising-is (x ∷ y ∷ ys) t (suc i) h = rising-is (y ∷ ys) (and_parts (ltb x y) _ t).1 i (omega arith)
 
 pub rising-only : (xs : List ℕ) → ((i : ℕ) → suc i < length xs → get_or xs i 0 < get_or xs (suc i) 0) → rising xs ≡ true
 unfolding rising
@@ -144,11 +134,11 @@ rounded-by n = grind (arith, nat_tests)
 pub described : (tops rates : List ℕ) → tariff_good tops rates ≡ true → Described tops rates
 unfolding tariff_good
 described tops rates t =
-    let a = and_right (eqb (length tops) (length rates)) _ t in
-    let b = and_right (leb 1 (length tops)) _ a in
-    let c = and_right (leb (length tops) 16) _ b in
-    let d = and_right (within 9999 tops) _ c in
-    record { paired = eqb-true (length tops) (length rates) (and_left _ _ t); some = leb-true 1 (length tops) (and_left _ _ a); few = leb-true (length tops) 16 (and_left _ _ b); top = within-is 9999 tops (and_left _ _ c); rises = λ i h. rw (add-one i) (rising-is tops (and_left _ _ d) i (omega arith)); rate = within-is 10000 rates (and_right (rising tops) _ d) }
+    let a = (and_parts (eqb (length tops) (length rates)) _ t).1 in
+    let b = (and_parts (leb 1 (length tops)) _ a).1 in
+    let c = (and_parts (leb (length tops) 16) _ b).1 in
+    let d = (and_parts (within 9999 tops) _ c).1 in
+    record { paired = eqb-true (length tops) (length rates) (and_parts _ _ t).0; some = leb-true 1 (length tops) (and_parts _ _ a).0; few = leb-true (length tops) 16 (and_parts _ _ b).0; top = within-is 9999 tops (and_parts _ _ c).0; rises = λ i h. rw (add-one i) (rising-is tops (and_parts _ _ d).0 i (omega arith)); rate = within-is 10000 rates (and_parts (rising tops) _ d).1 }
 
 good-by : (tops rates : List ℕ) → Described tops rates → tariff_good tops rates ≡ true
 unfolding tariff_good

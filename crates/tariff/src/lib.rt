@@ -27,8 +27,7 @@ fn good(tops: &[u32], rates: &[u32]) -> bool
     ensures { result ≡ tariff_good tops.now rates.now }
 {
     tops.len() == rates.len()
-        && 1 <= tops.len()
-        && tops.len() <= 16
+        && (1..=16).contains(&tops.len())
         && all_within(9999, tops)
         && rises(tops)
         && all_within(10000, rates)
@@ -56,7 +55,7 @@ fn figure_price(tenths: u32, tops: &[u32], rates: &[u32], seconds: u32) -> Resul
     let Some(band) = first_band(tenths, tops) else {
         return Err(Refusal::Tariff);
     };
-    if seconds < 1 || seconds > 86400 {
+    if !(1..=86400).contains(&seconds) {
         return Err(Refusal::Seconds);
     }
     Ok(rounded_up(rates[band] * seconds))

@@ -2,7 +2,7 @@
 -- kHz of two traces that begin with x and y begin with the smaller.
 use Prim.Native.Nat.{ℕ, zero, suc, ◌≤◌, ◌<◌}
 use mathlib.Core.Path.{◌≡◌, refl}
-use mathlib.Core.Bool.{Bool, true, false, ◌&&◌, cond}
+use mathlib.Core.Bool.{Bool, true, false, cond}
 use mathlib.Core.List.{List, [], ◌∷◌}
 use native.Mathlib.Omega.{arith}
 use lib.Dec.{eqb, ltb}
@@ -10,6 +10,7 @@ use lib.ListN.{drop}
 use borrow.Author.Tests.{ltb-true, ltb-false, eqb-false, lt-ltb, le-ltb, eq-eqb, ne_eqb}
 use Rattle.trace_lines.specs.Trace.{rises}
 use Rattle.trace_lines.specs.Lines.{put, listed}
+use Rattle.std.proofs.lemmas.Bool.{and_parts}
 
 abbrev pub Above : ℕ → List ℕ → Type 0
 Above z [] = Unit
@@ -18,10 +19,6 @@ Above z (x ∷ l) = (z < x) × Above z l
 abbrev pub Up : List ℕ → Type 0
 Up [] = Unit
 Up (x ∷ l) = Above x l × Up l
-
-pub both : (s t : Bool) → (s && t) ≡ true → (s ≡ true) × (t ≡ true)
-both true t e = (refl, e)
-both false t e = let z : ◌≡◌ {A = ℕ} 0 1 = cc in absurd (omega arith)
 
 pub above-less : (y z : ℕ) (l : List ℕ) → z ≤ y → Above y l → Above z l
 above-less y z [] h a = tt
@@ -32,7 +29,7 @@ unfolding rises
 up [] e = tt
 up (x ∷ []) e = (tt, tt)
 up (x ∷ (y ∷ l)) e =
-    let b = both (ltb x y) (rises (y ∷ l)) e in
+    let b = and_parts (ltb x y) (rises (y ∷ l)) e in
     let h : x < y = ltb-true x y b.0 in
     let u : Up (y ∷ l) = up (y ∷ l) b.1 in
     ((h, above-less y x l (omega arith) u.0), u)

@@ -1,6 +1,6 @@
 -- The lines of two rising traces are the line at the smaller of the two kHz that they begin with, and the lines of what is left
 -- of them: what the code goes by.
-use Prim.Native.Nat.{ℕ, zero, suc, ◌+◌, ◌≤◌, ◌<◌}
+use Prim.Native.Nat.{ℕ, ◌+◌, ◌≤◌, ◌<◌}
 use mathlib.Core.Path.{◌≡◌, refl, ap, sym, ◌∙◌, subst}
 use mathlib.Core.Bool.{Bool, true, false, cond}
 use mathlib.Core.List.{List, [], ◌∷◌, map}
@@ -9,7 +9,6 @@ use native.Mathlib.Omega.{arith}
 use lib.Dec.{eqb, ltb}
 use lib.IntN.{pos, ◌-ℤ◌}
 use lib.ListN.{length, get_or, drop}
-use lib.Seq.{drop-cons}
 use borrow.Author.Tests.{ltb-true, ltb-false, eq-eqb, ne_eqb}
 use Rattle.trace_lines.specs.Trace.{height_at_khz}
 use Rattle.trace_lines.specs.Lines.{in_both, which_number, of_first, of_second, listed, trace_line, trace_lines, line_at}
@@ -144,67 +143,41 @@ goes (x ∷ xs) (h₁ ∷ hs) (y ∷ ys) [] u v e g h = absurd (omega arith)
 goes (x ∷ xs) (h₁ ∷ hs) (y ∷ ys) (k ∷ ks) u v e g h =
     goes_by x h₁ y k xs hs ys ks u.0 v.0 (ltb x y) (ltb y x) refl refl
 
--- ---- the same from row i of the one and row j of the other on
+-- ---- the first line, by how the two traces begin
 
-above_from : (x : ℕ) (l : List ℕ) (j : ℕ) → Up l → (j < length l → x < get_or l j 0) → Above x (drop j l)
-above_from x [] zero u h = tt
-above_from x [] (suc j) u h = tt
-above_from x (y ∷ l) zero u h = let k : x < y = h (omega arith) in (k, above-less y x l (omega arith) u.0)
-above_from x (y ∷ l) (suc j) u h = above_from x l j u.1 (λ k. h (omega arith))
+above-all : (x : ℕ) (l : List ℕ) → Up l → (0 < length l → x < get_or l 0 0) → Above x l
+above-all x [] u h = tt
+above-all x (y ∷ l) u h = let k : x < y = h (omega arith) in (k, above-less y x l (omega arith) u.0)
 
-above-next : (l : List ℕ) (i : ℕ) → Up l → i < length l → Above (get_or l i 0) (drop (suc i) l)
-above-next [] i u h = absurd (omega arith)
-above-next (x ∷ l) zero u h = u.0
-above-next (x ∷ l) (suc i) u h = above-next l i u.1 (omega arith)
+pub head_first : (a ah b bh : List ℕ) → Rows a ah → Rows b bh → 0 < length a → (0 < length b → get_or a 0 0 < get_or b 0 0)
+    → record { khz = get_or a 0 0; which = Which.First; difference = pos 0 } ≡ line_at (trace_lines a ah b bh) 0
+head_first [] ah b bh ra rb h k = absurd (omega arith)
+head_first (x ∷ xs) [] b bh ra rb h k = absurd (let g = ra.heights in omega arith)
+head_first (x ∷ xs) (h₁ ∷ hs) b bh ra rb h k =
+    let u = up (x ∷ xs) ra.rising in
+    sym
+    (ap (λ (ls : List Line). line_at ls 0) (step-first x h₁ xs hs b bh u.0 (above-all x b (up b rb.rising) k)))
 
-module _ (a ah b bh : List ℕ) (ra : Rows a ah) (rb : Rows b bh) (i j : ℕ) where
-  pub head_first : i < length a → (j < length b → get_or a i 0 < get_or b j 0)
-      → record { khz = get_or a i 0; which = Which.First; difference = pos 0 }
-      ≡ line_at (trace_lines (drop i a) (drop i ah) (drop j b) (drop j bh)) 0
-  head_first h k =
-      let u = up a ra.rising in
-      let g = ra.heights in
-      sym
-      (ap (λ (l : List ℕ). line_at (trace_lines l (drop i ah) (drop j b) (drop j bh)) 0) (drop-cons a i 0 h)
-      ∙ ap (λ (l : List ℕ). line_at (trace_lines (get_or a i 0 ∷ drop (suc i) a) l (drop j b) (drop j bh)) 0)
-      (drop-cons ah i 0 (omega arith))
-      ∙ ap (λ (ls : List Line). line_at ls 0)
-      (step-first (get_or a i 0) (get_or ah i 0) (drop (suc i) a) (drop (suc i) ah) (drop j b) (drop j bh) (above-next a i u h)
-      (above_from (get_or a i 0) b j (up b rb.rising) k)))
+pub head-second : (a ah b bh : List ℕ) → Rows a ah → Rows b bh → 0 < length b → (0 < length a → get_or b 0 0 < get_or a 0 0)
+    → record { khz = get_or b 0 0; which = Which.Second; difference = pos 0 } ≡ line_at (trace_lines a ah b bh) 0
+head-second a ah [] bh ra rb h k = absurd (omega arith)
+head-second a ah (y ∷ ys) [] ra rb h k = absurd (let g = rb.heights in omega arith)
+head-second a ah (y ∷ ys) (k₁ ∷ ks) ra rb h k =
+    let v = up (y ∷ ys) rb.rising in
+    sym
+    (ap (λ (ls : List Line). line_at ls 0) (step-second y k₁ a ah ys ks (above-all y a (up a ra.rising) k) v.0))
 
-  pub head-second : j < length b → (i < length a → get_or b j 0 < get_or a i 0)
-      → record { khz = get_or b j 0; which = Which.Second; difference = pos 0 }
-      ≡ line_at (trace_lines (drop i a) (drop i ah) (drop j b) (drop j bh)) 0
-  head-second h k =
-      let v = up b rb.rising in
-      let g = rb.heights in
-      sym
-      (ap (λ (l : List ℕ). line_at (trace_lines (drop i a) (drop i ah) l (drop j bh)) 0) (drop-cons b j 0 h)
-      ∙ ap (λ (l : List ℕ). line_at (trace_lines (drop i a) (drop i ah) (get_or b j 0 ∷ drop (suc j) b) l) 0)
-      (drop-cons bh j 0 (omega arith))
-      ∙ ap (λ (ls : List Line). line_at ls 0)
-      (step-second (get_or b j 0) (get_or bh j 0) (drop i a) (drop i ah) (drop (suc j) b) (drop (suc j) bh)
-      (above_from (get_or b j 0) a i (up a ra.rising) k) (above-next b j v h)))
-
-  pub head-both : i < length a → j < length b → get_or a i 0 ≡ get_or b j 0
-      → record { khz = get_or a i 0; which = Which.Both; difference = pos (get_or ah i 0) -ℤ pos (get_or bh j 0) }
-      ≡ line_at (trace_lines (drop i a) (drop i ah) (drop j b) (drop j bh)) 0
-  head-both h k e =
-      let u = up a ra.rising in
-      let v = up b rb.rising in
-      let g = ra.heights in
-      let m = rb.heights in
-      sym
-      (ap (λ (l : List ℕ). line_at (trace_lines l (drop i ah) (drop j b) (drop j bh)) 0) (drop-cons a i 0 h)
-      ∙ ap (λ (l : List ℕ). line_at (trace_lines (get_or a i 0 ∷ drop (suc i) a) l (drop j b) (drop j bh)) 0)
-      (drop-cons ah i 0 (omega arith))
-      ∙ ap
-      (λ (l : List ℕ). line_at (trace_lines (get_or a i 0 ∷ drop (suc i) a) (get_or ah i 0 ∷ drop (suc i) ah) l (drop j bh)) 0)
-      (drop-cons b j 0 k ∙ ap (λ (y : ℕ). y ∷ drop (suc j) b) (sym e))
-      ∙ ap
-      (λ (l : List ℕ). line_at
-      (trace_lines (get_or a i 0 ∷ drop (suc i) a) (get_or ah i 0 ∷ drop (suc i) ah) (get_or a i 0 ∷ drop (suc j) b) l) 0)
-      (drop-cons bh j 0 (omega arith))
-      ∙ ap (λ (ls : List Line). line_at ls 0)
-      (step_both (get_or a i 0) (get_or ah i 0) (get_or bh j 0) (drop (suc i) a) (drop (suc i) ah) (drop (suc j) b) (drop (suc j) bh)
-      (above-next a i u h) (subst (λ (y : ℕ). Above y (drop (suc j) b)) (sym e) (above-next b j v k))))
+pub head-both : (a ah b bh : List ℕ) → Rows a ah → Rows b bh → 0 < length a → 0 < length b → get_or a 0 0 ≡ get_or b 0 0
+    → record { khz = get_or a 0 0; which = Which.Both; difference = pos (get_or ah 0 0) -ℤ pos (get_or bh 0 0) }
+    ≡ line_at (trace_lines a ah b bh) 0
+head-both [] ah b bh ra rb h k e = absurd (omega arith)
+head-both (x ∷ xs) [] b bh ra rb h k e = absurd (let g = ra.heights in omega arith)
+head-both (x ∷ xs) (h₁ ∷ hs) [] bh ra rb h k e = absurd (omega arith)
+head-both (x ∷ xs) (h₁ ∷ hs) (y ∷ ys) [] ra rb h k e = absurd (let g = rb.heights in omega arith)
+head-both (x ∷ xs) (h₁ ∷ hs) (y ∷ ys) (k₁ ∷ ks) ra rb h k e =
+    let u = up (x ∷ xs) ra.rising in
+    let v = up (y ∷ ys) rb.rising in
+    sym
+    (ap (λ (z : ℕ). line_at (trace_lines (x ∷ xs) (h₁ ∷ hs) (z ∷ ys) (k₁ ∷ ks)) 0) (sym e)
+    ∙ ap (λ (ls : List Line). line_at ls 0)
+    (step_both x h₁ k₁ xs hs ys ks u.0 (above-less y x ys (let m : x ≡ y = e in omega arith) v.0)))

@@ -1,9 +1,11 @@
 // The lines of two traces, one after the other: the line at the smaller of the kHz that are left.
 #![tactic(auto)]
 
-ghost use Rattle.std.specs.Prelude.{◌≡◌, ◌+◌, ◌≤◌, ◌<◌, pos, ◌-ℤ◌, length, drop};
+ghost use Rattle.std.specs.Prelude.{◌≡◌, ◌+◌, ◌<◌, pos, ◌-ℤ◌, length};
 ghost use Rattle.trace_lines.specs.Trace.{Rows};
 ghost use Rattle.trace_lines.specs.Lines.{which_number, of_first, of_second, trace_lines, line_at};
+
+use std::cmp::Ordering;
 
 // Which of the traces have a row at a line's kHz, with the number that says so in the lists that callers lend.
 #[derive(Clone, Copy, Debug, PartialEq, Eq)]
@@ -41,7 +43,8 @@ impl Which {
 pub struct Line {
     pub khz: u32,
     pub which: Which,
-    // the first's height less the second's, in tenths of a kilometre; 0 where there is one only
+    // the first's height less the second's, in tenths of a kilometre; 0 where there is one only.
+    // Stays: a number beside `which` and not within it, since callers lend a list for it, in which 0 stands.
     pub difference: i64,
 }
 
@@ -51,45 +54,41 @@ fn less(h: u32, k: u32) -> i64
     i64::from(h) - i64::from(k)
 }
 
-// The first line of what is left: the first's rows from i on, the second's from j on.
-// Stays: the lists are those that callers in C lend, each trace two of them, with i and j for how far the merge has come in either.
-pub fn next(a: &[u32], ah: &[u32], b: &[u32], bh: &[u32], i: usize, j: usize) -> Line
-    requires { Rows a.now ah.now × Rows b.now bh.now × (i ≤ length a.now) × (j ≤ length b.now) × (i + j < length a.now + length b.now) }
-    ensures { result ≡ line_at (trace_lines (drop i a.now) (drop i ah.now) (drop j b.now) (drop j bh.now)) 0 }
+// The first line of what is left of two traces.
+// Stays: each trace is two lists, as callers in C lend it.
+pub fn next(a: &[u32], ah: &[u32], b: &[u32], bh: &[u32]) -> Line
+    requires { Rows a.now ah.now × Rows b.now bh.now × (0 < length a.now + length b.now) }
+    ensures { result ≡ line_at (trace_lines a.now ah.now b.now bh.now) 0 }
 {
-    if i == a.len() {
+    if a.is_empty() {
         return Line {
-            khz: b[j],
+            khz: b[0],
             which: Which::Second,
             difference: 0,
         };
     }
-    if j == b.len() {
+    if b.is_empty() {
         return Line {
-            khz: a[i],
+            khz: a[0],
             which: Which::First,
             difference: 0,
         };
     }
-    let f = a[i];
-    let g = b[j];
-    if f < g {
-        return Line {
-            khz: f,
+    match a[0].cmp(&b[0]) {
+        Ordering::Less => Line {
+            khz: a[0],
             which: Which::First,
             difference: 0,
-        };
-    }
-    if g < f {
-        return Line {
-            khz: g,
+        },
+        Ordering::Greater => Line {
+            khz: b[0],
             which: Which::Second,
             difference: 0,
-        };
-    }
-    Line {
-        khz: f,
-        which: Which::Both,
-        difference: less(ah[i], bh[j]),
+        },
+        Ordering::Equal => Line {
+            khz: a[0],
+            which: Which::Both,
+            difference: less(ah[0], bh[0]),
+        },
     }
 }

@@ -13,13 +13,13 @@ use Rattle.trace_lines.specs.Lines.{trace_lines}
 use Rattle.traces.specs.Lines.{ready, column, compared_of}
 use Rattle.trace_lines.specs.Trace.{Rows}
 use Rattle.std.specs.Prelude.{Ok, Err}
-use Rattle.trace_lines.proofs.Places.{both}
+use Rattle.std.proofs.lemmas.Bool.{and_parts}
 use Rattle.traces.proofs.Merged.{khz_in, which_in, difference_in}
 
 fit-facts : (xs hs : List ℕ) → fit xs hs ≡ true → Rows xs hs × (length xs ≤ 512)
 fit-facts xs hs e =
-    let p = both (eqb (length xs) (length hs)) (leb (length xs) 512 && rises xs) e in
-    let q = both (leb (length xs) 512) (rises xs) p.1 in
+    let p = and_parts (eqb (length xs) (length hs)) (leb (length xs) 512 && rises xs) e in
+    let q = and_parts (leb (length xs) 512) (rises xs) p.1 in
     (record { rising = q.1; heights = eqb-true (length xs) (length hs) p.0 }, leb-true (length xs) 512 q.0)
 
 module _ (a ah b bh khz which : List ℕ) (difference : List ℤ) where
@@ -36,11 +36,11 @@ module _ (a ah b bh khz which : List ℕ) (difference : List ℤ) where
   ready-facts e =
       let rows = length a + length b in
       let p =
-      both (fit a ah) (fit b bh && (leb rows (length khz) && (leb rows (length which) && leb rows (length difference)))) e
+      and_parts (fit a ah) (fit b bh && (leb rows (length khz) && (leb rows (length which) && leb rows (length difference)))) e
       in
-      let q = both (fit b bh) (leb rows (length khz) && (leb rows (length which) && leb rows (length difference))) p.1 in
-      let r = both (leb rows (length khz)) (leb rows (length which) && leb rows (length difference)) q.1 in
-      let s = both (leb rows (length which)) (leb rows (length difference)) r.1 in
+      let q = and_parts (fit b bh) (leb rows (length khz) && (leb rows (length which) && leb rows (length difference))) p.1 in
+      let r = and_parts (leb rows (length khz)) (leb rows (length which) && leb rows (length difference)) q.1 in
+      let s = and_parts (leb rows (length which)) (leb rows (length difference)) r.1 in
       let f = fit-facts a ah p.0 in
       let g = fit-facts b bh q.0 in
       record {

@@ -11,7 +11,7 @@ use Rattle.trace_lines.specs.Lines.{which_number, of_first, of_second, listed, t
 use Rattle.traces.specs.Lines.{column}
 use Rattle.trace_lines.specs.Trace.{Rows}
 use Rattle.trace_lines.specs.declared.Line.{Line}
-use Rattle.trace_lines.proofs.Places.{up, up-drop}
+use Rattle.trace_lines.proofs.Places.{up, up-drop, up-rises}
 use Rattle.trace_lines.proofs.Steps.{Goes, goes}
 use Rattle.traces.proofs.Cells.{head-drop, sofar, sofar-more, sofar-all, sofar-length}
 
@@ -23,6 +23,12 @@ which_in l = which_number l.which
 
 abbrev pub difference_in : Line → ℤ
 difference_in l = l.difference
+
+-- what is left of a trace is a trace
+pub rows_left : (xs hs : List ℕ) (i : ℕ) → Rows xs hs → Rows (drop i xs) (drop i hs)
+rows_left xs hs i r =
+    let e = r.heights in
+    record { rising = up-rises (drop i xs) (up-drop i xs (up xs r.rising)); heights = simp length-drop (omega arith) }
 
 -- after n lines, of i rows of the first and j of the second
 pub record Kept (a ah b bh khz₀ which₀ : List ℕ) (difference₀ : List ℤ) (khz which : List ℕ) (difference : List ℤ) (i j n : ℕ)

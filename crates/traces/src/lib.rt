@@ -45,7 +45,7 @@ fn lines(
     let mut j: usize = 0;
     let mut n: usize = 0;
     while i + j < a.len() + b.len() {
-        let l = trace_lines::next(a, ah, b, bh, i, j);
+        let l = trace_lines::next(&a[i..], &ah[i..], &b[j..], &bh[j..]);
         khz[n] = l.khz;
         which[n] = u32::from(l.which);
         difference[n] = l.difference;

@@ -7,7 +7,7 @@
 ghost use Rattle.std.specs.Prelude.{◌<◌, ◌≤◌};
 
 use layer_mufs::PathNumbers;
-use layers::{IonoState, LayerMuf, LayerParams};
+use layers::{IonoState, LayerMuf};
 use reflectrix::Ionogram;
 use refusal::Refusal;
 use slot_sheet::SlotSheet;
@@ -27,21 +27,6 @@ fn say_bits(what: &[u8], x: f32) {
 // 0, or the number of the refusal.
 fn say_refused<T>(what: &[u8], answer: &Result<T, Refusal>) {
     say(what, u64::from(refusal::answer_number(answer)));
-}
-
-// E 2.75, F1 5.25 and F2 12.25 MHz.
-fn points() -> [LayerParams; 5] {
-    let point = LayerParams {
-        fi: [2.75, 5.25, 12.25],
-        yi: [30.0, 39.0, 96.0],
-        hi: [107.0, 185.0, 205.0],
-    };
-    [point, point, point, point, point]
-}
-
-// One such point, as `ionset` leaves it.
-fn slots() -> Result<IonoState, Refusal> {
-    slots::ionset(slots::from_layers(points(), 1)?)
 }
 
 fn no_layers() -> [LayerMuf; 4] {
@@ -102,6 +87,7 @@ fn same(a: f32, b: f32) -> bool {
     scalar::bits(a) == scalar::bits(b)
 }
 
+// Stays: two profiles that are compared, no two columns of one.
 fn differing_densities(a: &[f32; 50], b: &[f32; 50]) -> usize {
     a.iter().zip(b.iter()).filter(|x| !same(*x.0, *x.1)).count()
 }
@@ -142,8 +128,11 @@ fn prepared_twice(s: IonoState) -> Result<(), Refusal> {
 
 // One to five points.
 fn counts() {
-    say_refused(b"no point: ", &slots::from_layers(points(), 0));
-    say_refused(b"six points: ", &slots::from_layers(points(), 6));
+    say_refused(b"no point: ", &slots::from_layers(trial_slots::points(), 0));
+    say_refused(
+        b"six points: ",
+        &slots::from_layers(trial_slots::points(), 6),
+    );
     say_refused(b"slots of no point: ", &slots::ionset(layers::zero_state()));
 }
 
@@ -188,7 +177,7 @@ fn mufs(s: IonoState) {
 }
 
 fn trials() -> Result<(), Refusal> {
-    let s = slots()?;
+    let s = trial_slots::slots(1)?;
     rooms(s);
     counts();
     slot_numbers(s);

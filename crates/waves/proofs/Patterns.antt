@@ -12,7 +12,8 @@ use Rattle.series.specs.Series.{Kind, sine, cosine}
 use Rattle.fixed.specs.Fixed.{pick, mant, pattern}
 use Rattle.fixed.proofs.Round.{rounded, pattern_lt}
 use Rattle.cases.proofs.Cases.{split}
-use Rattle.waves.specs.SinCos.{times, added, taken, square_of, ratio_of, sine_at, quarter_turn, half_turn, three_quarters, apart, sin_fold, cos_fold, sin_sign, cos_sign, wave_at, mag_of, at_small, wave_bits}
+use Rattle.std.specs.Int.{abs_diff}
+use Rattle.waves.specs.SinCos.{times, added, taken, square_of, ratio_of, sine_at, quarter_turn, half_turn, three_quarters, sin_fold, cos_fold, sin_sign, cos_sign, wave_at, mag_of, at_small, wave_bits}
 
 -- ---- the three cases of the definition
 abbrev folded_bits : Kind → ℕ → ℕ
@@ -31,38 +32,31 @@ unfolding wave_bits
 outside-bits w b h = ap₂ (λ (x y : Bool). pick x (at_small w b) (pick y (folded_bits w b) 0x7fc0_0000)) (le-ltb _ _ (le_trans (lit≤ tt) (le_of_lt h))) (lt-leb _ _ h)
 
 -- ---- distances
-pub apart-under : (u v : ℕ) → u ≤ v → apart u v ≡ v - u
+pub apart-under : (u v : ℕ) → u ≤ v → abs_diff u v ≡ v - u
 apart-under u v h = omega arith
 
-pub apart-over : (u v : ℕ) → v ≤ u → apart u v ≡ u - v
+pub apart-over : (u v : ℕ) → v ≤ u → abs_diff u v ≡ u - v
 apart-over u v h = omega arith
-
--- the larger less the smaller
-pub chosen : (u v : ℕ) → (pick (leb u v) u v ≤ pick (leb u v) v u) × (pick (leb u v) v u - pick (leb u v) u v ≡ apart u v)
-chosen u v =
-    split v u
-    (λ l. let e = lt-leb u v l in (subst (λ (t : Bool). pick t u v ≤ pick t v u) (sym e) (le_of_lt l), ap (λ (t : Bool). pick t v u - pick t u v) e ∙ sym (apart-over u v (le_of_lt l))))
-    (λ l. let e = le-leb u v l in (subst (λ (t : Bool). pick t u v ≤ pick t v u) (sym e) l, ap (λ (t : Bool). pick t v u - pick t u v) e ∙ sym (apart-under u v l)))
 
 -- ---- the folds
 module _ (X : ℕ) where
   pub sin-kept : X ≤ quarter_turn → sin_fold X ≡ X
-  sin-kept h = ap (λ (x : Bool). pick x X (apart X half_turn)) (le-leb _ _ h)
+  sin-kept h = ap (λ (x : Bool). pick x X (abs_diff X half_turn)) (le-leb _ _ h)
 
   pub sin-left : quarter_turn < X → X ≤ half_turn → sin_fold X ≡ half_turn - X
-  sin-left h k = ap (λ (x : Bool). pick x X (apart X half_turn)) (lt-leb _ _ h) ∙ apart-under X half_turn k
+  sin-left h k = ap (λ (x : Bool). pick x X (abs_diff X half_turn)) (lt-leb _ _ h) ∙ apart-under X half_turn k
 
   pub sin-past : half_turn < X → sin_fold X ≡ X - half_turn
-  sin-past h = ap (λ (x : Bool). pick x X (apart X half_turn)) (lt-leb _ _ (le_trans (lit≤ tt) h)) ∙ apart-over X half_turn (le_of_lt h)
+  sin-past h = ap (λ (x : Bool). pick x X (abs_diff X half_turn)) (lt-leb _ _ (le_trans (lit≤ tt) h)) ∙ apart-over X half_turn (le_of_lt h)
 
   pub cos-left : X ≤ quarter_turn → cos_fold X ≡ quarter_turn - X
-  cos-left h = ap (λ (x : Bool). pick x (apart X quarter_turn) (three_quarters - X)) (le-leb _ _ (le_trans h (lit≤ tt))) ∙ apart-under X quarter_turn h
+  cos-left h = ap (λ (x : Bool). pick x (abs_diff X quarter_turn) (three_quarters - X)) (le-leb _ _ (le_trans h (lit≤ tt))) ∙ apart-under X quarter_turn h
 
   pub cos-past : quarter_turn < X → X ≤ half_turn → cos_fold X ≡ X - quarter_turn
-  cos-past h k = ap (λ (x : Bool). pick x (apart X quarter_turn) (three_quarters - X)) (le-leb _ _ k) ∙ apart-over X quarter_turn (le_of_lt h)
+  cos-past h k = ap (λ (x : Bool). pick x (abs_diff X quarter_turn) (three_quarters - X)) (le-leb _ _ k) ∙ apart-over X quarter_turn (le_of_lt h)
 
   pub cos-last : half_turn < X → cos_fold X ≡ three_quarters - X
-  cos-last h = ap (λ (x : Bool). pick x (apart X quarter_turn) (three_quarters - X)) (lt-leb _ _ h)
+  cos-last h = ap (λ (x : Bool). pick x (abs_diff X quarter_turn) (three_quarters - X)) (lt-leb _ _ h)
 
   -- a multiple of 2 ^ 26 is no turn, so the angle is not 0; and it is below 2
   abbrev Angle : ℕ → Type 0

@@ -1,5 +1,6 @@
 -- The sine and the cosine of an f32 by whole numbers: the angle folded onto 0 to π/2, and eight terms of the sine's series there. Definitions only.
 use Rattle.std.specs.Prelude.{ℕ, ◌+◌, ◌-◌, ◌*◌, ◌/◌, ◌%◌, ◌^◌, leb, ltb, Float}
+use Rattle.std.specs.Int.{abs_diff}
 use Rattle.std.specs.Int.Count.{count_leading_zeros}
 use Rattle.std.specs.Float.{binary32}
 use Rattle.std.specs.Float.Ieee.{of_bits, to_bits}
@@ -41,16 +42,12 @@ half_turn = 7244019458077122842
 abbrev pub three_quarters : ℕ
 three_quarters = 10866029187115684264
 
--- the distance of two numbers
-abbrev pub apart : ℕ → ℕ → ℕ
-apart u v = u - v + (v - u)
-
 -- the angle onto which |x| = X / 2 ^ 61 is folded: sin x = sin (π - x) = - sin (x - π), and cos x = sin (π / 2 - x) = - sin (x - π / 2) = - sin (3 π / 2 - x)
 abbrev pub sin_fold : ℕ → ℕ
-sin_fold X = pick (leb X quarter_turn) X (apart X half_turn)
+sin_fold X = pick (leb X quarter_turn) X (abs_diff X half_turn)
 
 abbrev pub cos_fold : ℕ → ℕ
-cos_fold X = pick (leb X half_turn) (apart X quarter_turn) (three_quarters - X)
+cos_fold X = pick (leb X half_turn) (abs_diff X quarter_turn) (three_quarters - X)
 
 -- the sign, t being 1 where x is negative: the sine's is turned from π on; the cosine does not look at x's, and is negative from π / 2 on
 abbrev pub sin_sign : (t X : ℕ) → ℕ

@@ -2,7 +2,7 @@
 ghost use Rattle.std.specs.Prelude.{◌≡◌, ◌+◌, ◌-◌, ◌*◌, ◌/◌, ◌%◌, ◌^◌, ◌<◌, ◌≤◌, leb};
 ghost use Rattle.std.specs.Int.Count.{count_leading_zeros};
 ghost use Rattle.series.specs.Series.{sine, cosine};
-ghost use Rattle.waves.specs.SinCos.{times, added, taken, ratio_of, sine_at, apart, sin_fold, cos_fold, sin_sign, cos_sign, mag_of, wave_bits};
+ghost use Rattle.waves.specs.SinCos.{times, added, taken, ratio_of, sine_at, sin_fold, cos_fold, sin_sign, cos_sign, mag_of, wave_bits};
 ghost use Rattle.fixed.specs.Fixed.{pick};
 
 use fixed::{pack, scaled};
@@ -64,28 +64,14 @@ fn sine_at(sign: u32, r: u64) -> u32
     sign * 0x8000_0000 + size
 }
 
-// a up to the limit, b beyond. Both are there already, so this compiles to no branch, which random angles would mispredict.
-fn choose(x: u64, limit: u64, a: u64, b: u64) -> u64
-    ensures { result ≡ pick (leb x limit) a b }
-{
-    if x <= limit {
-        return a;
-    }
-    b
-}
-
-// the distance of two numbers
-fn distance(x: u64, y: u64) -> u64
-    ensures { result ≡ apart x y }
-{
-    choose(x, y, y, x) - choose(x, y, x, y)
-}
-
 // the angle onto which x / 2^61, up to 4, is folded for its sine
 fn sin_fold(x: u64) -> u64
     ensures { result ≡ sin_fold x }
 {
-    choose(x, 3622009729038561421, x, distance(x, 7244019458077122842))
+    if x <= 3622009729038561421 {
+        return x;
+    }
+    x.abs_diff(7244019458077122842)
 }
 
 // and for its cosine
@@ -93,15 +79,14 @@ fn cos_fold(x: u64) -> u64
     requires { x ≤ 2 ^ 63 }
     ensures { result ≡ cos_fold x }
 {
-    choose(
-        x,
-        7244019458077122842,
-        distance(x, 3622009729038561421),
-        10866029187115684264 - x,
-    )
+    if x <= 7244019458077122842 {
+        return x.abs_diff(3622009729038561421);
+    }
+    10866029187115684264 - x
 }
 
 // the sign of the sine, 1 for minus, where t is that of x
+// Stays: a sign is the first bit of a pattern, taken off x's and put before the answer's, as a number at both ends.
 fn sin_sign(t: u32, x: u64) -> u32
     requires { t ≤ 1 }
     ensures { result ≡ sin_sign t x }
@@ -116,14 +101,11 @@ fn sin_sign(t: u32, x: u64) -> u32
 fn cos_sign(x: u64) -> u32
     ensures { result ≡ cos_sign x }
 {
-    if x <= 3622009729038561421 {
-        return 0;
-    }
-    1
+    u32::from(x > 3622009729038561421)
 }
 
 // |x| in units of 2^-61, for |x| up to 4
-// Stays: what is asked of a pattern a (0x3980_0000 ≤ a), here alone in this crate.
+// Stays: what is asked of a pattern a (0x3980_0000 ≤ a), once here; crate `arcs` asks it with other upper ends.
 fn magnitude(a: u32) -> u64
     requires { (0x3980_0000 ≤ a) × (a ≤ 0x4080_0000) }
     ensures { result ≡ mag_of a }

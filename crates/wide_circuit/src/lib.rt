@@ -2,9 +2,8 @@
 // record 0, and F2M3 at byte 64 of a point. F2M3 stands beside the circuit, a word for each of five points, by its bits.
 #![tactic(auto)]
 
-mod numbers;
-
-ghost use Rattle.std.specs.Prelude.{◌≡◌};
+ghost use Rattle.std.specs.Prelude.{◌≡◌, ◌+◌, ◌*◌, ◌≤◌, length};
+ghost use Rattle.records.specs.Record.{record_at};
 ghost use Rattle.record_chain.specs.Chain.{chain_of};
 ghost use Rattle.circuit_write.specs.Written.{write_answer_of, left_of};
 ghost use Rattle.wide_form.specs.Form128.{form128};
@@ -28,13 +27,23 @@ fn follow(file: &[u8]) -> Result<Chain, Refusal>
     record_chain::follow_form(wide_form::form128(), file)
 }
 
-// The circuit of a file and its F2M3, or where it is turned away. Records off the chain are not looked at.
+// Record n, as its part of the file.
+// Stays: beside the paper's form, whose records are asked for as the part of the file by 64 bytes; all that reads them is shared.
+fn record(file: &[u8], n: usize) -> &[u8]
+    requires { 128 * n + 128 ≤ length file.now }
+    ensures { result.now ≡ record_at form128 file.now n }
+{
+    &file[128 * n..128 * n + 128]
+}
+
+// The circuit of a file and its F2M3, the word after the fifteen of a point, or where it is turned away. Records off the chain
+// are not looked at.
 pub fn read(file: &[u8]) -> Result<WideCircuit, Refusal>
     ensures { result ≡ wide_of file.now }
 {
     let c = follow(file)?;
-    let circuit = numbers::circuit(file, c);
-    let f2m3 = numbers::f2m3(file, c);
+    let circuit = circuit::read_along(file, c, record);
+    let f2m3 = circuit::numbers_of(file, &c.order[1..1 + circuit.km], 15, 1, record);
     Ok(WideCircuit { circuit, f2m3 })
 }
 

@@ -1,4 +1,3 @@
--- Runs of bytes, words and lines by their places.
+-- Runs of bytes, and words by what is between blanks.
 pub mod Runs
-pub mod Equal
-pub mod Split
+pub mod Parts

@@ -11,9 +11,6 @@ unfoldable pub run : (ℕ → Bool) → List ℕ → ℕ
 run p [] = 0
 run p (b ∷ t) = cond (p b) (suc (run p t)) 0
 
-abbrev pub in_word : ℕ → Bool
-in_word b = not (blank b)
-
 abbrev pub other : ℕ → ℕ → Bool
 other b c = not (eqb c b)
 

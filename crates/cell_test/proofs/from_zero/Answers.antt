@@ -8,6 +8,6 @@ use Rattle.cell_test.proofs.from_zero.Goals as goal
 pub returns-then-v : goal.returns-then-v
 returns-then-v c = (lt-real _ c.args.v (subst T (sym c.if-v.true) tt)).1
 
-pub returns : goal.returns
+pub returns-else-v : goal.returns-else-v
 unfolding of_bits
-returns c = tt
+returns-else-v c = tt

@@ -1,9 +1,9 @@
--- By the one test: a NaN and what is below a millionth fail it.
-use Rattle.cell_test.proofs.Cosine.{kept, floored}
+-- The answer is the maximum, which is from a millionth to 1.
+use mathlib.Core.Path.{sym, subst}
+use Rattle.cell_test.specs.Cell.{sqcos_of}
+use Rattle.cell_test.proofs.Cosine.{Cosine, squared}
 use Rattle.cell_test.proofs.squared_cosine.Goals as goal
 
-pub returns-then-sqcos : goal.returns-then-sqcos
-returns-then-sqcos c = kept c.args.sphe c.if-sqcos.true
-
 pub returns : goal.returns
-returns c = floored c.args.sphe c.if-sqcos.false
+unfolding sqcos_of
+returns c = subst (Cosine c.args.sphe) (sym c.max.ensures) (squared c.args.sphe)

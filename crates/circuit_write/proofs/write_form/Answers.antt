@@ -9,35 +9,20 @@ use lib.ListN.{drop}
 use Rattle.std.specs.Prelude.{Ok}
 use Rattle.circuit_write.specs.Written.{good_of, file_of}
 use Rattle.circuit_write.proofs.Cells.{size-most, write-bad, write-small, write-good, good-is}
+use Rattle.circuit_write.proofs.write_form.Goals.{then-c-lt1-via-then-c-lt1, then-c-lt1-via-else-c-lt1+then-c-gt5, then-c-lt1-via-else-c-lt1+else-c-gt5+then-c-gt1}
 use Rattle.circuit_write.proofs.write_form.Goals as goal
 
 pub returns-then-c-lt1 : goal.returns-then-c-lt1
 returns-then-c-lt1 c =
     let s = c in
     let a = s.args in
-    let e : good_of a.c ≡ false = rw (lt-leb 1 a.c.km c.if-c-lt1.true) in
-    let t = write-bad a.o s.requires.0 a.c a.beside.now a.out.now e in
-    record { value = t.0; out_after = t.1 }
-
-pub returns-then-c-gt5 : goal.returns-then-c-gt5
-returns-then-c-gt5 c =
-    let s = c in
-    let a = s.args in
     let e : good_of a.c ≡ false
-    = rw (le-leb 1 a.c.km c.if-c-lt1.false, lt-leb a.c.km 5 c.if-c-gt5.true) in
-    let t = write-bad a.o s.requires.0 a.c a.beside.now a.out.now e in
-    record { value = t.0; out_after = t.1 }
-
-pub returns-then-c-gt1 : goal.returns-then-c-gt1
-returns-then-c-gt1 c =
-    let s = c in
-    let a = s.args in
-    let e : good_of a.c ≡ false
-    = rw (
-      le-leb 1 a.c.km c.if-c-lt1.false,
-      le-leb a.c.km 5 c.if-c-gt5.false,
-      lt-leb a.c.shape 1 c.if-c-gt1.true,
-    ) in
+    = elim c.then-c-lt1.branch [
+      | then-c-lt1-via-then-c-lt1 w ↦ rw (lt-leb 1 a.c.km w.if-c-lt1.true)
+      | then-c-lt1-via-else-c-lt1+then-c-gt5 w ↦ rw (le-leb 1 a.c.km w.if-c-lt1.false, lt-leb a.c.km 5 w.if-c-gt5.true)
+      | then-c-lt1-via-else-c-lt1+else-c-gt5+then-c-gt1 w ↦
+          rw (le-leb 1 a.c.km w.if-c-lt1.false, le-leb a.c.km 5 w.if-c-gt5.false, lt-leb a.c.shape 1 w.if-c-gt1.true)
+    ] in
     let t = write-bad a.o s.requires.0 a.c a.beside.now a.out.now e in
     record { value = t.0; out_after = t.1 }
 

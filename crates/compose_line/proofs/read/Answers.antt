@@ -7,14 +7,15 @@ use Rattle.compose_line.proofs.Then.{then-ok, then-err}
 use Rattle.compose_line.proofs.read.Goals.{After-all_words}
 use lib.Seq.{length-take-le}
 use Rattle.compose_line.specs.Row.{blank_row, with_words, ended_row, row_of}
-use Rattle.compose_line.proofs.WordPlaces.{before-comment}
+use Prim.Native.Nat.{ℕ}
+use lib.ListN.{take}
 use Rattle.compose_line.proofs.read.Goals as goal
 
 pub slice_bounds-all_words-end : goal.slice_bounds-all_words-end
 slice_bounds-all_words-end c = sym (length-take-le _ _ c.until-e.ensures.0)
 
 words : (c : After-all_words) → c.all_words.result ≡ with_words blank_row (words_of (up_to 35 c.args.line.now))
-words c = c.all_words.ensures ∙ ap (with_words blank_row) (before-comment _ _ c.until-e.ensures.1)
+words c = c.all_words.ensures ∙ ap (with_words blank_row) (ap (λ (e : ℕ). words_of (take e c.args.line.now)) c.until-e.ensures.1)
 
 pub returns-in_err-all_words : goal.returns-in_err-all_words
 unfolding row_of

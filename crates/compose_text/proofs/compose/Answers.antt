@@ -1,68 +1,67 @@
-use Rattle.std.proofs.Common.{rules}
+use Rattle.std.proofs.Common.{rules, tests, length-append}
+use Rattle.std.specs.List.{IsFirstMatchOrLen}
+use Rattle.std.proofs.lemmas.Fn.{always_returns_same}
 use Rattle.std.specs.Prelude.{Option, Err}
-use mathlib.Core.Path.{◌≡◌, refl, sym, ap, ◌∙◌}
-use Prim.Native.Nat.{◌+◌, ◌-◌}
-use lib.ListN.{take, drop}
+use mathlib.Core.Path.{◌≡◌, sym, ap, ◌∙◌, subst}
+use mathlib.Core.List.{List, ◌∷◌, ◌++◌}
+use Prim.Native.Nat.{ℕ, ◌+◌, ◌<◌, min}
+use native.Mathlib.Omega.{arith}
+use lib.ListN.{length}
 use Rattle.first_difference.specs.Lines.{lines_of}
 use Rattle.compose_line.specs.Row.{then}
 use Rattle.compose_line.proofs.Then.{then-ok, then-err}
 use Rattle.compose_text.specs.declared.Draft.{Draft}
-use native.Mathlib.Omega.{arith}
 use Rattle.compose_text.specs.Draft.{at_line, with_line, with_lines, composed_of}
-use Rattle.compose_text.proofs.compose.Goals.{After-line_end-e}
-use Rattle.compose_text.proofs.LinePlaces.{line_at, taken-line, no_lines}
+use Rattle.compose_text.proofs.LinePlaces.{is_feed, first, no_lines}
+use Rattle.compose_text.proofs.compose.Goals.{In-Some}
 use Rattle.compose_text.proofs.compose.Goals as goal
 
-pub loop-at-init : goal.loop-at-init
-unfolding composed_of
-loop-at-init c = record { in_text = omega arith; counted = omega arith; circuit = refl }
-
-pub line_end-e-requires : goal.line_end-e-requires
-line_end-e-requires c = c.loop-at-test.true
-
-pub slice_bounds-with_line-count : goal.slice_bounds-with_line-count
-slice_bounds-with_line-count c = omega (arith, c.line_end-e.ensures.1)
-
-pub slice_bounds-with_line-start : goal.slice_bounds-with_line-start
-slice_bounds-with_line-start c = omega (arith, c.line_end-e.ensures.1)
-
-pub slice_bounds-with_line-end : goal.slice_bounds-with_line-end
-slice_bounds-with_line-end c = omega (arith, c.line_end-e.ensures.0)
-
-pub loop-at-smaller : goal.loop-at-smaller
-loop-at-smaller c = let e = c.line_end-e.ensures in omega (arith, e.0, e.1)
-
--- the line at `at`, which ends at e
-taken : (c : After-line_end-e)
-    → then (λ (x : Option Draft). with_lines x (c.loop-at.line + 1) (lines_of (drop c.line_end-e.result c.args.text.now)))
-    (at_line c.loop-at.line (with_line c.loop-at.draft (take (c.line_end-e.result - c.loop-at.at) (drop c.loop-at.at c.args.text.now))))
-    ≡ composed_of c.args.text.now
+taken : (c : In-Some) → lines_of c.loop-line.line-iterator.rest.now ≡ c.in-Some.line.now ∷ lines_of c.next.new.self.rest.now
 taken c =
-    let l = c.loop-at in
-    let h = c.loop-at-test.true in
-    taken-line _ _ _ _ _ h (line_at _ _ _ h c.line_end-e.ensures.2) ∙ l.invariant.circuit
+    let s = c.in-Some.ensures.steps in
+    let m = (s.1.2 is_feed (always_returns_same _ _ c.loop-line.line-iterator.pred (λ a r q k. search (rules, tests)))).1 in
+    let x = c.in-Some.line.now in
+    let t = c.next.new.self.rest.now in
+    let l : length x ≡ min (s.1.0 + 1) (length (x ++ t)) = s.1.1 ∙ ap (λ (y : List ℕ). min (s.1.0 + 1) (length y)) s.0 in
+    ap lines_of s.0 ∙ first x t s.1.0 (subst (λ (y : List ℕ). 0 < length y) s.0 s.2) l (subst (λ (y : List ℕ). IsFirstMatchOrLen is_feed y s.1.0) s.0 m)
+
+shorter : (c : In-Some) → length c.next.new.self.rest.now < length c.loop-line.line-iterator.rest.now
+shorter c =
+    let s = c.in-Some.ensures.steps in
+    let l : length c.loop-line.line-iterator.rest.now ≡ length (c.in-Some.line.now ++ c.next.new.self.rest.now) = ap length s.0 in
+    omega (arith, l, length-append c.in-Some.line.now c.next.new.self.rest.now, s.1.1, s.2)
+
+pub loop-line-init : goal.loop-line-init
+unfolding composed_of
+loop-line-init c = record { counted = search rules; circuit = search rules }
+
+-- the line that is read next
+read : (c : In-Some)
+    → then (λ (x : Option Draft). with_lines x (c.loop-line.number + 1) (lines_of c.next.new.self.rest.now))
+    (at_line c.loop-line.number (with_line c.loop-line.draft c.in-Some.line.now))
+    ≡ composed_of c.args.text.now
+unfolding with_lines
+read c = sym (ap (with_lines c.loop-line.draft c.loop-line.number) (taken c)) ∙ c.loop-line.invariant.circuit
 
 pub returns-in_err-draft : goal.returns-in_err-draft
 returns-in_err-draft c =
     let e : c.from_residual.result ≡ Err c.in_err-draft.field-0.0 = search rules in
     e
-    ∙ then-err (λ (x : Option Draft). with_lines x (c.loop-at.line + 1) (lines_of (drop c.line_end-e.result c.args.text.now)))
-    (c.at_line.ensures ∙ ap (at_line c.loop-at.line) c.with_line.ensures) c.in_err-draft.was
-    ∙ taken (goal.at.returns-in_err-draft c).After-line_end-e
+    ∙ then-err (λ (x : Option Draft). with_lines x (c.loop-line.number + 1) (lines_of c.next.new.self.rest.now))
+    (c.at_line.ensures ∙ ap (at_line c.loop-line.number) c.with_line.ensures) c.in_err-draft.was
+    ∙ read (goal.at.returns-in_err-draft c).In-Some
 
-pub loop-at-preserved : goal.loop-at-preserved
-loop-at-preserved c =
-    let l = c.loop-at in
-    let e = c.line_end-e.ensures in
+pub loop-line-preserved : goal.loop-line-preserved
+loop-line-preserved c =
+    let l = c.loop-line in
     record {
-      in_text = e.0;
-      counted = omega (arith, e.1, l.invariant.counted);
-      circuit = then-ok (λ (x : Option Draft). with_lines x (l.line + 1) (lines_of (drop c.line_end-e.result c.args.text.now)))
-          (c.at_line.ensures ∙ ap (at_line l.line) c.with_line.ensures) c.in_ok-draft.was
-          ∙ taken (goal.at.loop-at-preserved c).After-line_end-e;
+      counted = omega (arith, l.invariant.counted, shorter (goal.at.loop-line-preserved c).In-Some);
+      circuit = then-ok (λ (x : Option Draft). with_lines x (l.number + 1) (lines_of c.next.new.self.rest.now))
+          (c.at_line.ensures ∙ ap (at_line l.number) c.with_line.ensures) c.in_ok-draft.was
+          ∙ read (goal.at.loop-line-preserved c).In-Some;
     }
 
 pub returns : goal.returns
 returns c =
-    let l = c.loop-at in
-    c.at_line-2.ensures ∙ ap (at_line l.line) c.ended.ensures ∙ sym (no_lines _ _ _ _ c.loop-at-test.false) ∙ l.invariant.circuit
+    let l = c.loop-line in
+    c.at_line-2.ensures ∙ ap (at_line l.number) c.ended.ensures ∙ sym (no_lines l.draft l.number l.line-iterator.rest.now c.in-None.ensures.steps.0) ∙ l.invariant.circuit

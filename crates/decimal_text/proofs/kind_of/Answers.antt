@@ -1,43 +1,48 @@
--- By the pattern: NaN, an infinity, or a finite number, each with its sign.
-use Prim.Native.Nat.{◌%◌, ◌^◌, ◌≤◌}
-use mathlib.Core.Path.{◌≡◌, sym, ap, ◌∙◌}
-use mathlib.Core.Bool.{Bool, true, false}
-use lib.Dec.{T, leb}
-use lib.Ieee.{binary32, fits}
-use borrow.Author.Rules.{rules}
-use borrow.Author.Tests.{le-leb, lt-leb}
-use Rattle.figures.proofs.ByPattern as by-pattern
+-- NaN, an infinity, or a finite number, each with its sign.
+use mathlib.Core.Path.{◌≡◌, refl, sym, ap, ◌∙◌}
+use mathlib.Core.Bool.{Bool, true, false, false≢true}
+use lib.Ieee.{Float, nan, inf, fin, is_nan}
+use Rattle.std.specs.Float.{float_is_infinite, is_sign_negative}
+use Rattle.decimal_text.specs.declared.Kind.{Kind}
 use Rattle.decimal_text.specs.Number.{finite_kind, infinite_kind, number_kind_of}
-use Rattle.decimal_text.proofs.ByFields.{finite, not-a-number, infinite}
-use Rattle.decimal_text.proofs.kind_of.Goals.{After-bits-b}
 use Rattle.decimal_text.proofs.kind_of.Goals as goal
 
-held : (a : After-bits-b) → T (fits binary32 a.args.v)
-held a = search rules
+other : {A : Type 0} → false ≡ true → A
+other e = absurd (false≢true e)
 
-endless : (a : After-bits-b) (s : Bool) → a.bits-b.result % 2 ^ 31 ≡ 0x7f80_0000 → leb (2 ^ 31) a.bits-b.result ≡ s → infinite_kind s ≡ number_kind_of a.args.v
-endless a s h e =
-    ap infinite_kind (sym e) ∙ infinite _ ∙ ap number_kind_of (by-pattern.infinity a.args.v a.bits-b.result (held a) a.bits-b.ensures h)
+undefined : (v : Float) → is_nan v ≡ true → Kind.NotANumber ≡ number_kind_of v
+unfolding number_kind_of is_nan
+undefined nan e = refl
+undefined (inf s) e = other e
+undefined (fin s m x) e = other e
 
-ended : (a : After-bits-b) (s : Bool) → a.bits-b.result % 2 ^ 31 ≤ 0x7f80_0000 → (a.bits-b.result % 2 ^ 31 ≡ 0x7f80_0000 → ⊥) → leb (2 ^ 31) a.bits-b.result ≡ s → finite_kind s ≡ number_kind_of a.args.v
-ended a s l h e =
-    let p = by-pattern.finite a.args.v a.bits-b.result (held a) a.bits-b.ensures l h in
-    ap finite_kind (sym e) ∙ finite _ _ _ p.0 ∙ ap number_kind_of p.1
+endless : (v : Float) (s : Bool) → is_nan v ≡ false → float_is_infinite v ≡ true → is_sign_negative v ≡ s → infinite_kind s ≡ number_kind_of v
+unfolding number_kind_of is_nan float_is_infinite is_sign_negative
+endless nan s n e h = other (sym n)
+endless (inf t) s n e h = ap infinite_kind (sym h)
+endless (fin t m x) s n e h = other e
 
-pub returns-then-size-gt2139095040 : goal.returns-then-size-gt2139095040
-returns-then-size-gt2139095040 c =
-    let a = (goal.at.returns-then-size-gt2139095040 c).After-bits-b in
-    let n = by-pattern.not_finite a.args.v a.bits-b.result (held a) a.bits-b.ensures c.if-size-gt2139095040.true in
-    not-a-number _ _ n.0 ∙ ap number_kind_of n.1
+ended : (v : Float) (s : Bool) → is_nan v ≡ false → float_is_infinite v ≡ false → is_sign_negative v ≡ s → finite_kind s ≡ number_kind_of v
+unfolding number_kind_of is_nan float_is_infinite is_sign_negative
+ended nan s n e h = other (sym n)
+ended (inf t) s n e h = other (sym e)
+ended (fin t m x) s n e h = ap finite_kind (sym h)
 
-pub returns-then-b-lt2147483648 : goal.returns-then-b-lt2147483648
-returns-then-b-lt2147483648 c = let a = (goal.at.returns-then-b-lt2147483648 c).After-bits-b in endless a false c.if-size-eq2139095040.true (lt-leb (2 ^ 31) a.bits-b.result c.if-b-lt2147483648.true)
+pub returns-then-is_nan : goal.returns-then-is_nan
+returns-then-is_nan c = undefined _ (sym c.is_nan.ensures.value ∙ c.if-is_nan.true)
 
-pub returns-then-size-eq2139095040 : goal.returns-then-size-eq2139095040
-returns-then-size-eq2139095040 c = let a = (goal.at.returns-then-size-eq2139095040 c).After-bits-b in endless a true c.if-size-eq2139095040.true (le-leb (2 ^ 31) a.bits-b.result c.if-b-lt2147483648.false)
+pub returns-then-is_sign_negative : goal.returns-then-is_sign_negative
+returns-then-is_sign_negative c =
+    endless c.args.v true (sym c.is_nan.ensures.value ∙ c.if-is_nan.false) (sym c.is_infinite.ensures.value ∙ c.if-is_infinite.true) (sym c.is_sign_negative.ensures ∙ c.if-is_sign_negative.true)
 
-pub returns-then-b-lt2147483648-2 : goal.returns-then-b-lt2147483648-2
-returns-then-b-lt2147483648-2 c = let a = (goal.at.returns-then-b-lt2147483648-2 c).After-bits-b in ended a false c.if-size-gt2139095040.false c.if-size-eq2139095040.false (lt-leb (2 ^ 31) a.bits-b.result c.if-b-lt2147483648-2.true)
+pub returns-then-is_infinite : goal.returns-then-is_infinite
+returns-then-is_infinite c =
+    endless c.args.v false (sym c.is_nan.ensures.value ∙ c.if-is_nan.false) (sym c.is_infinite.ensures.value ∙ c.if-is_infinite.true) (sym c.is_sign_negative.ensures ∙ c.if-is_sign_negative.false)
+
+pub returns-then-is_sign_negative-2 : goal.returns-then-is_sign_negative-2
+returns-then-is_sign_negative-2 c =
+    ended c.args.v true (sym c.is_nan.ensures.value ∙ c.if-is_nan.false) (sym c.is_infinite.ensures.value ∙ c.if-is_infinite.false) (sym c.is_sign_negative-2.ensures ∙ c.if-is_sign_negative-2.true)
 
 pub returns : goal.returns
-returns c = let a = (goal.at.returns c).After-bits-b in ended a true c.if-size-gt2139095040.false c.if-size-eq2139095040.false (le-leb (2 ^ 31) a.bits-b.result c.if-b-lt2147483648-2.false)
+returns c =
+    ended c.args.v false (sym c.is_nan.ensures.value ∙ c.if-is_nan.false) (sym c.is_infinite.ensures.value ∙ c.if-is_infinite.false) (sym c.is_sign_negative-2.ensures ∙ c.if-is_sign_negative-2.false)

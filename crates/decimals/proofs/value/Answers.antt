@@ -34,6 +34,11 @@ overflow_mul-v c =
     let s = step c.args.t.now c.args.from l.v l.b-index c.loop-b-test.true l.invariant.digits l.invariant.room c.requires.1 in
     omega (arith, s.most)
 
+pub overflow_sub-b : goal.overflow_sub-b
+overflow_sub-b c =
+    let l = c.loop-b in
+    (step c.args.t.now c.args.from l.v l.b-index c.loop-b-test.true l.invariant.digits l.invariant.room c.requires.1).digit.least
+
 pub overflow_add-v : goal.overflow_add-v
 overflow_add-v c =
     let l = c.loop-b in

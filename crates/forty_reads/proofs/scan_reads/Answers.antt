@@ -19,7 +19,7 @@ one-turn htr fnsq ht k ysq zi g y el ez eg ey = rw (add-one k, ey, eg, ez, el)
 
 pub loop-k-init : goal.loop-k-init
 unfolding scan_reads placed
-loop-k-init c = (omega arith, c.requires, refl)
+loop-k-init c = (omega arith, refl, refl)
 
 pub loop-k-preserved : goal.loop-k-preserved
 loop-k-preserved c =
@@ -30,4 +30,4 @@ loop-k-preserved c =
     )
 
 pub returns : goal.returns
-returns c = rw (le_antisymm c.loop-k.invariant.0 c.loop-k-test.false) at c.loop-k.invariant.1
+returns c = (rw (le_antisymm c.loop-k.invariant.0 c.loop-k-test.false) at c.loop-k.invariant.1, refl)

@@ -6,7 +6,7 @@ use Rattle.forty_reads.specs.Walk.{scan_reads}
 use Rattle.forty_reads.proofs.scan_reads.Given as goal
 
 abbrev pub invariant-loop-k : goal.invariant-loop-k
-invariant-loop-k l = (l.k ≤ 40) × (l.read ≡ scan_reads l.p.htr.now l.p.fnsq.now l.ht l.k) × (l.h0 ≡ at l.p.htr.now 0)
+invariant-loop-k l = (l.k ≤ 40) × (l.ysq ≡ scan_reads l.p.htr.now l.p.fnsq.now l.ht l.k) × (l.h0 ≡ at l.p.htr.now 0)
 
 abbrev pub decreases-loop-k : goal.decreases-loop-k
 decreases-loop-k l = 40 - l.k

@@ -24,7 +24,7 @@ one-turn htr fnsq ht up h0 k ysq ih ig ib zi r y eu eh el ei eg eb ez er ey = (r
 
 pub loop-k-init : goal.loop-k-init
 unfolding walk_reads placed cursor_before
-loop-k-init c = (omega arith, c.requires, refl, refl, refl)
+loop-k-init c = (omega arith, refl, refl, refl, refl)
 
 pub loop-k-preserved : goal.loop-k-preserved
 loop-k-preserved c =

@@ -22,5 +22,5 @@ whole rises htr fnsq ht fr segment ysq cursor hp ey ec eh = rw (eh, ey, ec, tabl
 pub returns : goal.returns
 returns c =
     let a = c.args in
-    let d = c.gethp_densities-cursor in
-    whole a.p.rises a.p.htr.now a.p.fnsq.now a.ht a.fr a.segment _ d.result c.quadrature-hp.result d.ensures.0 d.ensures.1 c.quadrature-hp.ensures
+    let d = c.gethp_densities-d in
+    whole a.p.rises a.p.htr.now a.p.fnsq.now a.ht a.fr a.segment d.result.ysq d.result.cursor c.quadrature-hp.result d.ensures.0 d.ensures.1 c.quadrature-hp.ensures

@@ -8,7 +8,7 @@ use mir.Facts.{to_z-of_z}
 use Rattle.hops.specs.Geometry.{hops_of}
 use Rattle.hops.proofs.Counted.{next_fits, next-float}
 use Rattle.hops.proofs.Says.{hops-say}
-use Rattle.hops.proofs.hop_count.Goals.{Else-nhops-gt999}
+use Rattle.hops.proofs.hop_count.Goals.{Else-nhops-gt999, then-nhops-lt0-via-then-nhops-lt0, then-nhops-lt0-via-else-nhops-lt0+then-nhops-gt999}
 use Rattle.hops.proofs.hop_count.Goals as goal
 
 -- the truncation is from 0 to 999, by the two tests
@@ -20,24 +20,14 @@ few c =
 pub returns-then-nhops-lt0-clause-value : goal.returns-then-nhops-lt0-clause-value
 unfolding hops_of
 returns-then-nhops-lt0-clause-value c =
-    rw (← c.hop_ratio.ensures, ← c.trunc-nhops.ensures, rw (to_z-of_z (sfits_of c.trunc-nhops.type_inv)) at c.if-nhops-lt0.true)
+    elim c.then-nhops-lt0.branch [
+      | then-nhops-lt0-via-then-nhops-lt0 w ↦ rw (← c.hop_ratio.ensures, ← c.trunc-nhops.ensures, rw (to_z-of_z (sfits_of c.trunc-nhops.type_inv)) at w.if-nhops-lt0.true)
+      | then-nhops-lt0-via-else-nhops-lt0+then-nhops-gt999 w ↦
+          rw (← c.hop_ratio.ensures, ← c.trunc-nhops.ensures, rw (to_z-of_z (sfits_of c.trunc-nhops.type_inv)) at w.if-nhops-lt0.false, rw (to_z-of_z (sfits_of c.trunc-nhops.type_inv)) at w.if-nhops-gt999.true)
+    ]
 
 pub returns-then-nhops-lt0-clause-hops_say : goal.returns-then-nhops-lt0-clause-hops_say
-unfolding hops_of
-returns-then-nhops-lt0-clause-hops_say c =
-    hops-say _ _ _ _
-    (rw (← c.hop_ratio.ensures, ← c.trunc-nhops.ensures, rw (to_z-of_z (sfits_of c.trunc-nhops.type_inv)) at c.if-nhops-lt0.true))
-
-pub returns-then-nhops-gt999-clause-value : goal.returns-then-nhops-gt999-clause-value
-unfolding hops_of
-returns-then-nhops-gt999-clause-value c =
-    rw (← c.hop_ratio.ensures, ← c.trunc-nhops.ensures, rw (to_z-of_z (sfits_of c.trunc-nhops.type_inv)) at c.if-nhops-lt0.false, rw (to_z-of_z (sfits_of c.trunc-nhops.type_inv)) at c.if-nhops-gt999.true)
-
-pub returns-then-nhops-gt999-clause-hops_say : goal.returns-then-nhops-gt999-clause-hops_say
-unfolding hops_of
-returns-then-nhops-gt999-clause-hops_say c =
-    hops-say _ _ _ _
-    (rw (← c.hop_ratio.ensures, ← c.trunc-nhops.ensures, rw (to_z-of_z (sfits_of c.trunc-nhops.type_inv)) at c.if-nhops-lt0.false, rw (to_z-of_z (sfits_of c.trunc-nhops.type_inv)) at c.if-nhops-gt999.true))
+returns-then-nhops-lt0-clause-hops_say c = hops-say _ _ _ _ (returns-then-nhops-lt0-clause-value c)
 
 pub overflow_add-xhops : goal.overflow_add-xhops
 overflow_add-xhops c =

@@ -1,17 +1,7 @@
--- Refused for want of room, or what the scan leaves.
-use mathlib.Core.Path.{refl}
-use borrow.Author.Tests.{lt-ltb, le-ltb}
-use Rattle.ionogram_words.specs.Sang.{sang_words}
+-- A count is at most 40, so that it fits a word.
+use native.Mathlib.Omega.{arith}
 use Rattle.ionogram_words.proofs.Ranges.{angles-range}
 use Rattle.ionogram_words.proofs.sang.Goals as goal
 
-pub returns-then-out-lt1 : goal.returns-then-out-lt1
-unfolding sang_words
-returns-then-out-lt1 c = rw (lt-ltb _ _ c.if-out-lt1.true) (c.from.ensures, refl)
-
-pub scan_into-requires : goal.scan_into-requires
-scan_into-requires c = (c.if-out-lt1.false, rw c.sang-a.ensures (angles-range _ _))
-
-pub returns : goal.returns
-unfolding sang_words
-returns c = rw (le-ltb _ _ c.if-out-lt1.false, ← c.number-km.ensures, ← c.number-least.ensures, ← c.sang-a.ensures) c.scan_into.ensures
+pub count_into-requires : goal.count_into-requires
+count_into-requires c = (c.if-out-lt1.false, rw c.sang-a.ensures (omega (arith, angles-range c.number-km.result c.number-least.result)))

@@ -1,8 +1,11 @@
--- The three stores are those of the definition.
+-- The copy is the definition's three stores.
+use borrow.Author.Rules.{rules}
+use Prim.Native.Nat.{◌*◌}
+use native.Mathlib.Omega.{arith}
 use Rattle.layer_rules.specs.Rules.{row_set}
-use mathlib.Core.Path.{refl}
+use Rattle.layer_rules.proofs.Rows.{row_stored}
 use Rattle.layer_rules.proofs.set_row.Goals as goal
 
 pub returns : goal.returns
 unfolding row_set
-returns c = refl
+returns c = rw c.copy_from_slice.ensures.after (row_stored c.args.table c.args.row _ (3 * c.args.k) (omega arith) (search rules))

@@ -4,32 +4,34 @@ use Prim.Native.Nat.{ℕ, ◌+◌, ◌-◌, ◌^◌, ◌<◌, ◌≤◌}
 use native.Mathlib.Omega.{arith}
 use mir.Syntax.{w64}
 use mir.Val.{Fits}
-use mathlib.Core.Bool.{Bool, true, false}
-use lib.Dec.{leb}
 use lib.ListN.{get_or}
-use borrow.Author.Tests.{le-leb, lt-leb}
-use Rattle.fixed.specs.Fixed.{pick}
+use Rattle.std.specs.Int.{abs_diff}
 use Rattle.exponential.specs.Tables.{ln2}
 use Rattle.logarithm.specs.Tables.{eighths}
 use Rattle.logarithm.specs.Ln.{index, centre, twice_of, rest_of}
 use Rattle.logarithm.proofs.LnRange.{up-near, down-near, sum-ge, rest_up, rest-down, rest_le, taken}
 use Rattle.logarithm.proofs.rest.Goals as goal
 
-picked : (t : Bool) (x y b : ℕ) → x ≤ b → y ≤ b → pick t x y ≤ b
-picked true x y b h k = h
-picked false x y b h k = k
+apart-over : (m c : ℕ) → c ≤ m → abs_diff m c ≡ m - c
+apart-over m c h = omega arith
 
-module _ (m y n a : ℕ) (low : 2 ^ 23 ≤ m) (high : m < 2 ^ 24) (y-is : y ≡ get_or eighths (index m) 0) (n-is : n ≡ pick (leb (centre m) m) (m - centre m) (centre m - m)) (a-is : a ≡ twice_of n (m + centre m)) where
+apart-under : (m c : ℕ) → m < c → abs_diff m c ≡ c - m
+apart-under m c h = omega arith
+
+apart-le : (m c b : ℕ) → m - c ≤ b → c - m ≤ b → abs_diff m c ≤ b
+apart-le m c b h k = omega arith
+
+module _ (m y n a : ℕ) (low : 2 ^ 23 ≤ m) (high : m < 2 ^ 24) (y-is : y ≡ get_or eighths (index m) 0) (n-is : n ≡ abs_diff m (centre m)) (a-is : a ≡ twice_of n (m + centre m)) where
   near : n ≤ 2 ^ 19
-  near = subst (λ (x : ℕ). x ≤ 2 ^ 19) (sym n-is) (picked (leb (centre m) m) (m - centre m) (centre m - m) (2 ^ 19) (up-near m low high) (down-near m low high))
+  near = subst (λ (x : ℕ). x ≤ 2 ^ 19) (sym n-is) (apart-le m (centre m) (2 ^ 19) (up-near m low high) (down-near m low high))
 
   upward : centre m ≤ m → y + a ≡ rest_of m
   upward h =
-      let n-up = n-is ∙ ap (λ (t : Bool). pick t (m - centre m) (centre m - m)) (le-leb _ _ h) in
+      let n-up = n-is ∙ apart-over m (centre m) h in
       ap₂ (λ (x z : ℕ). x + z) y-is (a-is ∙ ap (λ (x : ℕ). twice_of x (m + centre m)) n-up) ∙ sym (rest_up m low high h)
 
   a-down : m < centre m → a ≡ twice_of (centre m - m) (m + centre m)
-  a-down h = a-is ∙ ap (λ (x : ℕ). twice_of x (m + centre m)) (n-is ∙ ap (λ (t : Bool). pick t (m - centre m) (centre m - m)) (lt-leb _ _ h))
+  a-down h = a-is ∙ ap (λ (x : ℕ). twice_of x (m + centre m)) (n-is ∙ apart-under m (centre m) h)
 
   downward : m < centre m → y - a ≡ rest_of m
   downward h = ap₂ (λ (x z : ℕ). x - z) y-is (a-down h) ∙ sym (rest-down m low high h)
@@ -44,16 +46,16 @@ module _ (m y n a : ℕ) (low : 2 ^ 23 ≤ m) (high : m < 2 ^ 24) (y-is : y ≡ 
   less h = subst₂ (λ (x z : ℕ). x ≤ z) (sym (a-down h)) (sym y-is) (taken m low high h)
 
 pub twice-a-requires : goal.twice-a-requires
-twice-a-requires c = let s = c in (near s.args.m c.eighth-y.result c.distance.result (twice_of c.distance.result (s.args.m + centre s.args.m)) s.requires.0 s.requires.1 c.eighth-y.ensures c.distance.ensures refl, sum-ge s.args.m s.requires.0 s.requires.1)
+twice-a-requires c = let s = c in (near s.args.m c.eighth-y.result c.abs_diff.result (twice_of c.abs_diff.result (s.args.m + centre s.args.m)) s.requires.0 s.requires.1 c.eighth-y.ensures c.abs_diff.ensures refl, sum-ge s.args.m s.requires.0 s.requires.1)
 
 pub overflow_add-result : goal.overflow_add-result
-overflow_add-result c = let s = c in fits s.args.m c.eighth-y.result c.distance.result c.twice-a.result s.requires.0 s.requires.1 c.eighth-y.ensures c.distance.ensures c.twice-a.ensures c.if-c-m.true
+overflow_add-result c = let s = c in fits s.args.m c.eighth-y.result c.abs_diff.result c.twice-a.result s.requires.0 s.requires.1 c.eighth-y.ensures c.abs_diff.ensures c.twice-a.ensures c.if-c-m.true
 
 pub returns-then-c-m : goal.returns-then-c-m
-returns-then-c-m c = let s = c in upward s.args.m c.eighth-y.result c.distance.result c.twice-a.result s.requires.0 s.requires.1 c.eighth-y.ensures c.distance.ensures c.twice-a.ensures c.if-c-m.true
+returns-then-c-m c = let s = c in upward s.args.m c.eighth-y.result c.abs_diff.result c.twice-a.result s.requires.0 s.requires.1 c.eighth-y.ensures c.abs_diff.ensures c.twice-a.ensures c.if-c-m.true
 
 pub overflow_sub-result : goal.overflow_sub-result
-overflow_sub-result c = let s = c in less s.args.m c.eighth-y.result c.distance.result c.twice-a.result s.requires.0 s.requires.1 c.eighth-y.ensures c.distance.ensures c.twice-a.ensures c.if-c-m.false
+overflow_sub-result c = let s = c in less s.args.m c.eighth-y.result c.abs_diff.result c.twice-a.result s.requires.0 s.requires.1 c.eighth-y.ensures c.abs_diff.ensures c.twice-a.ensures c.if-c-m.false
 
 pub returns : goal.returns
-returns c = let s = c in downward s.args.m c.eighth-y.result c.distance.result c.twice-a.result s.requires.0 s.requires.1 c.eighth-y.ensures c.distance.ensures c.twice-a.ensures c.if-c-m.false
+returns c = let s = c in downward s.args.m c.eighth-y.result c.abs_diff.result c.twice-a.result s.requires.0 s.requires.1 c.eighth-y.ensures c.abs_diff.ensures c.twice-a.ensures c.if-c-m.false

@@ -1,12 +1,16 @@
 -- Each path is the clause that its tests choose; each call is what its contract says.
-use borrow.Author.Tests.{le-leb, lt-leb}
+use Rattle.std.proofs.lemmas.Result.{err_from_is_err_and}
+use Rattle.layers.proofs.Slots.{slot-taken, slot-refused}
 use Rattle.losses.specs.Alosfv.{alosfv_answer}
 use Rattle.losses.proofs.alosfv.Goals as goal
 
-pub returns-then-k-gt2 : goal.returns-then-k-gt2
+pub returns-in_err-slot_number : goal.returns-in_err-slot_number
 unfolding alosfv_answer
-returns-then-k-gt2 c = rw (lt-leb _ _ c.if-k-gt2.true)
+returns-in_err-slot_number c =
+    let p = err_from_is_err_and c.from_residual.result c.from_residual.ensures.1 in
+    let n = slot-refused c.args.k _ c.in_err-slot_number.ensures.value in
+    rw (p.1, p.2, n.0, n.1)
 
 pub returns : goal.returns
 unfolding alosfv_answer
-returns c = rw (le-leb _ _ c.if-k-gt2.false, ← c.alosfv_slot.ensures)
+returns c = rw (slot-taken _ c.in_ok-slot_number.ensures.value, ← c.alosfv_slot.ensures)

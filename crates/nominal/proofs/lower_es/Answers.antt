@@ -6,10 +6,6 @@ pub returns-then-fs1 : goal.returns-then-fs1
 unfolding es_step
 returns-then-fs1 c = rw c.if-fs1.true
 
-pub returns-then-esmuf-esd : goal.returns-then-esmuf-esd
-unfolding es_step
-returns-then-esmuf-esd c = rw (c.if-fs1.false, ← c.hop.ensures, ← c.es_ray-ray.ensures, c.if-esmuf-esd.true)
-
 pub returns : goal.returns
 unfolding es_step
-returns c = rw (c.if-fs1.false, ← c.hop.ensures, ← c.es_ray-ray.ensures, c.if-esmuf-esd.false)
+returns c = rw (c.if-fs1.false, ← c.hop.ensures, ← c.es_ray-ray.ensures) c.lower.ensures.e

@@ -9,4 +9,4 @@ loop-p-init c = refl
 
 pub loop-p-preserved : goal.loop-p-preserved
 unfolding ec_of
-loop-p-preserved c = rw (add-one c.loop-p.p-index, c.lower_e-ec.ensures, c.loop-p.invariant)
+loop-p-preserved c = rw (add-one c.loop-p.p-index, c.lower-ec.ensures.e, c.loop-p.invariant)

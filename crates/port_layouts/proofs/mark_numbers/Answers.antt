@@ -2,7 +2,7 @@
 use borrow.Author.Rules.{rules}
 use Rattle.shapes.specs.declared.Mark.{Mark}
 use Rattle.shapes.specs.Mark.{mark_number_of}
-use Rattle.port_layouts.proofs.Maps.{IsMapOf-map}
+use Rattle.records.proofs.Maps.{IsMapOf-map}
 use Rattle.port_layouts.proofs.mark_numbers.Goals as goal
 
 pub returns : goal.returns

@@ -1,6 +1,5 @@
-use mathlib.Core.Path.{refl, ap, ◌∙◌}
+use mathlib.Core.Path.{◌≡◌, refl, ap, ◌∙◌}
 use Prim.Native.Nat.{◌≤◌, ◌<◌, ◌+◌}
-use native.Mathlib.Nat.{le_antisymm}
 use native.Mathlib.Numerals.{add-one}
 use native.Mathlib.Omega.{arith}
 use lib.ListN.{length, length-set}
@@ -8,7 +7,7 @@ use Rattle.port_state.proofs.Copies.{read_so_far, read_more, read_all}
 use Rattle.port_state.proofs.floats_of.Goals as goal
 
 pub loop-i-init : goal.loop-i-init
-loop-i-init c = (omega arith, refl, refl, λ h. refl)
+loop-i-init c = (omega arith, refl, λ h. refl)
 
 pub loop-i-preserved : goal.loop-i-preserved
 loop-i-preserved c =
@@ -17,18 +16,17 @@ loop-i-preserved c =
     let i = c.loop-i.i in
     let h : i < length a.x.now = omega arith in (
       omega arith,
-      refl,
-      rw length-set v.2,
-      λ room. rw (add-one i, c.number-v.ensures, v.3 room) (read_more a.w.now a.from a.x.now room i h),
+      rw length-set v.1,
+      λ room. rw (add-one i, c.number.ensures, v.2 room) (read_more a.w.now a.from a.x.now room i h),
     )
 
 pub shape_of-x : goal.shape_of-x
-shape_of-x c = c.loop-i.invariant.2
+shape_of-x c = c.loop-i.invariant.1
 
 pub returns : goal.returns
 returns c =
     let a = c.args in
     let v = c.loop-i.invariant in
-    let e = le_antisymm v.0 c.loop-i-test.false in
+    let e : c.loop-i.i ≡ length a.x.now = omega arith in
     let room : a.from + length a.x.now ≤ length a.w.now = omega arith in
-    v.3 room ∙ ap (read_so_far a.w.now a.from a.x.now room) e ∙ read_all a.w.now a.from a.x.now room
+    v.2 room ∙ ap (read_so_far a.w.now a.from a.x.now room) e ∙ read_all a.w.now a.from a.x.now room

@@ -2,20 +2,20 @@
 use mathlib.Core.Path.{ap}
 use Rattle.profile.specs.Lecden.{lecden_of}
 use Rattle.slot_curves.specs.declared.Drawn.{Drawn}
+use Rattle.profile.proofs.WhereDrawn.{none_drawn, some_drawn}
 use Rattle.profile.proofs.lecden_slot.Goals as goal
 
-pub returns-then-supplied : goal.returns-then-supplied
+pub returns-in_default : goal.returns-in_default
 unfolding lecden_of
-returns-then-supplied c = rw (← c.supplied.ensures, c.if-supplied.true)
+returns-in_default c = rw (none_drawn c.args.s c.args.k c.in_default.ensures)
 
 pub returns : goal.returns
 unfolding lecden_of
 returns c =
-    let d = c.draw-d.ensures in
+    let n = some_drawn c.args.s c.args.k c.in-Some.d c.in-Some.ensures in
+    let d = n.1 in
     rw (
-      ← c.supplied.ensures,
-      c.if-supplied.false,
-      ← c.slot_at-p.ensures,
+      n.0,
       ← ap (λ (x : Drawn). x.curves) d,
       ← ap (λ (x : Drawn). x.htr) d,
       ← ap (λ (x : Drawn). x.slot) d,

@@ -1,5 +1,5 @@
 -- Each height is zipped with the next one up; `all` stops at the first pair that does not rise.
-use mathlib.Core.Bool.{Bool, true, false, ◌&&◌}
+use mathlib.Core.Bool.{Bool, true, false}
 use mathlib.Core.List.{List}
 use mathlib.Core.Path.{◌≡◌, refl, sym, ap, ◌∙◌}
 use Prim.Native.Nat.{ℕ, zero, suc, ◌+◌, ◌≤◌, ◌<◌, zero-le}
@@ -9,6 +9,7 @@ use mathlib.Core.Logic.{inl, inr}
 use lib.Ieee.{Float, nan, lt}
 use lib.ListN.{length, drop, get_or}
 use Rattle.std.proofs.lemmas.List.{get_or-drop, length-drop}
+use Rattle.std.proofs.Math.Bool.{and-false}
 use Rattle.std.proofs.Common.{rules, tests}
 use Rattle.std.proofs.lemmas.Iterator.{YieldsList-from_slice, YieldsList-from_zip, cases_from_all}
 use Rattle.std.proofs.lemmas.Iterator.Consumers.{YieldsList-at}
@@ -23,10 +24,6 @@ use Rattle.profile.proofs.rises_throughout.Goals as goal
 abbrev rise : Bool → Float × Float → Type 0
 rise b p = lt p.0 p.1 ≡ b
 
-falls-either : (b : Bool) → (b && false) ≡ false
-falls-either true = refl
-falls-either false = refl
-
 module _ (a : List Float) where
   all-rise : ((k : ℕ) → k < 49 → rise true (at a k, at a (k + 1))) → (n i : ℕ) → i + n ≡ 49 → rises_from a n i ≡ true
   unfolding rises_from
@@ -36,7 +33,7 @@ module _ (a : List Float) where
   one-falls : (k : ℕ) → rise false (at a k, at a (k + 1)) → (n i : ℕ) → i ≤ k → k < i + n → rises_from a n i ≡ false
   unfolding rises_from
   one-falls k h zero i l u = absurd (omega arith)
-  one-falls k h (suc n) i l u = elim (eq-or-lt_of_le l) [ inl x ↦ rw (x, h) refl | inr s ↦ rw (one-falls k h n (i + 1) (omega (arith, s)) (omega arith)) (falls-either (lt (at a i) (at a (i + 1)))) ]
+  one-falls k h (suc n) i l u = elim (eq-or-lt_of_le l) [ inl x ↦ rw (x, h) refl | inr s ↦ rw (one-falls k h n (i + 1) (omega (arith, s)) (omega arith)) (and-false (lt (at a i) (at a (i + 1)))) ]
 
   -- the pair at k
   pair : length a ≡ 50 → (k : ℕ) (d : Float × Float) → k < 49 → get_or (zip a (drop 1 a)) k d ≡ (get_or a k d.0, get_or a (k + 1) d.1)

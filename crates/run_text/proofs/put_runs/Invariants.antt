@@ -1,4 +1,4 @@
--- After i turns the text of the first i heights is put.
+-- The runs of the heights so far are put.
 use Rattle.std.proofs.Common.{◌≡◌}
 use Rattle.lines.specs.Text.{with_text, joined}
 use Rattle.run_text.specs.RunText.{run_text}

@@ -1,12 +1,12 @@
 -- `scalar::sqrt` meets its contract: each way out is a fact of `proofs/SpecialRoots.antt` or what the callee ensures. Assumes nothing.
 use mathlib.Core.Path.{◌≡◌, sym, ap, ◌∙◌, subst}
 use native.Mathlib.Omega.{arith}
-use mathlib.Core.Bool.{true}
+use mathlib.Core.Bool.{true, false}
 use lib.Dec.{T}
 use lib.Ieee.{Float, binary32, fits, of_bits, to_bits}
 use lib.Ieee.Bits.{of_bits-to_bits, to_bits-lt}
 use Rattle.scalar.specs.Root.{sqrt_of}
-use Rattle.scalar.proofs.Nan.{not-nan, number-pattern, zero_by_zero}
+use Rattle.scalar.proofs.Nan.{tested, not-nan, number-pattern, zero_by_zero}
 use Rattle.scalar.proofs.SpecialRoots.{at-nan, zero-root, minus-zero-root, inf-root, own, above-inf}
 use Rattle.scalar.proofs.sqrt.Goals as goal
 
@@ -17,11 +17,11 @@ held x h = subst T (sym h) tt
 is : (x : Float) → fits binary32 x ≡ true → x ≡ of_bits binary32 (to_bits binary32 x)
 is x h = sym (of_bits-to_bits binary32 x (held x h))
 
-pub returns-then-x : goal.returns-then-x
-returns-then-x c = at-nan c.args.x c.if-x.true
+pub returns-then-is_nan : goal.returns-then-is_nan
+returns-then-is_nan c = at-nan c.args.x (tested _ _ true c.is_nan.ensures.value c.if-is_nan.true)
 
 pub float_to_bits-b : goal.float_to_bits-b
-float_to_bits-b c = not-nan c.args.x c.if-x.false
+float_to_bits-b c = not-nan c.args.x (tested _ _ false c.is_nan.ensures.value c.if-is_nan.false)
 
 pub returns-then-b-eq0 : goal.returns-then-b-eq0
 returns-then-b-eq0 c = own c.args.x (to_bits binary32 c.args.x) 0 (is c.args.x c.well_formed.0.1) c.if-b-eq0.true zero-root

@@ -13,7 +13,7 @@ use mir.Facts.{to_z-of_z, to_z_pos}
 use lib.Ieee.{Float, nan, fits, ne, binary32, is_nan, of_bits, to_bits}
 use lib.Ieee.Bits.{is_true, is_false, of_bits-to_bits}
 use Rattle.scalar.specs.Scalar.{trunc_of}
-use Rattle.scalar.proofs.Nan.{differs, not-nan}
+use Rattle.scalar.proofs.Nan.{tested, differs, not-nan}
 use Rattle.scalar.proofs.Truncation.{Cut, cut-end, cut-under}
 use Rattle.scalar.proofs.trunc.Goals as goal
 
@@ -52,17 +52,17 @@ turned n h = ap (λ (z : ℤ). pos 0 -ℤ z) (to_z_pos w32 h) ∙ +ℤ_idl (neg_
 turned-fits : (n : ℕ) → n < 2 ^ 31 → SFits w32 (pos 0 -ℤ to_z w32 n)
 turned-fits n h = record { sfits = subst (λ (z : ℤ). mag z < 2 ^ 31) (sym (turned n h)) (negated-in n h) }
 
-pub returns-then-x : goal.returns-then-x
-returns-then-x c = nan-cut ∙ ap trunc_of (sym (differs c.args.x c.if-x.true))
+pub returns-then-is_nan : goal.returns-then-is_nan
+returns-then-is_nan c = nan-cut ∙ ap trunc_of (sym (differs c.args.x (tested _ _ true c.is_nan.ensures.value c.if-is_nan.true)))
 
 pub float_to_bits-b : goal.float_to_bits-b
-float_to_bits-b c = not-nan c.args.x c.if-x.false
+float_to_bits-b c = not-nan c.args.x (tested _ _ false c.is_nan.ensures.value c.if-is_nan.false)
 
 pub returns-then-b-lt2147483648 : goal.returns-then-b-lt2147483648
-returns-then-b-lt2147483648 c = sym (cut-end false (to_bits binary32 c.args.x) (plus (to_bits binary32 c.args.x) c.if-b-lt2147483648.true) c.if-size-ge1325400064.true (number c.args.x c.well_formed.0.1 c.if-x.false)) ∙ ap trunc_of (is c.args.x c.well_formed.0.1)
+returns-then-b-lt2147483648 c = sym (cut-end false (to_bits binary32 c.args.x) (plus (to_bits binary32 c.args.x) c.if-b-lt2147483648.true) c.if-size-ge1325400064.true (number c.args.x c.well_formed.0.1 (tested _ _ false c.is_nan.ensures.value c.if-is_nan.false))) ∙ ap trunc_of (is c.args.x c.well_formed.0.1)
 
 pub returns-then-size-ge1325400064 : goal.returns-then-size-ge1325400064
-returns-then-size-ge1325400064 c = sym (cut-end true (to_bits binary32 c.args.x) (minus (to_bits binary32 c.args.x) c.if-b-lt2147483648.false) c.if-size-ge1325400064.true (number c.args.x c.well_formed.0.1 c.if-x.false)) ∙ ap trunc_of (is c.args.x c.well_formed.0.1)
+returns-then-size-ge1325400064 c = sym (cut-end true (to_bits binary32 c.args.x) (minus (to_bits binary32 c.args.x) c.if-b-lt2147483648.false) c.if-size-ge1325400064.true (number c.args.x c.well_formed.0.1 (tested _ _ false c.is_nan.ensures.value c.if-is_nan.false))) ∙ ap trunc_of (is c.args.x c.well_formed.0.1)
 
 pub overflow_cast-result : goal.overflow_cast-result
 overflow_cast-result c = record { sfits = (cut (to_bits binary32 c.args.x) c.places.result c.places.ensures c.if-size-ge1325400064.false).under }

@@ -6,7 +6,7 @@ use borrow.Author.Rules.{rules}
 use lib.Ieee.{nan}
 use lib.ListN.{length}
 use Rattle.shape_densities.specs.Density.{fnd_of}
-use Rattle.shape_densities.proofs.MapAt.{map_at}
+use Rattle.std.proofs.lemmas.List.{get_or-map}
 use Rattle.cases.proofs.Tabulate.{mapped, mapped-more, mapped-all}
 use Rattle.shapes.specs.Marks.{mark_of}
 use Rattle.shapes.proofs.marks_on.Goals as goal
@@ -19,7 +19,7 @@ mark_at-requires c =
     let a = c.args in
     let i = c.loop-ih.ih in
     let h : i < length a.htr = search rules in
-    rw c.tails-fnd.ensures (map_at (fnd_of a.c) a.htr i h)
+    rw c.tails-fnd.ensures (get_or-map (fnd_of a.c) a.htr i nan nan h)
 
 pub loop-ih-preserved : goal.loop-ih-preserved
 loop-ih-preserved c =

@@ -1,22 +1,21 @@
--- Curves and heights are those that `draw` answers of the slot as it came.
+-- Curves and heights are those that `drawn` answers of the slot as it came.
 use mathlib.Core.Path.{ap}
+use Rattle.profile.proofs.WhereDrawn.{none_drawn, some_drawn}
 use Rattle.slot_curves.specs.declared.Drawn.{Drawn}
 use Rattle.shapes.specs.Marks.{marks_of}
 use Rattle.shapes.proofs.marks_slot.Goals as goal
 
-pub returns-then-supplied : goal.returns-then-supplied
+pub returns-in_default : goal.returns-in_default
 unfolding marks_of
-returns-then-supplied c = rw (← c.supplied.ensures, c.if-supplied.true) c.no_marks.ensures
+returns-in_default c = rw (none_drawn c.args.s c.args.k c.in_default.ensures) c.no_marks.ensures
 
 pub returns : goal.returns
 unfolding marks_of
 returns c =
-    let d = c.draw-d.ensures in
+    let n = some_drawn c.args.s c.args.k c.in-Some.d c.in-Some.ensures in
     rw (
-      ← c.supplied.ensures,
-      c.if-supplied.false,
-      ← c.slot_at-p.ensures,
-      ← ap (λ (x : Drawn). x.curves) d,
-      ← ap (λ (x : Drawn). x.htr) d,
+      n.0,
+      ← ap (λ (x : Drawn). x.curves) n.1,
+      ← ap (λ (x : Drawn). x.htr) n.1,
     )
     c.marks_on.ensures

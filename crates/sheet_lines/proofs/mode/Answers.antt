@@ -1,45 +1,39 @@
--- An i32 that is not below zero is its own size.
+-- An i32 that is not below zero is its own size, and of one below zero and 0 the greater is 0.
 use mathlib.Core.Path.{◌≡◌, refl}
-use mathlib.Core.Bool.{true, false}
-use Prim.Native.Nat.{ℕ, ◌<◌}
+use Prim.Native.Nat.{ℕ, zero, suc, ◌<◌}
 use native.Mathlib.Omega.{arith}
 use lib.Dec.{T}
 use lib.IntN.{ℤ, pos, negsuc, nat_abs}
-use lib.Signed.{lt_z, non_neg, mag}
+use lib.Signed.{non_neg, mag}
 use mir.Syntax.{w64}
 use mir.Val.{Fits}
 use mir.Facts.{to_z-of_z}
 use borrow.Author.Rules.{rules}
-use borrow.Author.Tests.{ltb-true}
+use borrow.Author.Tests.{lt-ltb}
+use Rattle.std.specs.Int.{int_max}
 use Rattle.sheet_lines.specs.SheetLines.{natural}
 use Rattle.sheet_lines.proofs.mode.Goals as goal
 
-below : (z : ℤ) → lt_z z (pos 0) ≡ true → 0 ≡ natural z
-below (pos n) e = let l : n < 0 = ltb-true n 0 e in omega arith
-below (negsuc n) e = refl
+itself : (n : ℕ) → int_max (pos n) (pos 0) ≡ pos n
+itself zero = refl
+itself (suc n) = rw (lt-ltb 0 (suc n) (omega arith)) refl
 
-own : (z : ℤ) → lt_z z (pos 0) ≡ false → nat_abs z ≡ natural z
-own (pos n) e = refl
-own (negsuc n) e = let f : ◌≡◌ {A = ℕ} 0 1 = cc in omega arith
+greater : (z : ℤ) → nat_abs (int_max z (pos 0)) ≡ natural z
+greater (pos n) = rw (itself n) refl
+greater (negsuc n) = refl
 
-castable : (z : ℤ) → mag z < 0x8000_0000 → lt_z z (pos 0) ≡ false → T (non_neg z) × Fits w64 (nat_abs z)
-castable (pos n) m e = (tt, record { fits = omega arith })
-castable (negsuc n) m e = let f : ◌≡◌ {A = ℕ} 0 1 = cc in absurd (omega arith)
-
-pub returns-then-m-lt0 : goal.returns-then-m-lt0
-returns-then-m-lt0 c =
-    let z = c.args.h.now.modmuf in
-    let m : mag z < 0x8000_0000 = search rules in
-    below z (rw (to_z-of_z {z = z} (record { sfits = m })) at c.if-m-lt0.true)
+castable : (z : ℤ) → mag z < 0x8000_0000 → T (non_neg (int_max z (pos 0))) × Fits w64 (nat_abs (int_max z (pos 0)))
+castable (pos n) m = rw (itself n) (tt, record { fits = omega arith })
+castable (negsuc n) m = (tt, record { fits = omega arith })
 
 pub overflow_cast-result : goal.overflow_cast-result
 overflow_cast-result c =
     let z = c.args.h.now.modmuf in
     let m : mag z < 0x8000_0000 = search rules in
-    rw (to_z-of_z {z = z} (record { sfits = m })) (castable z m (rw (to_z-of_z {z = z} (record { sfits = m })) at c.if-m-lt0.false))
+    rw (to_z-of_z {z = c.max.result} (record { sfits = c.max.type_inv }), c.max.ensures.value, to_z-of_z {z = z} (record { sfits = m })) (castable z m)
 
 pub returns : goal.returns
 returns c =
     let z = c.args.h.now.modmuf in
     let m : mag z < 0x8000_0000 = search rules in
-    rw (to_z-of_z {z = z} (record { sfits = m })) (own z (rw (to_z-of_z {z = z} (record { sfits = m })) at c.if-m-lt0.false))
+    rw (to_z-of_z {z = c.max.result} (record { sfits = c.max.type_inv }), c.max.ensures.value, to_z-of_z {z = z} (record { sfits = m })) (greater z)

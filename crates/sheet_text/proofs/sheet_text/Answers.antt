@@ -1,9 +1,5 @@
-use mathlib.Core.Path.{◌∙◌}
-use Rattle.sheet_text.proofs.Printed.{text_printed, refusal_printed}
+use Rattle.sheet_text.proofs.Printed.{printed}
 use Rattle.sheet_text.proofs.sheet_text.Goals as goal
 
-pub returns-in-Ok : goal.returns-in-Ok
-returns-in-Ok c = text_printed _ _ c.in-Ok.ensures
-
-pub returns-in-Err : goal.returns-in-Err
-returns-in-Err c = c.refused.ensures ∙ refusal_printed _ _ c.in-Err.ensures
+pub returns : goal.returns
+returns c = printed c.args.file.now _ c.answer.result c.answer.ensures c.unwrap_or_else.ensures

@@ -4,10 +4,10 @@ use mathlib.Core.List.{List}
 use mathlib.Core.Path.{◌≡◌, refl}
 use Prim.Native.Nat.{ℕ}
 use lib.IntN.{ℤ}
-use borrow.Author.Tests.{le-leb, lt-leb}
 use Rattle.std.proofs.Common.{Ok, Err}
 use Rattle.std.proofs.lemmas.Result.{err_from_is_err_and}
 use Rattle.refusal.specs.declared.Refusal.{Refusal}
+use Rattle.layers.proofs.Slots.{slot-taken, slot-refused}
 use Rattle.reflectrix.specs.Fobby.{room_for, cells_after, outcome_by, fobby_outcome}
 use Rattle.slot_sheet.specs.Sheet.{slot_sheet_with, sheet_cells_with}
 use Rattle.slot_sheet.proofs.slot_sheet.Goals as goal
@@ -28,35 +28,40 @@ room : (nang : ℕ) (cells : List ℤ) → Ok tt ≡ fobby_outcome nang cells �
 unfolding fobby_outcome
 room nang cells e = answered_by (room_for nang cells) e
 
-pub returns-then-k-gt2-clause-value : goal.returns-then-k-gt2-clause-value
+pub returns-in_err-slot_number-clause-value : goal.returns-in_err-slot_number-clause-value
 unfolding slot_sheet_with
-returns-then-k-gt2-clause-value c = rw (lt-leb _ _ c.if-k-gt2.true)
+returns-in_err-slot_number-clause-value c =
+    let p = err_from_is_err_and c.from_residual.result c.from_residual.ensures.1 in
+    let n = slot-refused c.args.k _ c.in_err-slot_number.ensures.value in
+    rw (p.1, p.2, n.0, n.1)
 
-pub returns-then-k-gt2-clause-cells_after : goal.returns-then-k-gt2-clause-cells_after
+pub returns-in_err-slot_number-clause-cells_after : goal.returns-in_err-slot_number-clause-cells_after
 unfolding sheet_cells_with
-returns-then-k-gt2-clause-cells_after c = rw (lt-leb _ _ c.if-k-gt2.true)
+returns-in_err-slot_number-clause-cells_after c =
+    let n = slot-refused c.args.k _ c.in_err-slot_number.ensures.value in
+    rw n.0
 
 pub returns-in_err-fobby-clause-value : goal.returns-in_err-fobby-clause-value
 unfolding slot_sheet_with
 returns-in_err-fobby-clause-value c =
-    let p = err_from_is_err_and c.from_residual.result c.from_residual.ensures.1 in
+    let p = err_from_is_err_and c.from_residual-in_err-fobby.result c.from_residual-in_err-fobby.ensures.1 in
     let n = no-room c.args.nang c.args.cells.now c.in_err-fobby.field-0.0 c.in_err-fobby.ensures.value in
-    rw (p.1, p.2, n.1, le-leb _ _ c.if-k-gt2.false, n.0)
+    rw (p.1, p.2, n.1, slot-taken _ c.in_ok-slot_number.ensures.value, n.0)
 
 pub returns-in_err-fobby-clause-cells_after : goal.returns-in_err-fobby-clause-cells_after
 unfolding sheet_cells_with cells_after
 returns-in_err-fobby-clause-cells_after c =
     let n = no-room c.args.nang c.args.cells.now c.in_err-fobby.field-0.0 c.in_err-fobby.ensures.value in
-    rw (le-leb _ _ c.if-k-gt2.false, n.0) (rw n.0 at c.in_err-fobby.ensures.cells_after)
+    rw (slot-taken _ c.in_ok-slot_number.ensures.value, n.0) (rw n.0 at c.in_err-fobby.ensures.cells_after)
 
 pub returns-clause-value : goal.returns-clause-value
 unfolding slot_sheet_with
 returns-clause-value c =
     let r = room c.args.nang c.args.cells.now c.in_ok-fobby.ensures.value in
-    rw (le-leb _ _ c.if-k-gt2.false, r, ← c.lecden_slot-t.ensures, ← c.genion_slot-ion.ensures, ← c.alosfv_slot.ensures, ← c.marks_slot-marks.ensures)
+    rw (slot-taken _ c.in_ok-slot_number.ensures.value, r, ← c.lecden_slot-t.ensures, ← c.genion_slot-ion.ensures, ← c.alosfv_slot.ensures, ← c.marks_slot-marks.ensures)
 
 pub returns-clause-cells_after : goal.returns-clause-cells_after
 unfolding sheet_cells_with cells_after
 returns-clause-cells_after c =
     let r = room c.args.nang c.args.cells.now c.in_ok-fobby.ensures.value in
-    rw (le-leb _ _ c.if-k-gt2.false, r, ← c.lecden_slot-t.ensures, ← c.genion_slot-ion.ensures) (rw r at c.in_ok-fobby.ensures.cells_after)
+    rw (slot-taken _ c.in_ok-slot_number.ensures.value, r, ← c.lecden_slot-t.ensures, ← c.genion_slot-ion.ensures) (rw r at c.in_ok-fobby.ensures.cells_after)

@@ -7,6 +7,8 @@ use native.Mathlib.Omega.{arith}
 use lib.ListN.{set}
 use lib.Ieee.{Float}
 use Rattle.scalar.specs.F32.{at}
+use borrow.Author.Rules.{rules}
+use Rattle.profile.specs.Rising.{rises_of}
 use Rattle.heights.proofs.Owned.{each-held}
 use Rattle.sounding_rows.proofs.Lent.{lent_rows}
 use Rattle.sounding_rows.specs.Rows.{rows_of}
@@ -33,11 +35,12 @@ pub returns : goal.returns
 returns c =
     let l = c.loop-i in
     let e = le_antisymm l.invariant.0 c.loop-i-test.false in
-    let q = c in
-    let a = q.args in
-    let g = q.well_formed.0.1.1.1.1.1.1.1.0 in
-    let held = each-held a.s.htr g.0 g.1.1 in (
-      l.invariant.1 ∙ ap (rows_of _ _ _ _) e ∙ lent_rows (λ h. h.hp) a.s a.rises held q.requires _ _ _ _,
-      l.invariant.2 ∙ ap (rows_of _ _ _ _) e ∙ lent_rows (λ h. h.ht) a.s a.rises held q.requires _ _ _ _,
-      l.invariant.3 ∙ ap (rows_of _ _ _ _) e ∙ lent_rows (λ h. h.segment) a.s a.rises held q.requires _ _ _ _,
-    )
+    let t = c.args.t in
+    let g = c.well_formed.0.1.1.0.1.1.1.1.1.1.1.0 in
+    let told : t.rises ≡ rises_of t.s.htr = search rules in
+    let held = each-held t.s.htr g.0 g.1.1 in
+    let p = c.lent-p.ensures in
+    let hprim = (rw (p.htr, p.fnsq, p.rises) at l.invariant.1) ∙ ap (rows_of _ _ _ _) e ∙ lent_rows (λ h. h.hp) t.s t.rises held told _ _ _ _ in
+    let htrue = (rw (p.htr, p.fnsq, p.rises) at l.invariant.2) ∙ ap (rows_of _ _ _ _) e ∙ lent_rows (λ h. h.ht) t.s t.rises held told _ _ _ _ in
+    let segment = (rw (p.htr, p.fnsq, p.rises) at l.invariant.3) ∙ ap (rows_of _ _ _ _) e ∙ lent_rows (λ h. h.segment) t.s t.rises held told _ _ _ _ in
+    rw (← hprim, ← htrue, ← segment) c.make.ensures

@@ -2,4 +2,4 @@
 use Rattle.sounding_rows.proofs.by_table.Goals as goal
 
 pub returns : goal.returns
-returns c = rw (← c.true_rows-t.ensures.htrue_value, ← c.true_rows-t.ensures.segment_value, ← c.virtual_rows.ensures) c.make.ensures
+returns c = rw (← c.true_rows-columns.ensures.htrue_value, ← c.true_rows-columns.ensures.segment_value, ← c.virtual_rows.ensures) c.make.ensures

@@ -4,7 +4,7 @@ use Rattle.sounding_rows.proofs.rows.Goals as goal
 
 pub returns-then-profile_only : goal.returns-then-profile_only
 unfolding rows_with
-returns-then-profile_only c = rw (← c.profile_only.ensures, c.if-profile_only.true, ← c.by_profile-c.ensures.0, ← c.by_profile-c.ensures.1, ← c.by_profile-c.ensures.2, ← c.make.ensures)
+returns-then-profile_only c = rw (← c.profile_only.ensures, c.if-profile_only.true) c.by_profile.ensures
 
 pub returns : goal.returns
 unfolding rows_with

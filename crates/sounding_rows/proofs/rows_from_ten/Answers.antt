@@ -7,7 +7,7 @@ use Rattle.sounding_rows.proofs.rows_from_ten.Goals as goal
 
 pub loop-i-init : goal.loop-i-init
 unfolding rows_of
-loop-i-init p c = (omega arith, λ g is. refl)
+loop-i-init p c = (omega arith, λ g is. rw c.copy_from_slice.ensures.after refl)
 
 pub loop-i-preserved : goal.loop-i-preserved
 unfolding rows_of

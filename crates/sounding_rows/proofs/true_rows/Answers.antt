@@ -7,7 +7,7 @@ use Rattle.sounding_rows.proofs.true_rows.Goals as goal
 
 pub loop-i-init : goal.loop-i-init
 unfolding rows_of HTE
-loop-i-init c = (omega arith, refl, refl)
+loop-i-init c = (omega arith, rw c.copy_from_slice.ensures.after refl, refl)
 
 pub loop-i-preserved : goal.loop-i-preserved
 unfolding rows_of

@@ -1,13 +1,13 @@
 -- What the rows that are left do to the search so far is what all rows do to its start, whatever rows they are that the reader gives.
 use Rattle.std.proofs.Common.{◌≡◌, ◌≤◌, ◌-◌, ℕ}
 use Rattle.sporadic.specs.Sporadic.{es_from, start_of, Reads}
-use Rattle.sporadic.specs.declared.EsRow.{EsRow}
+use Rattle.layers.specs.declared.EsParams.{EsParams}
 use Rattle.sporadic.proofs.search.Given as goal
 
 abbrev pub invariant-loop-k : goal.invariant-loop-k
 invariant-loop-k g l = record {
   in_rows : l.k ≤ l.n;
-  same : (rows : ℕ → EsRow) → Reads (goal.F-post g l.row) l.n rows → es_from rows l.c (l.n - l.k) l.k l.a ≡ es_from rows l.c l.n 0 start_of;
+  same : (rows : ℕ → EsParams) → Reads (goal.F-post g l.row) l.n rows → es_from rows l.c (l.n - l.k) l.k l.a ≡ es_from rows l.c l.n 0 start_of;
 }
 
 abbrev pub decreases-loop-k : goal.decreases-loop-k

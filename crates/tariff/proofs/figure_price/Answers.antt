@@ -10,9 +10,9 @@ pub returns-in_default : goal.returns-in_default
 unfolding figure_price
 returns-in_default c = grind (arith, nat_tests)
 
-pub returns-then-seconds-lt1 : goal.returns-then-seconds-lt1
+pub returns-then-not-contains : goal.returns-then-not-contains
 unfolding figure_price
-returns-then-seconds-lt1 c = grind (arith, nat_tests)
+returns-then-not-contains c = grind (arith, nat_tests)
 
 pub bounds-rates-band : goal.bounds-rates-band
 bounds-rates-band c = let b = band-in _ c.args.tops.now c.in-Some.band (sym c.in-Some.is ∙ c.first_band.ensures) in rate-at c.args.tops.now _ _ c.requires b.0
@@ -20,7 +20,7 @@ bounds-rates-band c = let b = band-in _ c.args.tops.now c.in-Some.band (sym c.in
 pub overflow_mul-rates : goal.overflow_mul-rates
 overflow_mul-rates c =
     let b = band-in _ c.args.tops.now c.in-Some.band (sym c.in-Some.is ∙ c.first_band.ensures) in
-    let m = product-most c.args.tops.now c.args.rates.now c.in-Some.band c.args.seconds c.requires b.0 (omega arith) in
+    let m = product-most c.args.tops.now c.args.rates.now c.in-Some.band c.args.seconds c.requires b.0 (grind (arith, nat_tests)) in
     record { fits = omega arith }
 
 pub returns : goal.returns

@@ -1,38 +1,41 @@
 -- The smaller of the two kHz is the next; where one trace is at its end, the other's.
+use mathlib.Core.Path.{sym, ◌∙◌}
 use native.Mathlib.Omega.{arith}
-use native.Mathlib.Nat.{le_antisymm}
 use mir.Facts.{to_z-of_z}
 use borrow.Author.Rules.{sfits_of}
+use Rattle.std.specs.declared.cmp.Ordering.{Ordering}
+use Rattle.std.proofs.lemmas.Bool.Decides.{nat_tests}
+use Rattle.std.proofs.lemmas.Cmp.{ranked}
 use Rattle.trace_lines.proofs.Steps.{head_first, head-second, head-both}
 use Rattle.trace_lines.proofs.next.Goals as goal
 
-pub returns-then-i-a : goal.returns-then-i-a
-returns-then-i-a c =
+pub returns-then-is_empty : goal.returns-then-is_empty
+returns-then-is_empty c =
     let g = c.args in
-    head-second g.a.now g.ah.now g.b.now g.bh.now c.requires.0 c.requires.1 g.i g.j (omega arith)
-    (λ m. omega arith)
+    head-second g.a.now g.ah.now g.b.now g.bh.now c.requires.0 c.requires.1 (grind (arith, nat_tests))
+    (λ m. grind (arith, nat_tests))
 
-pub returns-then-j-b : goal.returns-then-j-b
-returns-then-j-b c =
+pub returns-then-is_empty-2 : goal.returns-then-is_empty-2
+returns-then-is_empty-2 c =
     let g = c.args in
-    head_first g.a.now g.ah.now g.b.now g.bh.now c.requires.0 c.requires.1 g.i g.j (omega arith)
-    (λ m. omega arith)
+    head_first g.a.now g.ah.now g.b.now g.bh.now c.requires.0 c.requires.1 (grind (arith, nat_tests))
+    (λ m. grind (arith, nat_tests))
 
-pub returns-then-f-g : goal.returns-then-f-g
-returns-then-f-g c =
+pub returns-in-Less : goal.returns-in-Less
+returns-in-Less c =
     let g = c.args in
-    head_first g.a.now g.ah.now g.b.now g.bh.now c.requires.0 c.requires.1 g.i g.j (omega arith)
-    (λ m. c.if-f-g.true)
+    head_first g.a.now g.ah.now g.b.now g.bh.now c.requires.0 c.requires.1 (grind (arith, nat_tests))
+    (λ m. ranked _ _ Ordering.Less (sym c.in-Less.is ∙ c.cmp.ensures))
 
-pub returns-then-g-f : goal.returns-then-g-f
-returns-then-g-f c =
+pub returns-in-Greater : goal.returns-in-Greater
+returns-in-Greater c =
     let g = c.args in
-    head-second g.a.now g.ah.now g.b.now g.bh.now c.requires.0 c.requires.1 g.i g.j (omega arith)
-    (λ m. c.if-g-f.true)
+    head-second g.a.now g.ah.now g.b.now g.bh.now c.requires.0 c.requires.1 (grind (arith, nat_tests))
+    (λ m. ranked _ _ Ordering.Greater (sym c.in-Greater.is ∙ c.cmp.ensures))
 
-pub returns : goal.returns
-returns c =
+pub returns-in-Equal : goal.returns-in-Equal
+returns-in-Equal c =
     let g = c.args in
     rw (to_z-of_z (sfits_of c.less.type_inv), c.less.ensures)
-    (head-both g.a.now g.ah.now g.b.now g.bh.now c.requires.0 c.requires.1 g.i g.j (omega arith) (omega arith)
-    (le_antisymm c.if-g-f.false c.if-f-g.false))
+    (head-both g.a.now g.ah.now g.b.now g.bh.now c.requires.0 c.requires.1 (grind (arith, nat_tests)) (grind (arith, nat_tests))
+    (ranked _ _ Ordering.Equal (sym c.in-Equal.is ∙ c.cmp.ensures)))

@@ -4,9 +4,10 @@ use native.Mathlib.Omega.{arith}
 use mir.Val.{to_z, of_z}
 use mir.Syntax.{w64}
 use borrow.Author.Rules.{rules}
-use lib.ListN.{length, set}
+use lib.ListN.{length, set, length-drop}
+use Rattle.std.proofs.lemmas.List.{take_rest}
 use Rattle.trace_lines.specs.Lines.{which_number, of_first, of_second}
-use Rattle.traces.proofs.Merged.{Kept, more, more_rows, ended, lengths, all_left}
+use Rattle.traces.proofs.Merged.{Kept, rows_left, more, more_rows, ended, lengths, all_left}
 use Rattle.traces.proofs.lines.Goals.{After-next-l, At-loop-i}
 use Rattle.traces.proofs.lines.Goals as goal
 
@@ -33,7 +34,7 @@ written c =
     let p = c.requires in
     more g.a.now g.ah.now g.b.now g.bh.now g.khz.now g.which.now g.difference.now p.0 p.1 p.4
     p.5 p.6 c.loop-i.khz c.loop-i.which c.loop-i.difference c.loop-i.i c.loop-i.j c.loop-i.n c.loop-i.invariant
-    c.loop-i-test.true c.next-l.result c.next-l.ensures
+    c.loop-i-test.true c.next-l.result (simp take_rest at c.next-l.ensures)
 
 some-rows : (c : After-next-l) → 0 < of_first c.next-l.result.which + of_second c.next-l.result.which
 some-rows c =
@@ -41,7 +42,7 @@ some-rows c =
     let p = c.requires in
     more_rows g.a.now g.ah.now g.b.now g.bh.now g.khz.now g.which.now g.difference.now p.0 p.1
     p.4 p.5 p.6 c.loop-i.khz c.loop-i.which c.loop-i.difference c.loop-i.i c.loop-i.j c.loop-i.n
-    c.loop-i.invariant c.loop-i-test.true c.next-l.result c.next-l.ensures
+    c.loop-i.invariant c.loop-i-test.true c.next-l.result (simp take_rest at c.next-l.ensures)
 
 pub loop-i-init : goal.loop-i-init
 loop-i-init c =
@@ -58,7 +59,14 @@ loop-i-init c =
 
 pub next-l-requires : goal.next-l-requires
 next-l-requires c =
-    (c.requires.0, c.requires.1, c.loop-i.invariant.first, c.loop-i.invariant.second, c.loop-i-test.true)
+    let g = c.args in
+    let p = c.requires in
+    let i = c.loop-i.i in
+    let j = c.loop-i.j in
+    let first = c.loop-i.invariant.first in
+    let second = c.loop-i.invariant.second in
+    simp take_rest
+    (rows_left g.a.now g.ah.now i p.0, rows_left g.b.now g.bh.now j p.1, simp length-drop (omega arith))
 
 pub bounds-khz-n : goal.bounds-khz-n
 bounds-khz-n c = let e = (len (goal.at.bounds-khz-n c).At-loop-i).0 in omega arith

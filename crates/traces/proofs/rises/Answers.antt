@@ -1,19 +1,16 @@
 use Prim.Native.Nat.{ℕ, zero, suc, ◌+◌, ◌<◌}
-use mathlib.Core.Bool.{Bool, true, false, ◌&&◌}
+use mathlib.Core.Bool.{Bool, true, false}
 use mathlib.Core.List.{List, [], ◌∷◌}
 use mathlib.Core.Path.{◌≡◌, refl, sym}
 use native.Mathlib.Numerals.{add-one}
 use native.Mathlib.Omega.{arith}
 use lib.ListN.{length, get_or}
+use Rattle.std.proofs.Math.Bool.{and-false}
 use Rattle.std.proofs.Common.{ltb, rules, tests}
 use Rattle.std.proofs.lemmas.List.Sorted.{answers_always}
 use Rattle.std.specs.List.{IsAllAdjacentAnswer}
 use Rattle.trace_lines.specs.Trace.{rises as rises_of}
 use Rattle.traces.proofs.rises.Goals as goal
-
-and-false : (a : Bool) → (a && false) ≡ false
-and-false true = refl
-and-false false = refl
 
 all : (l : List ℕ) → ((i : ℕ) → suc i < length l → ltb (get_or l i 0) (get_or l (suc i) 0) ≡ true) → rises_of l ≡ true
 unfolding rises_of

@@ -1,5 +1,5 @@
-use mathlib.Core.Path.{◌≡◌, refl, sym, ◌∙◌}
-use Prim.Native.Nat.{◌<◌, ◌^◌}
+use mathlib.Core.Path.{◌≡◌, refl}
+use Prim.Native.Nat.{◌+◌, ◌<◌, ◌^◌}
 use native.Mathlib.Numerals.{add-one}
 use native.Mathlib.Omega.{arith}
 use mir.Syntax.{w32}
@@ -21,7 +21,8 @@ loop-i-preserved c =
     let n = get_or c.args.told.now l.i 0 in
     let h = t.sure c.if-doubts-eq0.true l.i (omega arith) in
     let k : n < 2 ^ 31 = omega arith in
-    (omega arith, rw (add-one _, ← l.invariant.1, to_z_pos w32 {n = n} k, (t.each l.i (omega arith)).right h))
+    let z : 0 + l.i ≡ l.i = omega arith in
+    (omega arith, rw (add-one _, z, ← l.invariant.1, to_z_pos w32 {n = n} k, (t.each l.i (omega arith)).right h))
 
 pub loop-i-2-init : goal.loop-i-2-init
 unfolding angle_cells_of
@@ -31,4 +32,5 @@ pub loop-i-2-preserved : goal.loop-i-2-preserved
 unfolding angle_cells_of
 loop-i-2-preserved c =
     let l = c.loop-i-2 in
-    (omega arith, rw (add-one _, ← l.invariant.1, to_z-of_z (sfits_of c.mended-c.type_inv), c.mended-c.ensures))
+    let z : 0 + l.i ≡ l.i = omega arith in
+    (omega arith, rw (add-one _, z, ← l.invariant.1, to_z-of_z (sfits_of c.mended-c.type_inv), c.mended-c.ensures))

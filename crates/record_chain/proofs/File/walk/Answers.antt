@@ -8,9 +8,10 @@ use lib.Seq.{length-take-le}
 use Rattle.std.proofs.lemmas.Result.{err_from_is_err_and}
 use Rattle.std.specs.Prelude.{Ok, Err}
 use Rattle.record_chain.specs.Chain as chain
-use Rattle.record_chain.proofs.Steps.{in-file, step-to, walk-whole, walk-cut, walk-astray, walk-long, walk-bad, walk-on, as-answered, one_more, stored}
+use Rattle.record_chain.proofs.Steps.{in-file, step-to, walk-whole, walk-cut, walk-astray, walk-long, walk-bad, walk-on, as-answered, stored}
 use Rattle.record_chain.proofs.File.walk.Goals.{else-left-ne48-via-then-left-ne48+else-left-ne0, else-left-ne48-via-else-left-ne48}
 use Rattle.record_chain.proofs.File.walk.Goals as goal
+use Rattle.std.proofs.lemmas.List.{take_more_set}
 
 pub loop-next-init : goal.loop-next-init
 loop-next-init c = (omega arith, omega arith, omega arith, refl, refl, refl)
@@ -55,7 +56,7 @@ loop-next-preserved c =
       in-file c.args.self.now.form c.args.self.now.bytes.now c.in-Some.next (step-to c.args.self.now.form c.args.self.now.bytes.now _ _ c.in-Some.next (sym c.step_out.ensures.value ∙ c.in_ok-next.was ∙ ap Ok c.in-Some.is)),
       simp length-set l.invariant.3,
       stored l.order l.count n (omega arith) l.invariant.3 l.invariant.4,
-      ap (λ (order : List ℕ). chain.walk a.self.now.form a.self.now.bytes.now (l.left - 1) order n) (one_more l.order l.count n (omega arith))
+      ap (λ (order : List ℕ). chain.walk a.self.now.form a.self.now.bytes.now (l.left - 1) order n) (take_more_set l.order l.count n (omega arith))
           ∙ sym
           (walk-on _ _ _ _ _ l.left (sym c.step_out.ensures.value ∙ c.in_ok-next.was ∙ ap Ok c.in-Some.is)
           c.if-left-eq0.false

@@ -53,10 +53,10 @@ pub overflow_mul-n : goal.overflow_mul-n
 overflow_mul-n c = record { fits = lt_trans (rooted-in c.args.e).1 (lit< tt) }
 
 pub near_root-requires : goal.near_root-requires
-near_root-requires c = ((rooted-in c.args.e).1, omega arith)
+near_root-requires c = omega arith
 
 pub rounded_root-digits-requires : goal.rounded_root-digits-requires
-rounded_root-digits-requires c = ((rooted-in c.args.e).0, (rooted-in c.args.e).1, c.near_root.ensures)
+rounded_root-digits-requires c = ((rooted-in c.args.e).0, (rooted-in c.args.e).1, subst (λ (x : ℕ). x < 2 ^ 25) (sym c.from.ensures) c.near_root.ensures)
 
 pub overflow_cast-result : goal.overflow_cast-result
 overflow_cast-result c = omega (arith, result-le (goal.at.overflow_cast-result c).After-rounded_root-digits)

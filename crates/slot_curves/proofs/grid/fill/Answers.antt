@@ -7,11 +7,11 @@ use Rattle.slot_curves.proofs.grid.fill.Goals as goal
 
 pub loop-k-init : goal.loop-k-init
 unfolding filled
-loop-k-init c = (omega arith, refl)
+loop-k-init g c = (omega arith, refl)
 
 pub loop-k-preserved : goal.loop-k-preserved
 unfolding filled
-loop-k-preserved c = (omega arith, rw (add-one c.loop-k.k, ← c.loop-k.invariant.1))
+loop-k-preserved g c = (omega arith, rw (add-one c.loop-k.k, ← c.loop-k.invariant.1))
 
 pub returns : goal.returns
-returns c = rw (← le_antisymm c.loop-k.invariant.0 c.loop-k-test.false) c.loop-k.invariant.1
+returns g c = rw (← le_antisymm c.loop-k.invariant.0 c.loop-k-test.false) c.loop-k.invariant.1

@@ -5,7 +5,7 @@ use Rattle.slot_curves.specs.Grid.{filled}
 use Rattle.slot_curves.proofs.grid.fill.Given as goal
 
 abbrev pub invariant-loop-k : goal.invariant-loop-k
-invariant-loop-k l = (l.k ≤ l.n) × (l.l ≡ filled l.initial.l l.from l.hdif l.k)
+invariant-loop-k g l = (l.k ≤ l.n) × (l.l ≡ filled l.initial.l l.from l.hdif l.k)
 
 abbrev pub decreases-loop-k : goal.decreases-loop-k
-decreases-loop-k l = l.n - l.k
+decreases-loop-k g l = l.n - l.k

@@ -1,9 +1,0 @@
--- By the answer: the rows written, or nothing.
-use mathlib.Core.Path.{refl}
-use Rattle.port_ionogram.proofs.exports.rows_into.Goals as goal
-
-pub returns-in-Ok : goal.returns-in-Ok
-returns-in-Ok c = rw c.in-Ok.is (refl, c.ionogram_into.ensures)
-
-pub returns-in-Err : goal.returns-in-Err
-returns-in-Err c = rw c.in-Err.is (c.from.ensures, refl)

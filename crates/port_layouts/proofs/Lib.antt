@@ -1,2 +1,0 @@
--- An array's `map`.
-mod Maps
