@@ -8,6 +8,8 @@ ghost use Rattle.circuit_numbers.specs.Numbers.{three_at, layers_at, params_of, 
 
 use layers::{IonoState, LayerParams};
 
+// Stays: that i is below 5 is asked, here and at `layers_at`: `params` names the five as literals, and a type of them would be made at
+// each.
 fn three_at(words: &[u32; 75], i: usize, j: usize) -> [f32; 3]
     requires { (i < 5) × (j + 2 < 15) }
     ensures { result ≡ three_at words.now i j }

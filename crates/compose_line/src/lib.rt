@@ -15,8 +15,8 @@ pub use names::LineKind;
 
 // A line that has its first word. `missing` has a true for each number that is still to come; the next `left` numbers go to the
 // places from `at` on.
-// Stays: `missing` beside `values`, since a number that a line of the kind does not have is neither missing nor given; and `left`
-// counts numbers that a field still awaits, and no cells of an array, so that a list with its length would say nothing of it.
+// Stays: `missing` beside `values`, which `compose_text` takes whole, as fifteen words: of a list of cases (no number of this line,
+// awaited, given) they would be copied out there. And `left` counts numbers that a field still awaits, and no cells of an array.
 #[derive(Clone, Copy, Debug, PartialEq, Eq)]
 pub struct Row {
     pub kind: LineKind,

@@ -21,6 +21,8 @@ pub enum Kind {
     Minus,
 }
 
+// Stays: that k is 9 at most is asked, here and of the two that count digits, since 10 ^ 10 is past a `u32`. A type of such numbers
+// would ask the same where it is made, at each call of `put_number`.
 fn ten_power(k: usize) -> u32
     requires { k ≤ 9 }
     ensures { result ≡ 10 ^ k }

@@ -27,6 +27,8 @@ pub struct RegularLines {
 }
 
 // The layer whose MUF is the circuit's, 1 to 3 for E, F1 and F2, and the takeoff angle of its line.
+// Stays: `modmuf`, here and in an hour, where 0 says that no mode was worked out, is the Rust's number. An enum would be made in
+// `by_layer` alone, matched in `muf_table` alone, and turned back into the number by the sheet, which prints it, and by the exports.
 #[derive(Clone, Copy, Debug, PartialEq)]
 pub struct Mode {
     pub angmuf: f32,

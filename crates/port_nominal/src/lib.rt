@@ -22,6 +22,7 @@ fn word_row(es: &[u32], k: usize) -> EsParams
     }
 }
 
+// Stays: that n is 5 at most is asked, since the export has just tested it, and refuses more by its number.
 fn word_rows(es: &[u32], n: usize) -> [EsParams; 5]
     requires { (n ≤ 5) × (4 * n ≤ length es.now) }
     ensures { result ≡ word_rows es.now n }

@@ -18,7 +18,8 @@ fn empty(n: usize) -> IonoState
     s
 }
 
-// Stays: s and k are the Rust's `state` and the number of one of its points.
+// Stays: s and k are the Rust's `state` and the number of one of its points, which here and at `layer_from` is asked to be below 5: the
+// tables have five rows, and a type of the number would be made at each turn or call and opened for the index.
 fn set_point(mut s: IonoState, k: usize, p: LayerParams) -> IonoState
     requires { k < 5 }
     ensures { result ≡ point_set s k p }
@@ -29,7 +30,8 @@ fn set_point(mut s: IonoState, k: usize, p: LayerParams) -> IonoState
     s
 }
 
-// Stays: s and n, here and at `settle_slots`, are the Rust's state and the bound of its loops.
+// Stays: s and n, here and at `settle_slots`, are the Rust's state and the bound of its loops. That n is 5 at most is asked, since
+// `from_layers` has just tested it, to refuse more.
 fn set_points(s: IonoState, params: [LayerParams; 5], n: usize) -> IonoState
     requires { n ≤ 5 }
     ensures { result ≡ points_set s params n }

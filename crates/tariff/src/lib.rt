@@ -16,6 +16,7 @@ fn all_within(most: u32, xs: &[u32]) -> bool
     xs.iter().all(|x| *x <= most)
 }
 
+// Stays: `rises` of `traces` is this one call too; one function for both would make one crate stand on the other, or be a crate.
 fn rises(tops: &[u32]) -> bool
     ensures { result ≡ rising tops.now }
 {
