@@ -1,7 +1,7 @@
 -- The cells of one angle, guessed together: thirty rows and two to spare. Definitions only.
-use Rattle.std.specs.Prelude.{◌≡◌, List, ℕ, zero, suc, ◌+◌, ◌*◌, ◌<◌, ℤ, get_or, set, Float}
+use Rattle.std.specs.Prelude.{List, ℕ, zero, suc, ◌+◌, ◌*◌, ◌<◌, ℤ, get_or, set, Float}
 use Rattle.scalar.specs.F32.{◌/f◌, at}
-use Rattle.cell_test.specs.Cell.{khz_of, sqcos_of, in_doubt, Told}
+use Rattle.cell_test.specs.Cell.{khz_of, sqcos_of, Told}
 
 -- What is told for the frequencies fv and the radii at their heights: each cell or that it is in doubt, and how many are.
 abbrev pub RowTold : List Float → List Float → Float → List ℕ → Type 0

@@ -1,13 +1,10 @@
-// The cells of one angle: all guessed together, and those in doubt worked out after. The loop of the
-// guesses runs over thirty-two places; today's compiler makes no vector instructions of it, since floats
-// are compared in it.
-// Stays: the loops count a place, since a turn reads or writes up to five lists there, and of what
-// `iter_mut` under a zip leaves a proof knows the lengths alone. Cells lie thirty an angle where the
-// guesses have thirty-two; a caller in C lends the cells.
+// The cells of one angle: all guessed together, and those in doubt worked out after. Each step is made
+// for thirty-two places, and the compiler makes vector instructions of it.
+// Stays: the loop over the angles, since a row goes to its part of the lent cells, and of what
+// `chunks_exact_mut` under a zip leaves a proof knows the lengths alone.
 #![tactic(auto)]
 
-ghost use Rattle.std.specs.Prelude.{◌≡◌, map, ℕ, ◌+◌, ◌*◌, ◌≤◌, ◌<◌, length, take, get_or, pos};
-ghost use Rattle.std.specs.List.{slice_index_or};
+ghost use Rattle.std.specs.Prelude.{◌≡◌, true, map, ℕ, ◌+◌, ◌*◌, ◌≤◌, ◌<◌, length, take, get_or, pos};
 ghost use Rattle.scalar.specs.F32.{◌/f◌, at as number_at};
 ghost use Rattle.cell_test.specs.Cell.{khz_of, sqcos_of, low_of, high_of, in_doubt, Told};
 ghost use Rattle.cell_rows.specs.Row.{RowTold, angle_cells_of, cell_scan_of};
@@ -33,6 +30,13 @@ fn mended(told: u32, fvv: f32, rcosd: f32, radius: f32) -> i32
         return told as i32;
     }
     cell_test::khz(fvv, cell_test::squared_cosine(rcosd / radius))
+}
+
+// No cell is in doubt.
+fn is_sure(told: &[u32; 32]) -> bool
+    ensures { result ≡ true → (i : ℕ) → i < 32 → get_or told.now i 0 < in_doubt }
+{
+    told.iter().all(|r| *r < IN_DOUBT)
 }
 
 // The rows as they are laid out for all angles: each row's frequency, its distance from the Earth's
@@ -69,17 +73,17 @@ impl Rows {
         let sqcos: [f32; 32] = from_fn(|i| cell_test::cut(uncut[i]));
         let khz: [f32; 32] = from_fn(|i| cell_test::guess(self.fv[i], sqcos[i]));
         let n: [u32; 32] = from_fn(|i| cell_test::digits(khz[i]));
-        let under: [f32; 32] = from_fn(|i| cell_test::under(n[i], sqcos[i]));
-        let over: [f32; 32] = from_fn(|i| cell_test::over(n[i], sqcos[i]));
-        let kept: [u32; 32] = from_fn(|i| cell_test::kept(n[i], under[i], self.low[i]));
-        from_fn(|i| cell_test::kept(kept[i], self.high[i], over[i]))
+        from_fn(|i| cell_test::cell(n[i], self.fv[i], sqcos[i], self.low[i], self.high[i]))
     }
 
     // The thirty cells of an angle.
     fn row(&self, rcosd: f32) -> [i32; 30]
-        ensures { (i : ℕ) → i < 30 → slice_index_or result i (pos 0) ≡ khz_of (number_at self.now.fv i) (sqcos_of (rcosd /f number_at self.now.radii i)) }
+        ensures { (i : ℕ) → i < 30 → get_or result i (pos 0) ≡ khz_of (number_at self.now.fv i) (sqcos_of (rcosd /f number_at self.now.radii i)) }
     {
         let told = self.guess(rcosd);
+        if is_sure(&told) {
+            return from_fn(|i| told[i] as i32);
+        }
         from_fn(|i| mended(told[i], self.fv[i], rcosd, self.radii[i]))
     }
 

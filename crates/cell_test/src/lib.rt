@@ -2,13 +2,12 @@
 // says whether it is the cell.
 #![tactic(auto)]
 
-ghost use Rattle.std.specs.Prelude.{◌≡◌, ◌+◌, ◌^◌, ◌<◌, cond, T};
+ghost use Rattle.std.specs.Prelude.{◌≡◌, ◌^◌, ◌<◌, T};
 ghost use Rattle.order.specs.Units.{real};
 ghost use Rattle.scalar.specs.F32.{◌-f◌, ◌*f◌, ◌≤f◌};
 ghost use Rattle.scalar.specs.Literals.{f0_000001, f1};
 ghost use Rattle.scalar.specs.Scalar.{max_of};
-ghost use Rattle.cell_test.specs.Cell.{khz_of, sqcos_of, tame, low_of, high_of, in_doubt};
-ghost use Rattle.cell_test.specs.Laws.{product_of};
+ghost use Rattle.cell_test.specs.Cell.{khz_of, sqcos_of, tame, low_of, high_of, Tested, Told};
 
 // The square of the cosine before it is cut.
 pub fn uncut(sphe: f32) -> f32
@@ -17,11 +16,11 @@ pub fn uncut(sphe: f32) -> f32
     1.0 - sphe * sphe
 }
 
-// Cut at a millionth.
+// Cut at a millionth, by one test where `scalar::max` has two.
 pub fn cut(square: f32) -> f32
     ensures { result ≡ max_of square f0_000001 }
 {
-    scalar::max(square, 0.000001)
+    if square >= 0.000001 { square } else { 0.000001 }
 }
 
 // The square of the cosine at the layer, from the sine there.
@@ -88,30 +87,23 @@ pub fn guess(fvv: f32, sqcos: f32) -> f32 {
     1000.0 * (fvv / sqcos.sqrt()) - 0.5
 }
 
-// The square of n, by the square of the cosine. Of a number as `digits` answers it nothing is cut; so nothing is asked of n.
-pub fn under(n: u32, sqcos: f32) -> f32
-    ensures { n < 2 ^ 22 → result ≡ product_of n sqcos }
-{
-    let x = (n % 0x40_0000) as f32;
-    x * x * sqcos
-}
-
-// That of the number above n.
-pub fn over(n: u32, sqcos: f32) -> f32
-    ensures { n < 2 ^ 22 → result ≡ product_of (n + 1) sqcos }
-{
-    let m = (n % 0x40_0000 + 1) as f32;
-    m * m * sqcos
-}
-
 // From this number on an answer says that the cell is in doubt.
 // Stays: the doubt is a bit of the guess's own word, with no branch; an Option for each of the thirty-two places of a row
 // would take twice the room and a test at each.
 pub const IN_DOUBT: u32 = 0x8000_0000;
 
-// n where the test of the one product and the one bound is passed, else `IN_DOUBT`.
-pub fn kept(n: u32, least: f32, most: f32) -> u32
-    ensures { result ≡ cond (least ≤f most) n in_doubt }
+// The number n where it passes the test, which says that it is the cell, else `IN_DOUBT`. Both products are
+// tested, with no branch. Nothing is asked: a caller has the five by place, and says of each place what they
+// are. Of a guess no digit is cut.
+pub fn cell(n: u32, fvv: f32, sqcos: f32, low: f32, high: f32) -> u32
+    ensures { Tested n fvv sqcos low high → Told fvv sqcos result }
 {
-    if least <= most { n } else { IN_DOUBT }
+    let x = (n % 0x40_0000) as f32;
+    let m = (n % 0x40_0000 + 1) as f32;
+    let kept = if x * x * sqcos <= low { n } else { IN_DOUBT };
+    if high <= m * m * sqcos {
+        kept
+    } else {
+        IN_DOUBT
+    }
 }
