@@ -1,4 +1,4 @@
 -- The turns of the loop over an angle's cells, the cells that are written, and an array's `map`.
-mod Turns
+mod Bounds
 mod Writes
 pub mod Maps

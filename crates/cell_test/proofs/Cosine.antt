@@ -110,6 +110,14 @@ first d f h = go d refl (le-real f0_000001 d t).1
     go (inf s) e r = rw (e) (unfold is_nan in subst (λ (z : Float). lt z f0_000001 ≡ false) e less)
     go (fin s m x) e r = rw (e) (unfold is_nan in subst (λ (z : Float). lt z f0_000001 ≡ false) e less)
 
+pub above : (d : Float) → T (fits binary32 d) → (f0_000001 ≤f d) ≡ true → d ≡ max_of d f0_000001
+unfolding max_of or_second
+above d f h = rw (first d f h) refl
+
+pub below : (d : Float) → T (fits binary32 d) → (f0_000001 ≤f d) ≡ false → f0_000001 ≡ max_of d f0_000001
+unfolding max_of or_second
+below d f h = rw (second d f h) refl
+
 abbrev pub Cosine : Float → Float → Type 0
 Cosine sphe r = (r ≡ sqcos_of sphe) × T (f0_000001 ≤f r) × T (r ≤f f1)
 

@@ -1,40 +1,37 @@
--- A number below 2^31 is the guess, and the test that it passed is the theorem's.
-use mathlib.Core.Path.{◌≡◌, sym, ap, ◌∙◌, subst}
-use Prim.Native.Nat.{ℕ, ◌+◌, ◌^◌, ◌≤◌, ◌<◌}
+-- A guess that passes both tests is the cell, as the theorem on the test says.
+use mathlib.Core.Path.{◌≡◌, sym, subst}
+use Prim.Native.Nat.{ℕ, ◌+◌, ◌%◌, ◌^◌, ◌<◌}
+use native.Mathlib.Nat.{lt_irrefl}
 use native.Mathlib.Omega.{arith}
-use lib.Dec.{T, le→leb}
-use lib.IntN.{pos}
-use lib.Ieee.{in_float}
+use lib.Dec.{T}
+use Rattle.scalar.specs.F32.{◌≤f◌}
+use Rattle.cell_test.specs.Cell.{Told}
+use Rattle.cell_test.specs.Laws.{product_of}
 use Rattle.cell_test.proofs.Test.{test-suffices}
 use Rattle.cell_test.proofs.cell.Goals as goal
+use Rattle.cell_test.proofs.cell.Goals.{then-x-sqcos, else-x-sqcos}
 
-pub int_to_float-x : goal.int_to_float-x
-unfolding in_float
-int_to_float-x c = le→leb c.guess-n.result (2 ^ 24) (omega arith)
-
-pub int_to_float-m : goal.int_to_float-m
-unfolding in_float
-int_to_float-m c = le→leb (c.guess-n.result + 1) (2 ^ 24) (omega arith)
-
-pub returns : goal.returns
-returns c =
+pub returns-then-high-m : goal.returns-then-high-m
+returns-then-high-m c = λ t.
     let a = c.args in
-    let n = c.guess-n in
-    let d = c.doubt in
-    record {
-      most = small n.result d.result n.ensures d.ensures.0;
-      right = λ h.
-          let k = d.ensures.1 (none n.result d.result h) in
-          test-suffices a.fvv a.sqcos n.result (subst T (sym c.well_formed.0.1) tt) (subst T (sym c.well_formed.1.0.1) tt) c.requires.0 c.requires.1 n.ensures
-          (rw c.requires.2 at k.1) (rw c.requires.3 at k.2)
-          ∙ ap pos (alone n.result d.result k.0);
-    }
+    let n = a.n in
+    let e : n % 2 ^ 22 ≡ n = whole n t.guessed in
+    elim c.if-x-sqcos.branch [
+      | then-x-sqcos w ↦
+          let under = subst (λ (z : ℕ). T (product_of z a.sqcos ≤f a.low)) e (subst T (sym w.if-x-sqcos.true) tt) in
+          let over = subst (λ (z : ℕ). T (a.high ≤f product_of (z + 1) a.sqcos)) e (subst T (sym c.if-high-m.true) tt) in
+          subst (Told a.fvv a.sqcos) (sym w.kept-is) (record {
+            most = small n t.guessed;
+            right = λ h. test-suffices a.fvv a.sqcos n (subst T (sym c.well_formed.1.0.1) tt) (subst T (sym c.well_formed.1.1.0.1) tt) t.least t.most t.guessed (rw (← t.lower) under) (rw (← t.upper) over);
+          })
+      | else-x-sqcos w ↦ subst (Told a.fvv a.sqcos) (sym w.kept-is) (record { most = doubt-fits; right = λ h. absurd (lt_irrefl _ h) })
+    ]
   where
-    small : (n d : ℕ) → n < 2 ^ 22 → d ≤ 2 ^ 31 → n + d < 2 ^ 32
-    small n d h k = omega arith
+    whole : (n : ℕ) → n < 2 ^ 22 → n % 2 ^ 22 ≡ n
+    whole n h = omega arith
 
-    none : (n d : ℕ) → n + d < 2 ^ 31 → d < 2 ^ 31
-    none n d h = omega arith
+    small : (n : ℕ) → n < 2 ^ 22 → n < 2 ^ 32
+    small n h = omega arith
 
-    alone : (n d : ℕ) → d ≡ 0 → n ≡ n + d
-    alone n d e = omega arith
+    doubt-fits : 2 ^ 31 < 2 ^ 32
+    doubt-fits = omega arith

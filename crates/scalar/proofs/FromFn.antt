@@ -1,0 +1,24 @@
+-- Of an array made by index: what each item is.
+use mathlib.Core.Path.{◌≡◌, sym, subst}
+use mathlib.Core.Logic.{inl, inr}
+use mathlib.Core.List.{List}
+use Prim.Native.Nat.{ℕ, zero, suc, ◌+◌, ◌≤◌, ◌<◌}
+use native.Mathlib.Nat.{eq-or-lt_of_le}
+use native.Mathlib.Omega.{arith}
+use denote.Param.Members.{Mut, Called}
+use lib.ListN.{get_or}
+use Rattle.std.specs.Array.{IsFromFnResult, IsFromFnResultFrom}
+
+module _ {F B : Type 0} (R : ℕ → B → Type 0) {g : Mut F (ℕ × Unit {0}) B} {f : F} {n : ℕ} (is : (k : ℕ) (y : B) (q : F) → k < n → Called g f (k, tt) y q → R k y × (q ≡ f)) where
+  from : (ys : List B) (i m : ℕ) → i + m ≤ n → IsFromFnResultFrom g f ys i m → (d : B) (k : ℕ) → i ≤ k → k < i + m → R k (get_or ys k d)
+  from ys i zero l r d k a b = absurd (omega arith)
+  from ys i (suc m) l r d k a b =
+      let e = is i r.1 r.0 (omega arith) r.3 in
+      elim (eq-or-lt_of_le a) [
+        | inl s ↦ subst (λ j. R j (get_or ys j d)) s (subst (R i) (sym (r.2.1 d)) e.0)
+        | inr t ↦ from ys (i + 1) m (omega arith) (subst (λ p. IsFromFnResultFrom g p ys (i + 1) m) e.1 r.4) d k (omega arith) (omega arith)
+      ]
+
+  -- what holds of what each call gives, where it leaves the function as it is
+  pub from_fn_each : {ys : List B} → IsFromFnResult g f ys n → (d : B) (k : ℕ) → k < n → R k (get_or ys k d)
+  from_fn_each {ys} r d k l = from ys 0 n (omega arith) r.each d k (omega arith) (omega arith)
