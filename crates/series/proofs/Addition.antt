@@ -5,6 +5,7 @@ use native.Mathlib.Nat.{le_trans, le_of_eq, le_refl, add-zero, add-suc, mul-one,
 use native.Mathlib.Omega.{arith}
 use lib.Pow.{pow-add}
 use Rattle.series.specs.Series.{full, num, one}
+use Rattle.series.proofs.Terms.{full-suc, num-suc}
 use Rattle.series.proofs.Cauchy.{fac, S, D, Tri, Sq, S-last, tri-sq, sq-tri, sq-product, W-const, W_ext, W-diag, D-zero, D-scale}
 
 -- what full d i lacks to full d (i + o)
@@ -24,14 +25,6 @@ full-pow d (suc k) = omega (arith, ap (λ (x : ℕ). x * (d * suc k)) (full-pow 
 
 pub at-P : (d P i : ℕ) → i ≤ P → full d i * co d i (P - i) ≡ full d P
 at-P d P i h = full-co d i (P - i) ∙ ap (full d) (omega arith)
-
-full-suc : (d k : ℕ) → full d (suc k) ≡ full d k * (d * suc k)
-unfolding full
-full-suc d k = refl
-
-num-suc : (c : ℕ → ℕ) (n d k : ℕ) → num c n d (suc k) ≡ num c n d k * (d * suc k) + c (suc k) * n ^ suc k
-unfolding num
-num-suc c n d k = refl
 
 num-zero : (c : ℕ → ℕ) (n d : ℕ) → num c n d 0 ≡ c 0
 unfolding num

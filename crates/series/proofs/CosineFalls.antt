@@ -1,7 +1,7 @@
 -- Up to 2 the cosine falls: with y < z ≤ 2, the terms z ^ k - y ^ k over k! of the class 0 come to at most two thirds of those two places before of the class 2, since z ^ (k + 2) - y ^ (k + 2) is at most 8 * (z ^ k - y ^ k) from k = 2 on.
 use mathlib.Core.Path.{◌≡◌, refl, ap}
 use Prim.Native.Nat.{ℕ, zero, suc, ◌+◌, ◌*◌, ◌^◌, ◌≤◌, ◌<◌}
-use native.Mathlib.Nat.{le_trans, le_of_eq, mul-pos, mul-le-mul, mul-le-mul_left, mul-le-mul_right, pow-suc, pow-zero}
+use native.Mathlib.Nat.{le_trans, le_of_eq, mul-pos, mul-le-mul, mul-le-mul_left, mul-le-mul_right, pow-suc, pow-zero, le-add_right}
 use native.Mathlib.Omega.{arith}
 use native.Mathlib.Numerals.{unary_clauses}
 use Rattle.series.specs.Series.{num, class}
@@ -47,17 +47,14 @@ module _ (y h d : ℕ) where
         go g p₀ p p' p'' o a b i =
             let G = (y + h) * g + h * p in
             let s : (y + h) * (y + h) * G ≤ 4 * (d * d) * G = mul-le-mul_right G (square (y + h) small) in
-            let t : h * p * (y * (y + h)) ≤ h * p * (4 * (d * d)) = mul-le-mul_left (h * p) (le_trans (mul-le-mul_right (y + h) (more y h)) (square (y + h) small)) in
-            let u : h * p * (y * y) ≤ h * p * (4 * (d * d)) = mul-le-mul_left (h * p) (le_trans (mul-le-mul (more y h) (more y h)) (square (y + h) small)) in
-            let l : h * p ≤ (y + h) * g = le_trans (le_of_eq (turn h p p₀ y o)) (le_trans (mul-le-mul_left y i) (mul-le-mul_right g (more y h))) in
+            let t : h * p * (y * (y + h)) ≤ h * p * (4 * (d * d)) = mul-le-mul_left (h * p) (le_trans (mul-le-mul_right (y + h) (le-add_right y h)) (square (y + h) small)) in
+            let u : h * p * (y * y) ≤ h * p * (4 * (d * d)) = mul-le-mul_left (h * p) (le_trans (mul-le-mul (le-add_right y h) (le-add_right y h)) (square (y + h) small)) in
+            let l : h * p ≤ (y + h) * g = le_trans (le_of_eq (turn h p p₀ y o)) (le_trans (mul-le-mul_left y i) (mul-le-mul_right g (le-add_right y h))) in
             let v : 2 * (h * p) * (4 * (d * d)) ≤ G * (4 * (d * d)) = mul-le-mul_right (4 * (d * d)) (half ((y + h) * g) (h * p) l) in
             sum G ((y + h) * (y + h) * G) (h * p * (y * (y + h))) (h * p * (y * y)) (h * p) (d * d) s t u v (opened g p p' p'' a b)
           where
             square : (x : ℕ) → x ≤ 2 * d → x * x ≤ 4 * (d * d)
             square x l = omega (arith, mul-le-mul l l)
-
-            more : (a b : ℕ) → a ≤ a + b
-            more a b = omega arith
 
             half : (A P : ℕ) → P ≤ A → 2 * P ≤ A + P
             half A P i = omega arith

@@ -2,7 +2,7 @@
 -- smaller than those two places before of the class 3, since lack (m + 2) is at most 18 * lack m from m = 3 on, where (m + 1) * (m + 2) is 20 or more.
 use mathlib.Core.Path.{◌≡◌, ap, ◌∙◌}
 use Prim.Native.Nat.{ℕ, zero, suc, ◌+◌, ◌*◌, ◌^◌, ◌≤◌, ◌<◌}
-use native.Mathlib.Nat.{le_trans, le_of_eq, mul-pos, mul-le-mul, mul-le-mul_left, mul-le-mul_right, pow-suc, pow-zero}
+use native.Mathlib.Nat.{le_trans, le_of_eq, mul-pos, mul-le-mul, mul-le-mul_left, mul-le-mul_right, pow-suc, pow-zero, le-add_right, le-add_left, mul_left_comm, mul_assoc}
 use native.Mathlib.Omega.{arith}
 use Rattle.series.specs.Series.{num, class}
 use Rattle.series.specs.Rises.{SineRises}
@@ -69,13 +69,10 @@ module _ (y h d : ℕ) where
             → (y + h) * ((y + h) * ((y + h) * l + h * ((y + h) * g₁ + h * p₁)) + h * ((y + h) * ((y + h) * g₁ + h * p₁) + h * p₂)) + h * ((y + h) * ((y + h) * ((y + h) * g₁ + h * p₁) + h * p₂) + h * p₃)
             ≤ 18 * (d * d) * ((y + h) * l + h * ((y + h) * g₁ + h * p₁))
         go l g₁ g₀ p p₁ p₂ p₃ a b c e =
-            bound (y + h) (h * p₁) ((y + h) * g₁ + h * p₁) ((y + h) * l) (more y h) small
-            (half ((y + h) * g₁) (h * p₁) (le_trans (le_of_eq (turn h p₁ p y a)) (le_trans (mul-le-mul_left y e) (mul-le-mul_right g₁ (more y h)))))
+            bound (y + h) (h * p₁) ((y + h) * g₁ + h * p₁) ((y + h) * l) (le-add_right y h) small
+            (half ((y + h) * g₁) (h * p₁) (le_trans (le_of_eq (turn h p₁ p y a)) (le_trans (mul-le-mul_left y e) (mul-le-mul_right g₁ (le-add_right y h)))))
             (opened (y + h) l ((y + h) * g₁ + h * p₁) (h * p₁) (h * p₂) (h * p₃) (turn h p₂ p₁ y b) (turn h p₃ p₂ y c))
           where
-            more : (a b : ℕ) → a ≤ a + b
-            more a b = omega arith
-
             half : (A P : ℕ) → P ≤ A → 2 * P ≤ A + P
             half A P i = omega arith
 
@@ -94,8 +91,8 @@ module _ (y h d : ℕ) where
                 (mul-le-mul_left h (mul-le-mul_left z (mul-le-mul_right P m)))
                 (mul-le-mul_left h (mul-le-mul m (mul-le-mul_right P m)))
                 (le_trans (le_of_eq (twice h z P)) (mul-le-mul_left h (mul-le-mul_left (z * z) t)))
-                (le_trans (le_of_eq (swap h (z * z) G)) (mul-le-mul_left (z * z) (over L (h * G))))
-                (le_trans (mul-le-mul_right (L + h * G) (square z s)) (le_of_eq (group (d * d) (L + h * G)))))
+                (le_trans (le_of_eq (mul_left_comm h (z * z) G)) (mul-le-mul_left (z * z) (le-add_left (h * G) L)))
+                (le_trans (mul-le-mul_right (L + h * G) (square z s)) (le_of_eq (mul_assoc 4 (d * d) (L + h * G)))))
                 (le_of_eq (eighteen (d * d) (L + h * G)))
               where
                 eighteen : (D W : ℕ) → 18 * (D * W) ≡ 18 * D * W
@@ -109,15 +106,6 @@ module _ (y h d : ℕ) where
 
                 twice : (h z P : ℕ) → 2 * (h * (z * (z * P))) ≡ h * (z * z * (2 * P))
                 twice h z P = omega arith
-
-                swap : (h Z G : ℕ) → h * (Z * G) ≡ Z * (h * G)
-                swap h Z G = omega arith
-
-                over : (L M : ℕ) → M ≤ L + M
-                over L M = omega arith
-
-                group : (D W : ℕ) → 4 * D * W ≡ 4 * (D * W)
-                group D W = omega arith
 
                 sum : (W A B C E D : ℕ) {x : ℕ} → x ≡ W + (2 * A + 2 * B + C) → B ≤ E → C ≤ E → 2 * E ≤ A → A ≤ W → W ≤ 4 * D → x ≤ 18 * D
                 sum W A B C E D a b c e f g = omega arith

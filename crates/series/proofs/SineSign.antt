@@ -3,7 +3,9 @@ use mathlib.Core.Path.{◌≡◌, refl, sym, ap, ◌∙◌, subst}
 use Prim.Native.Nat.{ℕ, zero, suc, ◌+◌, ◌*◌, ◌^◌, ◌≤◌, ◌<◌}
 use native.Mathlib.Nat.{le_trans, mul-le-mul, mul-le-mul_left, mul-le-mul_right, le_of_mul-le-mul_right, pow-suc}
 use native.Mathlib.Omega.{arith}
+use Rattle.std.proofs.Math.Numerals.{add-two}
 use Rattle.series.specs.Series.{full, num, class}
+use Rattle.series.proofs.Terms.{num-suc}
 use Rattle.series.proofs.Addition.{full-pos}
 use Rattle.series.proofs.Weighted.{grows}
 use Rattle.series.proofs.SmallAngle.{class-le}
@@ -11,10 +13,6 @@ use Rattle.series.proofs.SmallAngle.{class-le}
 class-shift : (k : ℕ) → class 3 (suc (suc k)) ≡ class 1 k
 unfolding class
 class-shift k = refl
-
-num-suc : (c : ℕ → ℕ) (n d k : ℕ) → num c n d (suc k) ≡ num c n d k * (d * suc k) + c (suc k) * n ^ suc k
-unfolding num
-num-suc c n d k = refl
 
 first_two : (n d : ℕ) → num (class 3) n d 2 ≡ 0
 unfolding num class
@@ -57,11 +55,8 @@ module _ (n d : ℕ) (D : 0 < d) (small : n ≤ 2 * d) where
   thirds k =
       le_of_mul-le-mul_right {k = full d k}
       (go (num (class 3) n d (suc (suc k))) (num (class 1) n d k) (num (class 1) n d (suc (suc k))) (full d k) (d * suc k) (d * suc (suc k)) (later k)
-      (subst (λ (f : ℕ). num (class 1) n d k * f ≤ num (class 1) n d (suc (suc k)) * full d k) (full-two d k) (subst (λ (j : ℕ). num (class 1) n d k * full d j ≤ num (class 1) n d j * full d k) (two k) (grows (class 1) (class-le 1) n d k 2))))
+      (subst (λ (f : ℕ). num (class 1) n d k * f ≤ num (class 1) n d (suc (suc k)) * full d k) (full-two d k) (subst (λ (j : ℕ). num (class 1) n d k * full d j ≤ num (class 1) n d j * full d k) (add-two k) (grows (class 1) (class-le 1) n d k 2))))
       (full-pos d k D)
     where
-      two : (k : ℕ) → k + 2 ≡ suc (suc k)
-      two k = omega arith
-
       go : (a b b' F w y : ℕ) → 3 * a ≤ 2 * (b * w * y) → b * (F * w * y) ≤ b' * F → 3 * a * F ≤ 2 * b' * F
       go a b b' F w y h g = omega (arith, mul-le-mul_right F h)
