@@ -8,14 +8,18 @@ use lib.Pow.{pow_pos, pow_mono, pow-add}
 use lib.Count.{count_leading_zeros, leading_top}
 use Rattle.fixed.specs.Fixed.{mant, pattern}
 
+-- 64 grains are the unit of the last place of s
+abbrev pub grain : ℕ → ℕ
+grain s = 2 ^ (34 - count_leading_zeros 64 s)
+
 pub record Rounded (s : ℕ) : Type 0 where
   pub few : count_leading_zeros 64 s ≤ 33
   pub up : s * 2 ^ count_leading_zeros 64 s < 2 ^ 64
-  pub wide : 2 ≤ 2 ^ (34 - count_leading_zeros 64 s)
+  pub wide : 2 ≤ grain s
   pub least : 2 ^ 23 ≤ mant s
   pub most : mant s ≤ 2 ^ 24
-  pub over : 64 * (mant s * 2 ^ (34 - count_leading_zeros 64 s)) ≤ s + 32 * 2 ^ (34 - count_leading_zeros 64 s)
-  pub under : s ≤ 64 * (mant s * 2 ^ (34 - count_leading_zeros 64 s)) + 32 * 2 ^ (34 - count_leading_zeros 64 s)
+  pub over : 64 * (mant s * grain s) ≤ s + 32 * grain s
+  pub under : s ≤ 64 * (mant s * grain s) + 32 * grain s
 
 -- v is s moved up, o * c = 2 ^ 34
 over-at : (s c o : ℕ) → o * c ≡ 2 ^ 34 → 64 * ((s * c / 2 ^ 39 + 1) / 2 * o) ≤ s + 32 * o
@@ -71,7 +75,7 @@ rounded s big fits =
 abbrev pub place : ℕ → ℕ
 place s = 2 ^ (133 - count_leading_zeros 64 s)
 
-pub place_is : (s : ℕ) → count_leading_zeros 64 s ≤ 33 → place s ≡ 2 ^ 99 * 2 ^ (34 - count_leading_zeros 64 s)
+pub place_is : (s : ℕ) → count_leading_zeros 64 s ≤ 33 → place s ≡ 2 ^ 99 * grain s
 place_is s h = ap (λ (x : ℕ). 2 ^ x) (go (count_leading_zeros 64 s) h) ∙ pow-add 2 99 (34 - count_leading_zeros 64 s)
   where
     go : (l : ℕ) → l ≤ 33 → 133 - l ≡ 99 + (34 - l)
