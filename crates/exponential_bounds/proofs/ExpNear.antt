@@ -97,11 +97,8 @@ module _ (e R : ℕ) (few : e ≤ 151) (r : R ≤ ln2) where
       more h = omega arith
 
   up-scale : 2 ^ (126 + e) * (2 ^ 62 * 2 ^ 62) ≡ 2 ^ 149 * (2 ^ e * 2 ^ 62 * (2 * 2 ^ 38))
-  up-scale = ap (λ (x : ℕ). x * (2 ^ 62 * 2 ^ 62)) (pow-add 2 126 e) ∙ turn (2 ^ 126) (2 ^ e) (2 ^ 62 * 2 ^ 62) ∙ sym (turn' (2 ^ 149) (2 ^ e) (2 ^ 62) (2 * 2 ^ 38))
+  up-scale = ap (λ (x : ℕ). x * (2 ^ 62 * 2 ^ 62)) (pow-add 2 126 e) ∙ mul_right_comm (2 ^ 126) (2 ^ e) (2 ^ 62 * 2 ^ 62) ∙ sym (turn' (2 ^ 149) (2 ^ e) (2 ^ 62) (2 * 2 ^ 38))
     where
-      turn : (a p b : ℕ) → a * p * b ≡ a * b * p
-      turn a p b = simp (mul_assoc, mul_comm, mul_left_comm)
-
       turn' : (a p b c : ℕ) → a * (p * b * c) ≡ a * b * c * p
       turn' a p b c = simp (mul_assoc, mul_comm, mul_left_comm)
 
