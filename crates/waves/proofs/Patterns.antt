@@ -31,29 +31,22 @@ pub outside-bits : (w : Kind) (b : ℕ) → 0x4080_0000 < b % 2 ^ 31 → wave_bi
 unfolding wave_bits
 outside-bits w b h = ap₂ (λ (x y : Bool). pick x (at_small w b) (pick y (folded_bits w b) 0x7fc0_0000)) (le-ltb _ _ (le_trans (lit≤ tt) (le_of_lt h))) (lt-leb _ _ h)
 
--- ---- distances
-pub apart-under : (u v : ℕ) → u ≤ v → abs_diff u v ≡ v - u
-apart-under u v h = omega arith
-
-pub apart-over : (u v : ℕ) → v ≤ u → abs_diff u v ≡ u - v
-apart-over u v h = omega arith
-
 -- ---- the folds
 module _ (X : ℕ) where
   pub sin-kept : X ≤ quarter_turn → sin_fold X ≡ X
   sin-kept h = ap (λ (x : Bool). pick x X (abs_diff X half_turn)) (le-leb _ _ h)
 
   pub sin-left : quarter_turn < X → X ≤ half_turn → sin_fold X ≡ half_turn - X
-  sin-left h k = ap (λ (x : Bool). pick x X (abs_diff X half_turn)) (lt-leb _ _ h) ∙ apart-under X half_turn k
+  sin-left h k = ap (λ (x : Bool). pick x X (abs_diff X half_turn)) (lt-leb _ _ h) ∙ omega arith
 
   pub sin-past : half_turn < X → sin_fold X ≡ X - half_turn
-  sin-past h = ap (λ (x : Bool). pick x X (abs_diff X half_turn)) (lt-leb _ _ (le_trans (lit≤ tt) h)) ∙ apart-over X half_turn (le_of_lt h)
+  sin-past h = ap (λ (x : Bool). pick x X (abs_diff X half_turn)) (lt-leb _ _ (le_trans (lit≤ tt) h)) ∙ omega arith
 
   pub cos-left : X ≤ quarter_turn → cos_fold X ≡ quarter_turn - X
-  cos-left h = ap (λ (x : Bool). pick x (abs_diff X quarter_turn) (three_quarters - X)) (le-leb _ _ (le_trans h (lit≤ tt))) ∙ apart-under X quarter_turn h
+  cos-left h = ap (λ (x : Bool). pick x (abs_diff X quarter_turn) (three_quarters - X)) (le-leb _ _ (le_trans h (lit≤ tt))) ∙ omega arith
 
   pub cos-past : quarter_turn < X → X ≤ half_turn → cos_fold X ≡ X - quarter_turn
-  cos-past h k = ap (λ (x : Bool). pick x (abs_diff X quarter_turn) (three_quarters - X)) (le-leb _ _ k) ∙ apart-over X quarter_turn (le_of_lt h)
+  cos-past h k = ap (λ (x : Bool). pick x (abs_diff X quarter_turn) (three_quarters - X)) (le-leb _ _ k) ∙ omega arith
 
   pub cos-last : half_turn < X → cos_fold X ≡ three_quarters - X
   cos-last h = ap (λ (x : Bool). pick x (abs_diff X quarter_turn) (three_quarters - X)) (lt-leb _ _ h)
