@@ -2,7 +2,7 @@
 use mathlib.Core.Path.{◌≡◌, refl, sym, ap, ◌∙◌, subst}
 use mathlib.Core.Bool.{Bool}
 use Prim.Native.Nat.{ℕ, suc, ◌+◌, ◌-◌, ◌*◌, ◌/◌, ◌^◌, ◌≤◌, ◌<◌}
-use native.Mathlib.Nat.{le_trans, le_of_eq, le_of_lt, lt_of_lt_of_le, lt_of_le_of_lt, lt_of_not-le, not-le_of_lt, mul_assoc, mul_right_comm, mul-le-mul, mul-le-mul_left, mul-le-mul_right, mul-lt-mul_of_pos_right, le_of_mul-le-mul_right, div-mul-le_self, lt-div-mul-add, zero-div, zero-mul}
+use native.Mathlib.Nat.{le_trans, le_of_eq, le_of_lt, lt_of_lt_of_le, lt_of_le_of_lt, lt_of_not-le, not-le_of_lt, mul_assoc, mul_right_comm, mul-le-mul, mul-le-mul_left, mul-le-mul_right, mul-lt-mul_of_pos_right, le_of_mul-le-mul_right, div-mul-le_self, lt-div-mul-add, zero-div, zero-mul, le-add_left, le-add_right}
 use native.Mathlib.Omega.{arith}
 use lib.Dec.{leb, leb→le, lit≤, lit<}
 use lib.Pow.{pow_pos, pow_mono, pow-add}
@@ -242,19 +242,13 @@ module _ (m : ℕ) (low : 2 ^ 23 ≤ m) (high : m < 2 ^ 24) where
   rest-ge n =
       split m (centre m)
       (λ h. le_trans (go (index m) (twice_of (centre m - m) (m + centre m)) tabled (down-index h) down_le (eighth-ge (index m) index-le)) (le_of_eq (sym (rest-down h))))
-      (λ h. le_trans (split (index m) 1 (λ i. le_trans (least (m - centre m) (m + centre m) (omega arith) up-near sum-ge sum_lt) (more (twice_of (m - centre m) (m + centre m)) tabled)) (λ i. le_trans (large (index m) tabled i (eighth-ge (index m) index-le)) (more' (twice_of (m - centre m) (m + centre m)) tabled))) (le_of_eq (sym (rest_up h))))
+      (λ h. le_trans (split (index m) 1 (λ i. le_trans (least (m - centre m) (m + centre m) (omega arith) up-near sum-ge sum_lt) (le-add_left (twice_of (m - centre m) (m + centre m)) tabled)) (λ i. le_trans (large (index m) tabled i (eighth-ge (index m) index-le)) (le-add_right tabled (twice_of (m - centre m) (m + centre m))))) (le_of_eq (sym (rest_up h))))
     where
       go : (i a y : ℕ) → 1 ≤ i → a ≤ 2 ^ 52 + 2 ^ 42 → i * 6243314768165359 ≤ y → 2 ^ 30 ≤ y - a
       go i a y p q r = omega arith
 
       large : (i y : ℕ) → 1 ≤ i → i * 6243314768165359 ≤ y → 2 ^ 30 ≤ y
       large i y p q = omega arith
-
-      more : (a y : ℕ) → a ≤ y + a
-      more a y = omega arith
-
-      more' : (a y : ℕ) → y ≤ y + a
-      more' a y = omega arith
 
   -- at least 2 ^ 30 units below ln 2
   pub rest_le : rest_of m + 2 ^ 30 ≤ ln2
