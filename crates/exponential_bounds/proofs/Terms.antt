@@ -5,7 +5,7 @@ use native.Mathlib.Nat.{le_trans, le_of_eq, le_of_lt, mul-le-mul_left, mul-le-mu
 use native.Mathlib.Omega.{arith}
 use lib.Dec.{lit<}
 use Rattle.series.proofs.Terms.{pow-1}
-use Rattle.std.proofs.Math.Numerals.{add-two}
+use native.Mathlib.Numerals.{add-two}
 use Rattle.series.specs.Series.{full, num, one}
 use Rattle.series.proofs.Exponential.{Enc, enclosed}
 use Rattle.exponential.specs.Exp.{term, sum_to, rise_of}
