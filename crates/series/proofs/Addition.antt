@@ -67,10 +67,7 @@ module _ (c : ℕ → ℕ) (a b d P : ℕ) where
   layer N l =
       let A : fac N * D a b (λ i j. d ^ N * h i j) N ≡ (a + b) ^ N * (full d P * full d P * c N) =
       sym (W-diag a b (λ i j. d ^ N * h i j) N) ∙ W_ext a b (λ i j. fac i * fac j * (d ^ N * h i j)) (λ i j. full d P * full d P * c N) N (on-diagonal N l) ∙ W-const a b (full d P * full d P * c N) N in
-      ap (λ (x : ℕ). x * D a b h N) (full-pow d N) ∙ swap (d ^ N) (fac N) (D a b h N) ∙ ap (λ (x : ℕ). fac N * x) (sym (D-scale a b (d ^ N) h N)) ∙ A
-    where
-      swap : (x y z : ℕ) → x * y * z ≡ y * (x * z)
-      swap x y z = simp (mul_assoc, mul_comm, mul_left_comm)
+      ap (λ (x : ℕ). x * D a b h N) (full-pow d N) ∙ mul_assoc (d ^ N) (fac N) (D a b h N) ∙ mul_left_comm (d ^ N) (fac N) (D a b h N) ∙ ap (λ (x : ℕ). fac N * x) (sym (D-scale a b (d ^ N) h N)) ∙ A
 
   -- the triangle is the partial sum at a + b
   pub tri-num : (M : ℕ) → M ≤ P → Tri a b h M * full d M ≡ num c (a + b) d M * (full d P * full d P)

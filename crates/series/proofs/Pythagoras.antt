@@ -6,7 +6,7 @@ use native.Mathlib.Omega.{arith}
 use Rattle.series.specs.Series.{full, num, class, one}
 use Rattle.series.proofs.Cauchy.{fac, S, D, Tri, Sq, tri-sq, sq-tri, sq-product, W, W_ext, W-diag, D-scale}
 use Rattle.series.proofs.Addition.{co, row-num, full-pos, full-pow, at-P, on-diagonal}
-use Rattle.series.proofs.Quarters.{law, Sq-add}
+use Rattle.series.proofs.Quarters.{law, Sq-add, spread}
 use Rattle.series.proofs.Waves.{Enc4, pair, pair', sum4}
 
 -- the class of i - j: i + 3 j
@@ -78,13 +78,10 @@ module _ (a d P : ℕ) (dp : 0 < d) where
 
   diagonal : (r N : ℕ) → N ≤ P → full d N * D a a (g r) N ≡ full d P * full d P * W a a (gap r) N
   diagonal r N l =
-      ap (λ (x : ℕ). x * D a a (g r) N) (full-pow d N) ∙ swap (d ^ N) (fac N) (D a a (g r) N) ∙ ap (λ (x : ℕ). fac N * x) (sym (D-scale a a (d ^ N) (g r) N))
+      ap (λ (x : ℕ). x * D a a (g r) N) (full-pow d N) ∙ mul_assoc (d ^ N) (fac N) (D a a (g r) N) ∙ mul_left_comm (d ^ N) (fac N) (D a a (g r) N) ∙ ap (λ (x : ℕ). fac N * x) (sym (D-scale a a (d ^ N) (g r) N))
       ∙ sym (W-diag a a (λ i j. d ^ N * g r i j) N)
       ∙ W_ext a a (λ i j. fac i * fac j * (d ^ N * g r i j)) (λ i j. full d P * full d P * gap r i j) N (λ i j e. weigh N l (gap r i j) i j e)
       ∙ W-scale a (full d P * full d P) (gap r) N
-    where
-      swap : (x y w : ℕ) → x * y * w ≡ y * (x * w)
-      swap x y w = simp (mul_assoc, mul_comm, mul_left_comm)
 
   same : (N : ℕ) → suc N ≤ P → D a a (g 0) (suc N) ≡ D a a (g 2) (suc N)
   same N l =
@@ -99,9 +96,6 @@ module _ (a d P : ℕ) (dp : 0 < d) where
   unfolding Tri class
   tri zero l = omega (arith, ap₂ (λ (x y : ℕ). x * y) v-zero v-zero)
   tri (suc M) l = omega (arith, tri M (omega arith), same M l)
-
-  spread : (x y p q r s t u m n k : ℕ) → k ≡ p * q + r * s + t * u + m * n → x * y * k ≡ x * p * (y * q) + x * r * (y * s) + x * t * (y * u) + x * m * (y * n)
-  spread x y p q r s t u m n k h = omega (arith, ap (λ (o : ℕ). x * y * o) h)
 
   abbrev R : ℕ → ℕ → ℕ
   R s M = S a (λ i. v i * class s i) M

@@ -1,7 +1,7 @@
--- The first powers, and one term more of a partial sum.
+-- The first powers, one term more of a partial sum, and a square.
 use mathlib.Core.Path.{◌≡◌, refl, ap, ◌∙◌}
-use Prim.Native.Nat.{ℕ, suc, ◌+◌, ◌*◌, ◌^◌}
-use native.Mathlib.Nat.{pow-suc, pow-zero, one-mul}
+use Prim.Native.Nat.{ℕ, suc, ◌+◌, ◌*◌, ◌^◌, ◌≤◌}
+use native.Mathlib.Nat.{pow-suc, pow-zero, one-mul, mul-le-mul}
 use native.Mathlib.Omega.{arith}
 use Rattle.series.specs.Series.{full, num}
 
@@ -31,3 +31,7 @@ full-suc d k = refl
 pub num-suc : (c : ℕ → ℕ) (n d k : ℕ) → num c n d (suc k) ≡ num c n d k * (d * suc k) + c (suc k) * n ^ suc k
 unfolding num
 num-suc c n d k = refl
+
+-- up to 2
+pub square-le : (x d : ℕ) → x ≤ 2 * d → x * x ≤ 4 * (d * d)
+square-le x d h = omega (arith, mul-le-mul h h)
