@@ -22,7 +22,7 @@ use Rattle.fixed.specs.Fixed.{mant}
 use Rattle.exact.specs.Unit.{steps, ulp}
 use Rattle.exact_waves.specs.Near.{NearSin, NearCos, SinNear, CosNear}
 use Rattle.series.proofs.Alternating.{Low, High, limit}
-use Rattle.fixed.proofs.Round.{rounded}
+use Rattle.fixed.proofs.Round.{rounded, top_of}
 use Rattle.wave_bounds.proofs.Kernel.{kernel}
 use Rattle.wave_bounds.proofs.Turns.{sin-below-half, sin-above-half, cos-below-quarter, cos-above-quarter, cos-below-three}
 use Rattle.wave_bounds.proofs.Folds.{fold-plus, fold-minus}
@@ -33,7 +33,7 @@ use Rattle.fixed.proofs.Sizes.{finite-value, size-lt}
 use Rattle.exact.proofs.Unit.{steps-is}
 use Rattle.cases.proofs.Cases.{split}
 use Rattle.waves.proofs.Magnitude.{mag-le, mag-ge, grain}
-use Rattle.waves.proofs.Patterns.{top_of, packed, sine-at-lt, sin-direct, sin-below, sin-above, cos-below, cos-above, cos-beyond, small-bits, large-bits, outside-bits}
+use Rattle.waves.proofs.Patterns.{packed, sine-at-lt, sin-direct, sin-below, sin-above, cos-below, cos-above, cos-beyond, small-bits, large-bits, outside-bits}
 
 -- ---- one statement for both: the sign of r (t) is taken as it stands, or turned where x's sign s turns a sine
 abbrev agrees : Kind → Bool → Bool → Bool

@@ -11,9 +11,9 @@ use lib.Count.{count_leading_zeros}
 use Rattle.series.specs.Series.{Close}
 use Rattle.series.proofs.Pairs.{Limit, sums}
 use Rattle.fixed.specs.Fixed.{mant}
-use Rattle.fixed.proofs.Round.{grain, Rounded, rounded}
+use Rattle.fixed.proofs.Round.{grain, Top, top_of, Rounded, rounded}
 use Rattle.waves.specs.SinCos.{ratio_of}
-use Rattle.waves.proofs.Patterns.{Top, top_of, ratio-in, Packed, packed}
+use Rattle.waves.proofs.Patterns.{ratio-in, Packed, packed}
 
 -- ---- closeness in a finer unit, to a number that is X off
 close-plus : (m a u f v x u' p q c : ℕ) → v ≤ a * f + x → a * f ≤ v + x → u * f + x ≤ u' → Close m a 0 u p q c → Close (m * f) v 0 u' p q c

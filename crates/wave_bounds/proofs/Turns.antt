@@ -60,6 +60,9 @@ module _ (y : ℕ) (small : y ≤ 5 * 2 ^ 61) where
         high3 = part-high 3;
       }
 
+not-below : (r : ℕ) → suc (suc (suc (suc r))) < 4 → ⊥
+not-below r g = omega arith
+
 -- no class exceeds 256 up to 5, nor 8 up to 2
 at_five : (r : ℕ) → r < 4 → num (class r) (5 * 2 ^ 61) (2 ^ 61) 64 ≤ 256 * whole
 unfolding whole num full class
@@ -67,10 +70,7 @@ at_five zero h = lit≤ tt
 at_five (suc zero) h = lit≤ tt
 at_five (suc (suc zero)) h = lit≤ tt
 at_five (suc (suc (suc zero))) h = lit≤ tt
-at_five (suc (suc (suc (suc r)))) h = absurd (no r h)
-  where
-    no : (r : ℕ) → suc (suc (suc (suc r))) < 4 → ⊥
-    no r g = omega arith
+at_five (suc (suc (suc (suc r)))) h = absurd (not-below r h)
 
 at-two : (r : ℕ) → r < 4 → num (class r) (2 ^ 62) (2 ^ 61) 64 ≤ 8 * whole
 unfolding whole num full class
@@ -78,10 +78,7 @@ at-two zero h = lit≤ tt
 at-two (suc zero) h = lit≤ tt
 at-two (suc (suc zero)) h = lit≤ tt
 at-two (suc (suc (suc zero))) h = lit≤ tt
-at-two (suc (suc (suc (suc r)))) h = absurd (no r h)
-  where
-    no : (r : ℕ) → suc (suc (suc (suc r))) < 4 → ⊥
-    no r g = omega arith
+at-two (suc (suc (suc (suc r)))) h = absurd (not-below r h)
 
 up-to-five : (y r : ℕ) → y ≤ 5 * 2 ^ 61 → r < 4 → part r y ≤ 256 * whole
 unfolding part
@@ -335,17 +332,14 @@ module _ (F W δ x₀ x₁ x₂ x₃ r₀ r₁ r₂ r₃ p₀ p₁ p₂ p₃ : �
   abbrev odd : ℕ
   odd = r₀ * r₃ + r₁ * r₀ + r₂ * r₁ + r₃ * r₂
 
+  flat : (t₀ t₁ t₂ t₃ a b c d : ℕ) → F * (a * t₀ + b * t₁ + c * t₂ + d * t₃) ≡ a * F * t₀ + b * F * t₁ + c * F * t₂ + d * F * t₃
+  flat t₀ t₁ t₂ t₃ a b c d = omega arith
+
   over : (t₀ t₁ t₂ t₃ : ℕ) → t₀ + t₁ + t₂ + t₃ ≡ r₀ + r₁ + r₂ + r₃ → F * (p₀ * t₀ + p₁ * t₁ + p₂ * t₂ + p₃ * t₃) ≤ l₀ * t₀ + l₁ * t₁ + l₂ * t₂ + l₃ * t₃ + 4096 * (W * F) * (r₀ + r₁ + r₂ + r₃)
-  over t₀ t₁ t₂ t₃ e = subst (λ (x : ℕ). F * (p₀ * t₀ + p₁ * t₁ + p₂ * t₂ + p₃ * t₃) ≤ l₀ * t₀ + l₁ * t₁ + l₂ * t₂ + l₃ * t₃ + 4096 * (W * F) * x) e (le_trans (le_of_eq (flat p₀ p₁ p₂ p₃)) (four-le (4096 * (W * F)) (p₀ * F) (p₁ * F) (p₂ * F) (p₃ * F) l₀ l₁ l₂ l₃ t₀ t₁ t₂ t₃ s₀.high s₁.high s₂.high s₃.high))
-    where
-      flat : (a b c d : ℕ) → F * (a * t₀ + b * t₁ + c * t₂ + d * t₃) ≡ a * F * t₀ + b * F * t₁ + c * F * t₂ + d * F * t₃
-      flat a b c d = omega arith
+  over t₀ t₁ t₂ t₃ e = subst (λ (x : ℕ). F * (p₀ * t₀ + p₁ * t₁ + p₂ * t₂ + p₃ * t₃) ≤ l₀ * t₀ + l₁ * t₁ + l₂ * t₂ + l₃ * t₃ + 4096 * (W * F) * x) e (le_trans (le_of_eq (flat t₀ t₁ t₂ t₃ p₀ p₁ p₂ p₃)) (four-le (4096 * (W * F)) (p₀ * F) (p₁ * F) (p₂ * F) (p₃ * F) l₀ l₁ l₂ l₃ t₀ t₁ t₂ t₃ s₀.high s₁.high s₂.high s₃.high))
 
   under : (t₀ t₁ t₂ t₃ : ℕ) → t₀ + t₁ + t₂ + t₃ ≡ r₀ + r₁ + r₂ + r₃ → l₀ * t₀ + l₁ * t₁ + l₂ * t₂ + l₃ * t₃ ≤ F * (p₀ * t₀ + p₁ * t₁ + p₂ * t₂ + p₃ * t₃) + 4096 * (W * F) * (r₀ + r₁ + r₂ + r₃)
-  under t₀ t₁ t₂ t₃ e = subst (λ (x : ℕ). l₀ * t₀ + l₁ * t₁ + l₂ * t₂ + l₃ * t₃ ≤ F * (p₀ * t₀ + p₁ * t₁ + p₂ * t₂ + p₃ * t₃) + 4096 * (W * F) * x) e (le_trans (four-le (4096 * (W * F)) l₀ l₁ l₂ l₃ (p₀ * F) (p₁ * F) (p₂ * F) (p₃ * F) t₀ t₁ t₂ t₃ s₀.low s₁.low s₂.low s₃.low) (le_of_eq (ap (λ (x : ℕ). x + 4096 * (W * F) * (t₀ + t₁ + t₂ + t₃)) (sym (flat p₀ p₁ p₂ p₃)))))
-    where
-      flat : (a b c d : ℕ) → F * (a * t₀ + b * t₁ + c * t₂ + d * t₃) ≡ a * F * t₀ + b * F * t₁ + c * F * t₂ + d * F * t₃
-      flat a b c d = omega arith
+  under t₀ t₁ t₂ t₃ e = subst (λ (x : ℕ). l₀ * t₀ + l₁ * t₁ + l₂ * t₂ + l₃ * t₃ ≤ F * (p₀ * t₀ + p₁ * t₁ + p₂ * t₂ + p₃ * t₃) + 4096 * (W * F) * x) e (le_trans (four-le (4096 * (W * F)) l₀ l₁ l₂ l₃ (p₀ * F) (p₁ * F) (p₂ * F) (p₃ * F) t₀ t₁ t₂ t₃ s₀.low s₁.low s₂.low s₃.low) (le_of_eq (ap (λ (x : ℕ). x + 4096 * (W * F) * (t₀ + t₁ + t₂ + t₃)) (sym (flat t₀ t₁ t₂ t₃ p₀ p₁ p₂ p₃)))))
 
   abbrev off' : ℕ
   off' = 0x40_0000 * W + 32 * δ

@@ -5,7 +5,8 @@ use native.Mathlib.Omega.{arith}
 use lib.Count.{count_leading_zeros}
 use Rattle.fixed.specs.Fixed.{pattern}
 use Rattle.waves.specs.SinCos.{ratio_of, sine_at}
-use Rattle.waves.proofs.Patterns.{top_of, packed, sine-at-lt}
+use Rattle.fixed.proofs.Round.{top_of}
+use Rattle.waves.proofs.Patterns.{packed, sine-at-lt}
 use Rattle.waves.proofs.whole.sine_at.Goals as goal
 
 -- d are the digits, s the ratio
