@@ -119,13 +119,7 @@ module _ (m E : ℕ) (from : 2 ^ 23 ≤ m) (to : m < 2 ^ 24) (few : E ≤ 149) w
     S = E * ln2 + rest_of m
 
     S-ge : 2 ^ 30 ≤ S
-    S-ge = split (2 ^ 23) m (λ h. more (E * ln2) (rest_of m) (range.rest-ge m from to h)) (λ h. many E (rest_of m) (omega arith))
-      where
-        more : (x y : ℕ) → 2 ^ 30 ≤ y → 2 ^ 30 ≤ x + y
-        more x y h = omega arith
-
-        many : (E y : ℕ) → 1 ≤ E → 2 ^ 30 ≤ E * ln2 + y
-        many E y h = omega arith
+    S-ge = range.sum-big m from to E some
 
     S-lt : S < 2 ^ 64
     S-lt = omega (arith, rest_le)

@@ -1,6 +1,6 @@
 -- `twice_of n d`, give or take a 2 ^ 26th part of it and three units, bounds ln ((d + n) / (d - n)): what is cut off on the way is a 2 ^ 32nd part, and the polynomial is a 2 ^ 27th part from the logarithm.
 use mathlib.Core.Path.{◌≡◌, refl, sym, ap, ◌∙◌, subst}
-use Prim.Native.Nat.{ℕ, ◌+◌, ◌-◌, ◌*◌, ◌/◌, ◌^◌, ◌≤◌, ◌<◌}
+use Prim.Native.Nat.{ℕ, ◌+◌, ◌-◌, ◌*◌, ◌/◌, ◌^◌, ◌≤◌, ◌<◌, zero-le}
 use native.Mathlib.Nat.{le_trans, le_of_eq, le_of_lt, lt_of_lt_of_le, mul_assoc, mul-le-mul, mul-le-mul_left, mul-le-mul_right, mul-pos, le_of_mul-le-mul_right, div-mul-le_self, lt-div-mul-add, le-add_right}
 use native.Mathlib.Omega.{arith}
 use lib.Dec.{lit≤, lit<}
@@ -264,7 +264,7 @@ module _ (n d z : ℕ) (e : d ≡ n + z) (h : n ≤ 2 ^ 19) (k : 2 ^ 24 ≤ d) (
       (λ p. none (twice_of n d) (range.twice-zero d (omega arith)) (subst (λ (x : ℕ). twice_of n d ≡ twice_of x d) (omega arith) refl)))
     where
       none : (a : ℕ) → twice_of 0 d ≡ 0 → a ≡ twice_of 0 d → (a - give a) * (15 * (d * d * (d * d) * d) * 2 ^ 27) ≤ 2 * (2 ^ 27 - 1) * three_terms n (d * d) * 2 ^ 56
-      none a x y = le_trans (le_of_eq (zero-at (a - give a) (15 * (d * d * (d * d) * d) * 2 ^ 27) (less a (y ∙ x)))) (any (2 * (2 ^ 27 - 1) * three_terms n (d * d) * 2 ^ 56))
+      none a x y = le_trans (le_of_eq (zero-at (a - give a) (15 * (d * d * (d * d) * d) * 2 ^ 27) (less a (y ∙ x)))) zero-le
         where
           less : (a : ℕ) → a ≡ 0 → a - give a ≡ 0
           less a e = omega arith
@@ -272,21 +272,15 @@ module _ (n d z : ℕ) (e : d ≡ n + z) (h : n ≤ 2 ^ 19) (k : 2 ^ 24 ≤ d) (
           zero-at : (b c : ℕ) → b ≡ 0 → b * c ≡ 0
           zero-at b c e = omega (arith, ap (λ (y : ℕ). y * c) e)
 
-          any : (x : ℕ) → 0 ≤ x
-          any x = omega arith
-
   pub twice-ge : ExpGe (twice_of n d + give (twice_of n d)) (2 ^ 56) (d + n) z
   twice-ge =
       by-ge (twice_of n d + give (twice_of n d))
       (split 0 n
       (λ p. raised_by (twice_of n d) (d * d * (d * d) * d) (three_terms n (d * d)) (twice-over n d p h k top))
-      (λ p. le_trans (le_of_eq (zero-at (three_terms n (d * d)) (none (d * d) (omega arith)))) (any ((twice_of n d + give (twice_of n d)) * (15 * (d * d * (d * d) * d) * 2 ^ 27)))))
+      (λ p. le_trans (le_of_eq (zero-at (three_terms n (d * d)) (none (d * d) (omega arith)))) zero-le))
     where
       none : (D : ℕ) → n ≡ 0 → three_terms n D ≡ 0
       none D z = subst (λ (x : ℕ). three_terms x D ≡ 0) (sym z) (omega arith)
 
       zero-at : (f : ℕ) → f ≡ 0 → 2 * (2 ^ 27 + 1) * f * 2 ^ 56 ≡ 0
       zero-at f e = omega arith
-
-      any : (x : ℕ) → 0 ≤ x
-      any x = omega arith
