@@ -1,7 +1,7 @@
 -- Enclosures of sine and cosine within 2 ^ -109, for every angle y / 2 ^ 56 from 2 ^ -14 to 2, and what the arc sine's proof asks of them.
 use mathlib.Core.Path.{◌≡◌, subst, sym}
 use Prim.Native.Nat.{ℕ, zero, suc, ◌+◌, ◌*◌, ◌^◌, ◌≤◌, ◌<◌}
-use native.Mathlib.Nat.{le_trans, le_of_eq, add-le-add, mul-le-mul_left, mul-le-mul_right, le_of_mul-le-mul_right, not-le_of_lt, pow-le-pow_left, suc-mul, mul_assoc}
+use native.Mathlib.Nat.{le_trans, le_of_eq, add-le-add, mul-le-mul_left, mul-le-mul_right, le_of_mul-le-mul_right, not-le_of_lt, pow-le-pow_left, suc-mul, mul_assoc, le-add_left, le-add_right}
 use native.Mathlib.Omega.{arith}
 use lib.Dec.{lit≤}
 use lib.Pow.{pow_pos}
@@ -90,22 +90,10 @@ module _ (y : ℕ) (large : 2 ^ 42 ≤ y) (small : y ≤ 2 ^ 57) where
   from_le n c L =
       let k = L.0 + 45 in
       back (full (2 ^ 56) k) c n (2 ^ 110) (num (class 1) y (2 ^ 56) k) (num (class 2) y (2 ^ 56) k) (num (class 3) y (2 ^ 56) k) (num (class 0) y (2 ^ 56) k) (fine 3 y + 2) (fine 0 y + 2) (fine 1 y) (fine 2 y) (full-pos (2 ^ 56) k (pow_pos 56))
-      (low 1 k (up L.0)) (low 2 k (up L.0)) (enc.high3 k) (enc.high0 k) (L.1 k (over L.0))
-    where
-      up : (N : ℕ) → 45 ≤ N + 45
-      up N = omega arith
-
-      over : (N : ℕ) → N ≤ N + 45
-      over N = omega arith
+      (low 1 k (le-add_left 45 L.0)) (low 2 k (le-add_left 45 L.0)) (enc.high3 k) (enc.high0 k) (L.1 k (le-add_right L.0 45))
 
   pub from-ge : (n c : ℕ) → SinGe y (2 ^ 56) n c → fine 3 y * c + fine 0 y * n ≤ (fine 1 y + 2) * c + (fine 2 y + 2) * n
   from-ge n c L =
       let k = L.0 + 45 in
       back (full (2 ^ 56) k) c n (2 ^ 110) (num (class 3) y (2 ^ 56) k) (num (class 0) y (2 ^ 56) k) (num (class 1) y (2 ^ 56) k) (num (class 2) y (2 ^ 56) k) (fine 1 y + 2) (fine 2 y + 2) (fine 3 y) (fine 0 y) (full-pos (2 ^ 56) k (pow_pos 56))
-      (low 3 k (up L.0)) (low 0 k (up L.0)) (enc.high1 k) (enc.high2 k) (L.1 k (over L.0))
-    where
-      up : (N : ℕ) → 45 ≤ N + 45
-      up N = omega arith
-
-      over : (N : ℕ) → N ≤ N + 45
-      over N = omega arith
+      (low 3 k (le-add_left 45 L.0)) (low 0 k (le-add_left 45 L.0)) (enc.high1 k) (enc.high2 k) (L.1 k (le-add_right L.0 45))

@@ -2,7 +2,7 @@
 -- At z = v - a with a = w - b and b = v⁵ / 4 in the same way: sin z is at least z - z³ / 6, cos z at most 1 - z² / 2 + z⁴ / 24, and v z⁴ / 24 + v² a / 2 is at most b, as 1 / 24 + 1 / 6 is at most 1 / 4.
 use mathlib.Core.Path.{◌≡◌, refl, sym, ap, ap₂, ◌∙◌}
 use Prim.Native.Nat.{ℕ, ◌+◌, ◌-◌, ◌*◌, ◌^◌, ◌≤◌, ◌<◌}
-use native.Mathlib.Nat.{le_trans, le_of_eq, mul-pos, mul-le-mul, mul-le-mul_left, mul-le-mul_right, le_of_mul-le-mul_right, le-add_right, le-add_left, sub-add_cancel}
+use native.Mathlib.Nat.{le_trans, le_of_eq, mul-pos, mul-le-mul, mul-le-mul_left, mul-le-mul_right, le_of_mul-le-mul_right, le-add_right, le-add_left, sub-add_cancel, mul_assoc}
 use native.Mathlib.Omega.{arith}
 use lib.Dec.{lit≤, lit<}
 use Rattle.series.proofs.Terms.{pow-1, pow-2, pow-3, pow-4, pow-5}
@@ -264,11 +264,8 @@ module _ (n c : ℕ) (C : 0 < c) (h : n ≤ c) where
       (powers n c ∙ ap (λ (x : ℕ). x * x * x) (sym whole)) (turn n (c * c) c ∙ ap (λ (x : ℕ). x * c) (sym whole)) (least n (c * c) c (mul-le-mul_right (c * c) h))
     where
       whole : 3 * n * (c * c) - n * n * n + n * n * n ≡ 3 * n * (c * c)
-      whole = go (n * n * n) (n * (c * c)) (3 * n * (c * c)) thrice (flat n (c * c))
+      whole = go (n * n * n) (n * (c * c)) (3 * n * (c * c)) thrice (mul_assoc 3 n (c * c))
         where
-          flat : (n C : ℕ) → 3 * n * C ≡ 3 * (n * C)
-          flat n C = omega arith
-
           go : (p q r : ℕ) → p ≤ q → r ≡ 3 * q → r - p + p ≡ r
           go p q r i e = omega arith
 
@@ -279,11 +276,8 @@ module _ (n c : ℕ) (C : 0 < c) (h : n ≤ c) where
       turn n C c = omega arith
 
       least : (n C c : ℕ) → n * C ≤ c * C → 3 * n * C - n * n * n ≤ 4 * (3 * C * c)
-      least n C c i = go (n * C) (c * C) (n * n * n) (3 * n * C) (4 * (3 * C * c)) i (flat n C) (flat' C c)
+      least n C c i = go (n * C) (c * C) (n * n * n) (3 * n * C) (4 * (3 * C * c)) i (mul_assoc 3 n C) (flat' C c)
         where
-          flat : (n C : ℕ) → 3 * n * C ≡ 3 * (n * C)
-          flat n C = omega arith
-
           flat' : (C c : ℕ) → 4 * (3 * C * c) ≡ 12 * (c * C)
           flat' C c = omega arith
 
@@ -303,20 +297,14 @@ module _ (n c : ℕ) (C : 0 < c) (h : n ≤ c) where
     where
       -- 3 p ≤ 4 n³ c², and 4 n³ c² ≤ 12 n c⁴
       first : 3 * P ≤ 4 * (n * n * n) * (c * c)
-      first = go P (n * n * n * (c * c)) (4 * (n * n * n) * (c * c)) five-times (flat (n * n * n) (c * c))
+      first = go P (n * n * n * (c * c)) (4 * (n * n * n) * (c * c)) five-times (mul_assoc 4 (n * n * n) (c * c))
         where
-          flat : (p C : ℕ) → 4 * p * C ≡ 4 * (p * C)
-          flat p C = omega arith
-
           go : (p q r : ℕ) → p ≤ q → r ≡ 4 * q → 3 * p ≤ r
           go p q r i e = omega arith
 
       second : 4 * (n * n * n) * (c * c) ≤ 12 * n * E
-      second = go (n * n * n * (c * c)) (n * (c * c) * (c * c)) (4 * (n * n * n) * (c * c)) (12 * n * E) (mul-le-mul_right (c * c) thrice) (flat (n * n * n) (c * c)) (flat' n (c * c))
+      second = go (n * n * n * (c * c)) (n * (c * c) * (c * c)) (4 * (n * n * n) * (c * c)) (12 * n * E) (mul-le-mul_right (c * c) thrice) (mul_assoc 4 (n * n * n) (c * c)) (flat' n (c * c))
         where
-          flat : (p C : ℕ) → 4 * p * C ≡ 4 * (p * C)
-          flat p C = omega arith
-
           flat' : (n C : ℕ) → 12 * n * (C * C) ≡ 12 * (n * C * C)
           flat' n C = omega arith
 
