@@ -4,7 +4,7 @@ use mathlib.Core.Bool.{Bool, true, false, not, ◌||◌}
 use Prim.Native.Nat.{ℕ, ◌+◌, ◌-◌, ◌*◌, ◌≤◌}
 use native.Mathlib.Nat.{le_trans, le_of_eq, le_refl, le-add_right, add-le-add}
 use native.Mathlib.Omega.{arith}
-use lib.Dec.{T}
+use lib.Dec.{T, not_T}
 use lib.Ieee.{Float, nan, inf, fin, binary32, up, down, neg, add, sub, mul, lt, le, is_nan, of_bits, fits, size}
 use lib.Ieee.Bits.{is_true, is_false, of_bits-fits}
 use lib.Ieee.Fits.{sub-fits, mul-fits}
@@ -86,11 +86,7 @@ first d f h = go d refl (le-real f0_000001 d t).1
     t = subst T (sym h) tt
 
     less : lt d f0_000001 ≡ false
-    less = is_false (lt d f0_000001) (refuted (lt d f0_000001) (λ l. lt_not_le binary32 d f0_000001 f small-fits l t))
-      where
-        refuted : (b : Bool) → (T b → ⊥) → T (not b)
-        refuted true k = absurd (k tt)
-        refuted false k = tt
+    less = is_false (lt d f0_000001) (not_T (lt d f0_000001) (λ l. lt_not_le binary32 d f0_000001 f small-fits l t))
 
     go : (z : Float) → d ≡ z → T (real d) → (is_nan d || lt d f0_000001) ≡ false
     go nan e r = absurd (subst (λ (z : Float). T (real z)) e r)
