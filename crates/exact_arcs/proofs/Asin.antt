@@ -17,7 +17,7 @@ use Rattle.cases.proofs.Cases.{split}
 use Rattle.series.proofs.Waves.{Enc4}
 use Rattle.series.proofs.Bounds.{cos-plus, cos-minus, sine-le, sine-ge, enc-scaled}
 use Rattle.fixed.specs.Fixed.{mant, pattern, digits}
-use Rattle.fixed.proofs.Round.{place, pattern_lt}
+use Rattle.fixed.proofs.Round.{place, pattern_lt, grain}
 use Rattle.fixed.proofs.Values.{value, v-small, ulps, bits-255, packed-value, normal-value, sign-plus}
 use Rattle.fixed.proofs.Sizes.{finite-value, size-lt}
 use Rattle.exact.specs.Unit.{steps}
@@ -25,7 +25,7 @@ use Rattle.exact_arcs.specs.Asin.{NearAsin, AsinNear}
 use Rattle.exact.proofs.Unit.{steps-is}
 use Rattle.arcs.specs.Asin.{sixth_of, arc_of, asin_mag, asin_bits, asin_of}
 use Rattle.arcs.proofs.Cosine.{Cosine}
-use Rattle.arcs.proofs.Angle.{Sizes, sizes, o, v, low-is, high_is}
+use Rattle.arcs.proofs.Angle.{Sizes, sizes, v, low-is, high_is}
 use Rattle.arcs.proofs.AsinBits.{mag-fits, small-bits, mid-bits, one-bits, outside-bits}
 use Rattle.arc_bounds.proofs.Ends.{small-cos, small-sine-le, small-sine-ge, half-plus, half-minus, half-sine}
 use Rattle.arc_bounds.proofs.Fine.{fine, enc}
@@ -92,7 +92,7 @@ module _ (X r A s : ℕ) (T : Turned X r A s) (C : Cosine X r) (X-lt : X < 2 ^ 3
   S = arc_of A s
 
   abbrev O : ℕ
-  O = o S
+  O = grain S
 
   abbrev u : ℕ
   u = v S

@@ -16,7 +16,8 @@ use Rattle.exponential.specs.Exp.{exp_of}
 use Rattle.exact.specs.Unit.{steps, ulp}
 use Rattle.exact_exponential.specs.Exp.{NearExp}
 use Rattle.exact_exponential.specs.Enclosure.{NearerThan, upper_sum, Inside, Enclosed, EnclosedBelow, EnclosedExp, ExpEnclosed, ExpOneNumber, ExpRises, ExpPins}
-use Rattle.exponential_bounds.proofs.Terms.{full-1, num-1}
+use Rattle.series.proofs.Terms.{full-1}
+use Rattle.exponential_bounds.proofs.Terms.{num-1}
 use Rattle.exact_exponential.proofs.ExpTheorem.{exp-near}
 
 -- ---- nested

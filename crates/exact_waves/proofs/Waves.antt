@@ -15,14 +15,14 @@ use lib.Ieee.Fits.{down_pos}
 use lib.Ieee.Bits.{of_bits-to_bits, to_bits-lt}
 use lib.Ieee.Exact.{HasValue}
 use Rattle.series.specs.Series.{Kind, sine, cosine}
-use Rattle.series.proofs.Pairs.{sums, Limit, Ksin, Kcos, shift, top, bottom, Kat, den_pos, sin-pos, cos-pos}
+use Rattle.series.proofs.Pairs.{sums, Limit, Ksin, Kcos, shift, start, Kat, den_pos, sin-pos, cos-pos}
 use Rattle.series.proofs.Classes.{sin-later, cos-later}
 use Rattle.waves.specs.SinCos.{ratio_of, sine_at, quarter_turn, half_turn, three_quarters, mag_of, at_small, wave_at, wave_bits, sin_of, cos_of}
 use Rattle.fixed.specs.Fixed.{mant}
 use Rattle.exact.specs.Unit.{steps, ulp}
 use Rattle.exact_waves.specs.Near.{NearSin, NearCos, SinNear, CosNear}
 use Rattle.series.proofs.Alternating.{Low, High, limit}
-use Rattle.fixed.proofs.Round.{rounded}
+use Rattle.fixed.proofs.Round.{rounded, top_of}
 use Rattle.wave_bounds.proofs.Kernel.{kernel}
 use Rattle.wave_bounds.proofs.Turns.{sin-below-half, sin-above-half, cos-below-quarter, cos-above-quarter, cos-below-three}
 use Rattle.wave_bounds.proofs.Folds.{fold-plus, fold-minus}
@@ -33,7 +33,7 @@ use Rattle.fixed.proofs.Sizes.{finite-value, size-lt}
 use Rattle.exact.proofs.Unit.{steps-is}
 use Rattle.cases.proofs.Cases.{split}
 use Rattle.waves.proofs.Magnitude.{mag-le, mag-ge, grain}
-use Rattle.waves.proofs.Patterns.{top_of, packed, sine-at-lt, sin-direct, sin-below, sin-above, cos-below, cos-above, cos-beyond, small-bits, large-bits, outside-bits}
+use Rattle.waves.proofs.Patterns.{packed, sine-at-lt, sin-direct, sin-below, sin-above, cos-below, cos-above, cos-beyond, small-bits, large-bits, outside-bits}
 
 -- ---- one statement for both: the sign of r (t) is taken as it stands, or turned where x's sign s turns a sine
 abbrev agrees : Kind → Bool → Bool → Bool
@@ -46,7 +46,7 @@ NearWave w (inf s) r = r ≡ nan
 NearWave w (fin s m e) nan = 4 * down e < m * up e
 NearWave w (fin s m e) (inf t) = ⊥
 NearWave w (fin s m e) (fin t n f) =
-    Limit (Kat (shift w)) (m * up e) (down e) (top w (m * up e)) (bottom w (down e)) 9 (16 * 2 ^ 149)
+    Limit (Kat (shift w)) (m * up e) (down e) (start w (m * up e)) (start w (down e)) 9 (16 * 2 ^ 149)
     (16 * cond (agrees w s t) (steps (fin t n f)) 0)
     (16 * cond (agrees w s t) 0 (steps (fin t n f)))
     (15 * ulp (fin t n f))
@@ -73,7 +73,7 @@ cross m X e h =
 
 module _ (w : Kind) (s t g : Bool) (G : agrees w s t ≡ g) (X v u : ℕ) (U : u ≤ 2 ^ (size v - 24)) where
   near-at : (x r : Float) → HasValue x s (X * 2 ^ 88) (2 ^ 149) → HasValue r t v (2 ^ 149)
-      → Limit (Kat (shift w)) X (2 ^ 61) (top w X) (bottom w (2 ^ 61)) 9 (16 * 2 ^ 149) (16 * cond g v 0) (16 * cond g 0 v) (15 * u) → NearWave w x r
+      → Limit (Kat (shift w)) X (2 ^ 61) (start w X) (start w (2 ^ 61)) 9 (16 * 2 ^ 149) (16 * cond g v 0) (16 * cond g 0 v) (15 * u) → NearWave w x r
   near-at nan r h k L = absurd h
   near-at (inf a) r h k L = absurd h
   near-at (fin a m e) nan h k L = absurd k
@@ -81,8 +81,8 @@ module _ (w : Kind) (s t g : Bool) (G : agrees w s t ≡ g) (X v u : ℕ) (U : u
   near-at (fin a m e) (fin b n f) h k L =
       let st : steps (fin b n f) ≡ v = steps-is t b n v f k in
       let q : agrees w a b ≡ g = ap₂ (λ (y z : Bool). agrees w y z) h.0 k.0 ∙ G in
-      subst₂ (λ (y : Bool) (z : ℕ). Limit (Kat (shift w)) (m * up e) (down e) (top w (m * up e)) (bottom w (down e)) 9 (16 * 2 ^ 149) (16 * cond y z 0) (16 * cond y 0 z) (15 * 2 ^ (size z - 24))) (sym q) (sym st)
-      (wider-limit (Kat (shift w)) (m * up e) (down e) (top w (m * up e)) (bottom w (down e)) 9 (16 * 2 ^ 149) (16 * cond g v 0) (16 * cond g 0 v) (15 * u) (15 * 2 ^ (size v - 24)) (mul-le-mul_left 15 U)
+      subst₂ (λ (y : Bool) (z : ℕ). Limit (Kat (shift w)) (m * up e) (down e) (start w (m * up e)) (start w (down e)) 9 (16 * 2 ^ 149) (16 * cond y z 0) (16 * cond y 0 z) (15 * 2 ^ (size z - 24))) (sym q) (sym st)
+      (wider-limit (Kat (shift w)) (m * up e) (down e) (start w (m * up e)) (start w (down e)) 9 (16 * 2 ^ 149) (16 * cond g v 0) (16 * cond g 0 v) (15 * u) (15 * 2 ^ (size v - 24)) (mul-le-mul_left 15 U)
       (same-limit w (Kat (shift w)) X (2 ^ 61) (m * up e) (down e) (pow_pos 61) (cross m X e h.1) 9 (16 * 2 ^ 149) (16 * cond g v 0) (16 * cond g 0 v) (15 * u) L))
 
 -- ---- from 2 ^ -12 to 4
@@ -126,7 +126,7 @@ pub record Folded (w : Kind) (b : ℕ) (g : Bool) : Type 0 where
   pub least : 2 ^ 36 ≤ r
   pub most : r < 2 ^ 62
   pub bits : wave_at w (b / 2 ^ 31) (mag_of (b % 2 ^ 31)) ≡ sign_at g (sign_of w b) * 2 ^ 31 + sine_at r
-  pub near : Limit (Kat (shift w)) (mag_of (b % 2 ^ 31)) (2 ^ 61) (top w (mag_of (b % 2 ^ 31))) (bottom w (2 ^ 61)) 9 (2 ^ 93) (cond g (ratio_of r * r) 0) (cond g 0 (ratio_of r * r)) (20 * r + 2 ^ 37 + 2 ^ 30)
+  pub near : Limit (Kat (shift w)) (mag_of (b % 2 ^ 31)) (2 ^ 61) (start w (mag_of (b % 2 ^ 31))) (start w (2 ^ 61)) 9 (2 ^ 93) (cond g (ratio_of r * r) 0) (cond g 0 (ratio_of r * r)) (20 * r + 2 ^ 37 + 2 ^ 30)
 
 abbrev Grain : ℕ → Type 0
 Grain X = (X < 2 ^ 61) ⊎ ((k : ℕ) × (X ≡ k * 2 ^ 38))
@@ -281,7 +281,7 @@ near-folded w b g B l h F =
     let c = sign_at g (sign_of w b) in
     near-at w (leb (2 ^ 31) b) (leb (2 ^ 31) (c * 2 ^ 31 + sine_at r)) g (sign-agrees w g b (sine_at r) B (sine-at-lt r (lt_of_lt_of_le (lit< tt) F.least) F.most)) (mag_of (b % 2 ^ 31)) (mant p * 2 ^ exponent r F.least F.most) (2 ^ exponent r F.least F.most) (ulp-ge (mant p) (exponent r F.least F.most) (rounded p z.big z.fits).least)
     (of_bits binary32 b) (of_bits binary32 (wave_bits w b)) (x-value b l h) (sine-value (wave_bits w b) c r (large-bits w b l h ∙ F.bits) F.least F.most)
-    (rounds r F.least F.most g (Kat (shift w)) (mag_of (b % 2 ^ 31)) (2 ^ 61) (top w (mag_of (b % 2 ^ 31))) (bottom w (2 ^ 61)) 9 F.near)
+    (rounds r F.least F.most g (Kat (shift w)) (mag_of (b % 2 ^ 31)) (2 ^ 61) (start w (mag_of (b % 2 ^ 31))) (start w (2 ^ 61)) 9 F.near)
 
 near-large : (w : Kind) (b : ℕ) → b < 2 ^ 32 → 0x3980_0000 ≤ b % 2 ^ 31 → b % 2 ^ 31 ≤ 0x4080_0000 → NearWave w (of_bits binary32 b) (of_bits binary32 (wave_bits w b))
 near-large sine b B l h =

@@ -22,10 +22,10 @@ finite-value b h =
     (λ l. (b % 2 ^ 23 * 1, subnormal b l, inl (l, omega arith)))
     (λ l. (digits (b % 2 ^ 31) * 2 ^ (b % 2 ^ 31 / 2 ^ 23 - 1), normal-value b l h, inr (l, refl)))
 
-dig-low : (a : ℕ) → 2 ^ 23 ≤ digits a
+pub dig-low : (a : ℕ) → 2 ^ 23 ≤ digits a
 dig-low a = omega arith
 
-dig-high : (a : ℕ) → digits a < 2 ^ 24
+pub dig-high : (a : ℕ) → digits a < 2 ^ 24
 dig-high a = omega arith
 
 at_least : (m e : ℕ) → m ≤ m * 2 ^ e

@@ -62,3 +62,7 @@ root-lt n r s h k = lt_of_not-le (λ (g : s ≤ r). not-le_of_lt k (le_trans (mu
 
 pub root-only : (n r : ℕ) → Root n r → r ≡ root n
 root-only n r h = le_antisymm (root_ge n (root n) r (root_is n).1 h.0) (root_ge n r (root n) h.1 (root_is n).0)
+
+-- of two numbers the one with the larger square is larger
+pub square-back : (a b : ℕ) → a * a ≤ b * b → a ≤ b
+square-back a b h = root_ge (b * b) b a (omega arith) h
