@@ -23,7 +23,7 @@ gap-mul x y z = sym (add-mul (x - y) (y - x) z ∙ ap (λ (a : ℕ). a + (y - x)
 abbrev pub dist : Bool → Bool → ℕ → ℕ → ℕ → ℕ
 dist s t M c n = cond (beq s t) (gap (M * c) n) (M * c + n)
 
-abbrev same_sign : (s : Bool) → beq s s ≡ true
+abbrev pub same_sign : (s : Bool) → beq s s ≡ true
 same_sign true = refl
 same_sign false = refl
 

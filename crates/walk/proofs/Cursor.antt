@@ -8,7 +8,7 @@ use native.Mathlib.Nat.{le_trans, le_of_eq, le_refl, le_antisymm, eq-or-lt_of_le
 use native.Mathlib.Omega.{arith}
 use lib.Dec.{T, not_T, T_not}
 use lib.Ieee.{Float, nan, inf, fin, binary32, lt, le, fits, is_nan}
-use Rattle.order.proofs.Chains.{lt→le, le-le, lt-le}
+use Rattle.std.proofs.lemmas.Float.{le_of_lt, lt_of_lt_of_le, le_trans as le-le}
 use Rattle.scalar.specs.F32.{at}
 use Rattle.readings.specs.Cursor.{one_if, count_from, count_of, on_by, climb_from}
 use Rattle.walk.specs.Walk.{EachF32, Rising}
@@ -22,7 +22,7 @@ pub record Stops (htr : List Float) (z : Float) (n i c : ℕ) : Type 0 where
 
 -- above a height that is not at or below z there is none
 still : (htr : List Float) (z : Float) → EachF32 htr → T (fits binary32 z) → (i : ℕ) → T (lt (at htr i) (at htr (i + 1))) → T (not (le (at htr i) z)) → T (not (le (at htr (i + 1)) z))
-still htr z H F i r h = not_T (le (at htr (i + 1)) z) (λ (k : T (le (at htr (i + 1)) z)). T_not (le (at htr i) z) h (lt→le binary32 (at htr i) z (H i) F (lt-le binary32 (at htr i) (at htr (i + 1)) z (H i) (H (i + 1)) F r k)))
+still htr z H F i r h = not_T (le (at htr (i + 1)) z) (λ (k : T (le (at htr (i + 1)) z)). T_not (le (at htr i) z) h (le_of_lt (at htr i) z (lt_of_lt_of_le (at htr i) (at htr (i + 1)) z r k)))
 
 none_after : (htr : List Float) (z : Float) → EachF32 htr → T (fits binary32 z) → Rising htr → (n i : ℕ) → i + n ≡ 49 → T (not (le (at htr i) z)) → count_from htr z n i ≡ 0
 unfolding count_from
@@ -152,7 +152,7 @@ unfolding count_from
 count-le htr z y H F G h zero i = le_refl 0
 count-le htr z y H F G h (suc n) i =
     both (one_if (le (at htr (i + 1)) z)) (one_if (le (at htr (i + 1)) y)) (count_from htr z n (i + 1)) (count_from htr y n (i + 1))
-    (one-mono (le (at htr (i + 1)) z) (le (at htr (i + 1)) y) (λ t. le-le binary32 (at htr (i + 1)) z y (H (i + 1)) F G t h)) (count-le htr z y H F G h n (i + 1))
+    (one-mono (le (at htr (i + 1)) z) (le (at htr (i + 1)) y) (λ t. le-le (at htr (i + 1)) z y t h)) (count-le htr z y H F G h n (i + 1))
   where
     both : (a b c d : ℕ) → a ≤ b → c ≤ d → a + c ≤ b + d
     both a b c d p q = omega arith
