@@ -3,7 +3,7 @@ use mathlib.Core.Path.{◌≡◌, refl, sym, ap₂, ◌∙◌, subst}
 use mathlib.Core.Logic.{inl, inr}
 use mathlib.Core.List.{List}
 use Prim.Native.Nat.{ℕ, zero, suc, ◌+◌, ◌≤◌, ◌<◌}
-use native.Mathlib.Nat.{eq-or-lt_of_le, not-suc-le-zero}
+use native.Mathlib.Nat.{eq-or-lt_of_le, not-suc-le-zero, le_of_suc-le, le_of_suc-le-suc, le_step, lt-suc_self}
 use native.Mathlib.Omega.{arith}
 use lib.ListN.{length, get_or, set, length-set}
 use lib.Seq.{get_or-set_same, get_or-set_other}
@@ -14,12 +14,6 @@ apart j k l e = omega arith
 
 below : (j k : ℕ) → j < k + 1 → j ≤ k
 below j k l = omega arith
-
-under : (j n : ℕ) → j < suc n → j ≤ n
-under j n l = omega arith
-
-less : (n m : ℕ) → suc n ≤ m → n ≤ m
-less n m l = omega arith
 
 -- what holds of each place below k, and of k, holds below k + 1
 pub below_next : (P : ℕ → Type 0) (k : ℕ) → ((j : ℕ) → j < k → P j) → P k → (j : ℕ) → j < k + 1 → P j
@@ -36,19 +30,13 @@ module _ {A : Type 0} where
   unfolding put_each
   put-at f d l zero m k h = absurd (not-suc-le-zero h)
   put-at f d l (suc n) m k h =
-      elim (eq-or-lt_of_le (under k n h)) [
+      elim (eq-or-lt_of_le (le_of_suc-le-suc h)) [
         | inl e ↦ subst (λ (i : ℕ). get_or (set (put_each f l n) n (f n)) i d ≡ f i) (sym e) (get_or-set_same (put_each f l n) n (f n) d (subst (λ (z : ℕ). n < z) (sym (put-length f l n)) m))
-        | inr b ↦ get_or-set_other (put_each f l n) n k (f n) d (apart k n b) ∙ put-at f d l n (less n (length l) m) k b
+        | inr b ↦ get_or-set_other (put_each f l n) n k (f n) d (apart k n b) ∙ put-at f d l n (le_of_suc-le m) k b
       ]
 
   -- what is put decides
   pub put_same : (f g : ℕ → A) (l : List A) (n : ℕ) → ((k : ℕ) → k < n → f k ≡ g k) → put_each f l n ≡ put_each g l n
   unfolding put_each
   put_same f g l zero h = refl
-  put_same f g l (suc n) h = ap₂ (λ (m : List A) (a : A). set m n a) (put_same f g l n (λ k b. h k (up k n b))) (h n (self n))
-    where
-      up : (k n : ℕ) → k < n → k < suc n
-      up k n b = omega arith
-
-      self : (n : ℕ) → n < suc n
-      self n = omega arith
+  put_same f g l (suc n) h = ap₂ (λ (m : List A) (a : A). set m n a) (put_same f g l n (λ k b. h k (le_step b))) (h n (lt-suc_self n))

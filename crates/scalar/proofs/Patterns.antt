@@ -6,11 +6,11 @@ use native.Mathlib.Nat.{lt_irrefl, zero-mul, mul-one, mul-pos, mul-div_cancel, m
 use native.Mathlib.Omega.{arith}
 use lib.Dec.{leb, eqb, eqb→eq}
 use lib.Pow.{pow_pos}
-use lib.Arith.{lt→nleb}
 use lib.Ieee.{Float, nan, inf, fin, binary32, up, down, odd, of_fields, of_bits}
 use lib.Ieee.Fits.{down_pos}
-use lib.Ieee.Bits.{is_false, cond_no}
+use lib.Ieee.Bits.{cond_no}
 use lib.Ieee.Exact.{HasValue, odd_sign}
+use borrow.Author.Tests.{lt-leb}
 use Rattle.scalar.specs.Root.{root_of_units, sqrt_of}
 
 -- ---- `sqrt_of` by a value's sign and units
@@ -56,7 +56,7 @@ fields-mid s x t h =
 pub plain : (b : ℕ) → b < 2 ^ 31 → of_bits binary32 b ≡ of_fields binary32 false (b / 2 ^ 23) (b % 2 ^ 23)
 plain b h =
     of_bits_is b
-    ∙ ap (λ (s : Bool). of_fields binary32 s (b % 2 ^ 31 / 2 ^ 23) (b % 2 ^ 23)) (is_false (leb (2 ^ 31) b) (lt→nleb (2 ^ 31) b h))
+    ∙ ap (λ (s : Bool). of_fields binary32 s (b % 2 ^ 31 / 2 ^ 23) (b % 2 ^ 23)) (lt-leb (2 ^ 31) b h)
     ∙ ap (λ (x : ℕ). of_fields binary32 false (x / 2 ^ 23) (b % 2 ^ 23)) (mod-eq_of_lt h)
 
 -- ---- the root of a pattern above zero and below +infinity's: by its digits, with the leading one where the exponent's field has it
