@@ -13,7 +13,8 @@ use Rattle.series.proofs.Weighted.{grows, above}
 use Rattle.series.proofs.Falling.{small}
 use Rattle.cases.proofs.Cases.{split}
 use Rattle.exponential.specs.Exp.{exp_of}
-use Rattle.exact.specs.Unit.{steps, ulp}
+use Rattle.scalar.specs.Root.{steps}
+use Rattle.exact.specs.Unit.{ulp}
 use Rattle.exact_exponential.specs.Exp.{NearExp}
 use Rattle.exact_exponential.specs.Enclosure.{NearerThan, upper_sum, Inside, Enclosed, EnclosedBelow, EnclosedExp, ExpEnclosed, ExpOneNumber, ExpRises, ExpPins}
 use Rattle.exponential_bounds.proofs.Terms.{full-1, num-1}

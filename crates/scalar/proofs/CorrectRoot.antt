@@ -1,8 +1,8 @@
 -- For every f32 that is finite and above zero `sqrt_of` is the correctly rounded root (`sqrt-correct`), and nothing else is (`only-root`): the theorem in units, said of fractions. Assumes nothing.
 use mathlib.Core.Path.{◌≡◌, refl, sym, ap, ◌∙◌, subst}
 use mathlib.Core.Bool.{true, false}
-use Prim.Native.Nat.{ℕ, ◌+◌, ◌*◌, ◌/◌, ◌^◌, ◌≤◌, ◌<◌}
-use native.Mathlib.Nat.{lt_irrefl, lt_trans, le_antisymm, le_of_suc-le-suc, lt_of_not-le, add_comm, le_of_eq, lt_of_lt_of_le, lt_of_le_of_lt, mul_comm, mul_assoc, mul_left_comm, mul_right_comm, mul-mul-mul_comm, mul-lt-mul_of_pos_right, lt_of_mul-lt-mul_right, mul-pos, mul-div_cancel, add-mul}
+use Prim.Native.Nat.{ℕ, ◌+◌, ◌*◌, ◌^◌, ◌≤◌, ◌<◌}
+use native.Mathlib.Nat.{lt_irrefl, lt_trans, le_antisymm, le_of_suc-le-suc, lt_of_not-le, add_comm, le_of_eq, lt_of_lt_of_le, lt_of_le_of_lt, mul_comm, mul_assoc, mul_left_comm, mul_right_comm, mul-mul-mul_comm, mul-lt-mul_of_pos_right, lt_of_mul-lt-mul_right, mul-pos, add-mul}
 use lib.Dec.{T}
 use lib.Pow.{pow_pos}
 use lib.Ieee.{Float, nan, inf, fin, binary32, down, fits}
@@ -12,6 +12,7 @@ use lib.Ieee.Positive.{positive, positive-finite, num, den, den_pos}
 use Rattle.rounding.proofs.Units.{on-grid, same-value, units_of}
 use Rattle.scalar.specs.Root.{sq, steps, sqrt_of, CorrectRoot}
 use Rattle.scalar.specs.Laws.{SqrtCorrect, OnlyRoot}
+use Rattle.scalar.proofs.Patterns.{steps-is}
 use Rattle.scalar.proofs.RootInUnits.{IsRoot, sqrt-in-units}
 
 -- the units of a value that the format holds are its fraction times 2 ^ 149, with nothing left over
@@ -20,7 +21,7 @@ exact nan h k = absurd k
 exact (inf s) h k = absurd k
 exact (fin s m e) h k =
     let g = on-grid binary32 s m e h in
-    g.3 ∙ ap (λ (x : ℕ). x * down e) (sym (ap (λ (x : ℕ). x / down e) g.3 ∙ mul-div_cancel (g.0 * 2 ^ g.1) (down_pos e)))
+    g.3 ∙ ap (λ (x : ℕ). x * down e) (sym (steps-is (fin s m e) s (g.0 * 2 ^ g.1) (refl, g.3)))
 
 -- ---- an order of fractions is one of units: a / d and b / e are M / L and N / L
 less : (a b d e M N L : ℕ) → a * L ≡ M * d → b * L ≡ N * e → a * e < b * d → 0 < L → M < N

@@ -2,7 +2,7 @@
 use mathlib.Core.Path.{◌≡◌, refl, sym, ap, ap₂, ◌∙◌, subst}
 use mathlib.Core.Bool.{Bool, true, false, not, ◌&&◌, ◌||◌}
 use Prim.Native.Nat.{ℕ, ◌*◌, ◌%◌, ◌^◌, ◌≤◌, ◌<◌}
-use lib.Dec.{T, eqb, eqb_refl}
+use lib.Dec.{T, lit<, eqb, eqb_refl}
 use lib.Ieee.{Float, nan, inf, fin, binary32, up, down, div, eq, ne, is_nan, nan_bits, of_bits}
 use lib.Ieee.Bits.{is_true, nan_bits_is, nan_bits_above}
 use lib.Ieee.Compare.{differs_from_itself}
@@ -33,6 +33,10 @@ not-nan x e = subst (λ (t : Bool). T (not t)) (sym (sym (differs-is-nan x) ∙ 
 -- ---- patterns
 pub nan_pattern : (b : ℕ) → 0x7f80_0000 < b % 2 ^ 31 → of_bits binary32 b ≡ nan
 nan_pattern b h = nan-only (of_bits binary32 b) (sym (nan_bits_is binary32 b) ∙ nan_bits_above binary32 b ∙ lt-ltb (255 * 2 ^ 23) (b % 2 ^ 31) h)
+
+-- the one that code and definitions write
+pub the-nan : of_bits binary32 0x7fc0_0000 ≡ nan
+the-nan = nan_pattern 0x7fc0_0000 (lit< tt)
 
 pub number-pattern : (b : ℕ) → b % 2 ^ 31 ≤ 0x7f80_0000 → T (not (nan_bits binary32 b))
 number-pattern b h = subst (λ (x : Bool). T (not x)) (sym (nan_bits_above binary32 b ∙ le-ltb (255 * 2 ^ 23) (b % 2 ^ 31) h)) tt

@@ -2,15 +2,15 @@
 -- no value of the format lies inside the cell that holds the root, and the middle of two values is below or above √x as its square is below or above x. Assumes nothing.
 use mathlib.Core.Path.{◌≡◌, refl, sym, ap, ◌∙◌, subst}
 use mathlib.Core.Logic.{◌⊎◌, inl, inr}
-use mathlib.Core.Bool.{Bool, true, false, ◌&&◌}
+use mathlib.Core.Bool.{true, false, ◌&&◌}
 use Prim.Native.Nat.{ℕ, zero, suc, ◌+◌, ◌-◌, ◌*◌, ◌/◌, ◌%◌, ◌^◌, ◌≤◌, ◌<◌}
-use native.Mathlib.Nat.{le_trans, le_of_eq, le_of_lt, le_of_suc-le-suc, lt_of_lt_of_le, lt_of_le_of_lt, zero-lt-suc, eq-or-lt_of_le, mul_comm, mul_assoc, mul_right_comm, mul-le-mul, mul-le-mul_left, mul-le-mul_right, mul-lt-mul_of_pos_right, mul-lt-mul_of_pos_left, lt_of_mul-lt-mul_right, mul-mul-mul_comm, mul-pos, mul-div_cancel, mod-lt, suc-mul, pow-suc, not-suc-le-zero}
+use native.Mathlib.Nat.{le_trans, le_of_eq, le_of_lt, le_of_suc-le-suc, lt_of_lt_of_le, lt_of_le_of_lt, zero-lt-suc, eq-or-lt_of_le, mul_comm, mul_assoc, mul_right_comm, mul-le-mul, mul-le-mul_left, mul-le-mul_right, mul-lt-mul_of_pos_right, mul-lt-mul_of_pos_left, lt_of_mul-lt-mul_right, mul-mul-mul_comm, mul-pos, mod-lt, suc-mul, pow-suc, not-suc-le-zero}
 use native.Mathlib.Omega.{arith}
 use lib.IntN.{ℤ}
 use lib.Dec.{T, leb, ltb, eqb, ltb→lt}
 use lib.Pow.{pow-add, pow_pos}
 use lib.Ieee.{Float, nan, inf, fin, binary32, up, down, fits}
-use lib.Ieee.Fits.{down_pos, up_pos, and_r}
+use lib.Ieee.Fits.{up_pos, and_r}
 use lib.Ieee.Exact.{HasValue}
 use lib.Ieee.Scale.{finite}
 use lib.Ieee.Positive.{positive, positive_of_value, first_pos}
@@ -23,7 +23,7 @@ use Rattle.scalar.proofs.WholeRoot.{Root, root_is}
 use Rattle.scalar.proofs.RootDigits.{span, split, root-low, no_tie, up_one}
 use Rattle.scalar.proofs.RootPattern.{digits_in, root-fits, root-value}
 use Rattle.scalar.proofs.Normalise.{Shifted, shifted, pow_lt_back}
-use Rattle.scalar.proofs.Patterns.{sqrt-at}
+use Rattle.scalar.proofs.Patterns.{steps-is, sqrt-at}
 
 -- r is the correctly rounded root of x, in units: √x is √(x * 2 ^ 149) units
 pub record IsRoot (x r : Float) : Type 0 where
@@ -132,12 +132,6 @@ module _ (A Q G N W : ℕ) (q : Root A Q) (g : 0 < G) (no-odd-root : Q % 2 ≡ 1
   upper Y (even e w) (inr o) h = over A Q G q g (Y + N) (omega arith)
   upper Y (odd p e w) o h = over A Q G q g (Y + N) (omega arith)
 
--- ---- a value in units
-units-is : (v : Float) (s : Bool) (N : ℕ) → HasValue v s N (2 ^ 149) → steps v ≡ N
-units-is nan s N h = elim h [ ]
-units-is (inf _) s N h = elim h [ ]
-units-is (fin t m e) s N h = ap (λ (x : ℕ). x / down e) h.1 ∙ mul-div_cancel N (down_pos e)
-
 -- ---- the theorem, of a value of N units
 module _ (x : Float) (N : ℕ) (X : HasValue x false N (2 ^ 149)) (p : 0 < N) (n : Normal N) where
   root-of : IsRoot x (root_of_units N)
@@ -203,10 +197,10 @@ module _ (x : Float) (N : ℕ) (X : HasValue x false N (2 ^ 149)) (p : 0 < N) (n
       par = subst (λ (y : ℕ). Parity Q G (root_digits m h * y) W) (sym step_is) (parity Q G)
 
       a-is : steps x * 2 ^ 149 ≡ A * (G * G)
-      a-is = ap (λ (y : ℕ). y * 2 ^ 149) (units-is x false N X) ∙ is ∙ split m h least
+      a-is = ap (λ (y : ℕ). y * 2 ^ 149) (steps-is x false N X) ∙ is ∙ split m h least
 
       r-is : steps r ≡ M
-      r-is = units-is r false M value
+      r-is = steps-is r false M value
 
       no-odd : Q % 2 ≡ 1 → Q * Q < A
       no-odd o = strict (eq-or-lt_of_le (root_is A).0)
@@ -227,7 +221,7 @@ module _ (x : Float) (N : ℕ) (X : HasValue x false N (2 ^ 149)) (p : 0 < N) (n
       out (inf t) k z = absurd z
       out (fin t a e) k z =
           let o = on-grid binary32 t a e k in
-          subst (λ (v : ℕ). Out W (G * 2) v) (sym (units-is (fin t a e) t (o.0 * 2 ^ o.1) (refl, o.3)))
+          subst (λ (v : ℕ). Out W (G * 2) v) (sym (steps-is (fin t a e) t (o.0 * 2 ^ o.1) (refl, o.3)))
           (subst (λ (v : ℕ). Out (Q / 2 * v) v (o.0 * 2 ^ o.1)) step_is (cell 24 (Q / 2) (h / 2) o.0 o.1 (zero-lt-suc 23) (λ _. half-low-Q) o.2))
 
       go-below : (y : Float) → T (fits binary32 y) → T (finite y) → steps y < steps r
