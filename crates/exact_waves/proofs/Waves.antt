@@ -2,7 +2,7 @@
 use mathlib.Core.Path.{◌≡◌, refl, sym, ap, ap₂, ◌∙◌, subst, subst₂}
 use mathlib.Core.Bool.{Bool, true, false, not, cond, beq}
 use Prim.Native.Nat.{ℕ, suc, ◌+◌, ◌-◌, ◌*◌, ◌/◌, ◌%◌, ◌^◌, ◌≤◌, ◌<◌}
-use native.Mathlib.Nat.{lt_of_not-le, not-le_of_lt, le_trans, le_of_eq, le_of_lt, lt_of_lt_of_le, mul_assoc, mul_comm, mul_right_comm, mul-le-mul, mul-le-mul_left, mul-le-mul_right, le-mul_of_pos_right, le_of_mul-le-mul_right, eq_of_mul-eq-mul_right}
+use native.Mathlib.Nat.{add-sub_of_le, lt_of_not-le, not-le_of_lt, le_trans, le_of_eq, le_of_lt, lt_of_lt_of_le, mul_assoc, mul_comm, mul_right_comm, mul-le-mul, mul-le-mul_left, mul-le-mul_right, le-mul_of_pos_right, le_of_mul-le-mul_right, eq_of_mul-eq-mul_right}
 use native.Mathlib.Omega.{arith}
 use mathlib.Core.Logic.{◌⊎◌, inl, inr}
 use lib.Dec.{T, eqb, leb, lit<, lit≤}
@@ -161,12 +161,6 @@ module _ (b : ℕ) (h : b % 2 ^ 31 ≤ 0x4080_0000) where
   X-grain : Grain (mag_of (b % 2 ^ 31))
   X-grain = grain (b % 2 ^ 31)
 
-  rest_of : (X T : ℕ) → X ≤ T → X + (T - X) ≡ T
-  rest_of X T l = omega arith
-
-  past_of : (X T : ℕ) → T < X → T + (X - T) ≡ X
-  past_of X T l = omega arith
-
   direct : X ≤ quarter_turn → Folded sine b true
   direct l =
       let m : X < 2 ^ 62 = le_trans (lt-suc X quarter_turn l) (lit≤ tt) in
@@ -192,7 +186,7 @@ module _ (b : ℕ) (h : b % 2 ^ 31 ≤ 0x4080_0000) where
         least = below_half X X-grain l;
         most = m;
         bits = sin-below X (b / 2 ^ 31) k l;
-        near = fold-plus sine X (half_turn - X) X-le m (sin-below-half X (half_turn - X) X-five (le_of_lt m) (rest_of X half_turn l));
+        near = fold-plus sine X (half_turn - X) X-le m (sin-below-half X (half_turn - X) X-five (le_of_lt m) (add-sub_of_le l));
       }
     where
       go : (X : ℕ) → quarter_turn < X → half_turn - X < 2 ^ 62
@@ -206,7 +200,7 @@ module _ (b : ℕ) (h : b % 2 ^ 31 ≤ 0x4080_0000) where
         least = above_half X X-grain k;
         most = m;
         bits = sin-above X (b / 2 ^ 31) k;
-        near = fold-minus sine X (X - half_turn) X-le m (sin-above-half X (X - half_turn) X-five (le_of_lt m) (past_of X half_turn k));
+        near = fold-minus sine X (X - half_turn) X-le m (sin-above-half X (X - half_turn) X-five (le_of_lt m) (add-sub_of_le (le_of_lt k)));
       }
     where
       go : (X : ℕ) → X ≤ 2 ^ 63 → X - half_turn < 2 ^ 62
@@ -220,7 +214,7 @@ module _ (b : ℕ) (h : b % 2 ^ 31 ≤ 0x4080_0000) where
         least = below-quarter X X-grain l;
         most = m;
         bits = cos-below X (b / 2 ^ 31) l;
-        near = fold-plus cosine X (quarter_turn - X) X-le m (cos-below-quarter X (quarter_turn - X) X-five (le_of_lt m) (rest_of X quarter_turn l));
+        near = fold-plus cosine X (quarter_turn - X) X-le m (cos-below-quarter X (quarter_turn - X) X-five (le_of_lt m) (add-sub_of_le l));
       }
     where
       go : (X : ℕ) → quarter_turn - X < 2 ^ 62
@@ -234,7 +228,7 @@ module _ (b : ℕ) (h : b % 2 ^ 31 ≤ 0x4080_0000) where
         least = above-quarter X X-grain k;
         most = m;
         bits = cos-above X (b / 2 ^ 31) k l;
-        near = fold-minus cosine X (X - quarter_turn) X-le m (cos-above-quarter X (X - quarter_turn) X-five (le_of_lt m) (past_of X quarter_turn k));
+        near = fold-minus cosine X (X - quarter_turn) X-le m (cos-above-quarter X (X - quarter_turn) X-five (le_of_lt m) (add-sub_of_le (le_of_lt k)));
       }
     where
       go : (X : ℕ) → X ≤ half_turn → X - quarter_turn < 2 ^ 62
@@ -248,7 +242,7 @@ module _ (b : ℕ) (h : b % 2 ^ 31 ≤ 0x4080_0000) where
         least = away X X-le;
         most = m;
         bits = cos-beyond X (b / 2 ^ 31) k;
-        near = fold-minus cosine X (three_quarters - X) X-le m (cos-below-three X (three_quarters - X) X-five (le_of_lt m) (rest_of X three_quarters (le_trans X-le (lit≤ tt))));
+        near = fold-minus cosine X (three_quarters - X) X-le m (cos-below-three X (three_quarters - X) X-five (le_of_lt m) (add-sub_of_le (le_trans X-le (lit≤ tt))));
       }
     where
       go : (X : ℕ) → half_turn < X → three_quarters - X < 2 ^ 62

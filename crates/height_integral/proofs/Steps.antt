@@ -3,7 +3,7 @@
 use mathlib.Core.Path.{◌≡◌, refl, sym, ap, ◌∙◌, subst}
 use mathlib.Core.Logic.{◌⊎◌, inl, inr}
 use Prim.Native.Nat.{ℕ, zero, suc, ◌+◌, ◌-◌, ◌*◌, ◌^◌, ◌≤◌, ◌<◌}
-use native.Mathlib.Nat.{le_trans, le_of_eq, le_of_lt, le-add_left, sub-le, lt_of_lt_of_le, lt_of_le_of_lt, eq-or-lt_of_le, mul_comm, mul_assoc, one-mul, mul-sub, mul-le-mul_right, lt_of_mul-lt-mul_right}
+use native.Mathlib.Nat.{le_trans, le_of_eq, le_of_lt, le-add_left, sub-le, suc-mul, lt_of_lt_of_le, lt_of_le_of_lt, eq-or-lt_of_le, mul_comm, mul_assoc, one-mul, mul-sub, mul-le-mul_right, lt_of_mul-lt-mul_right}
 use native.Mathlib.Omega.{arith}
 use mathlib.Core.Bool.{Bool, false}
 use lib.IntN.{ℤ}
@@ -47,10 +47,7 @@ abbrev pub Up : Format → ℕ → ℕ → Type 0
 Up f m x = (n : ℕ) × (0 < n) × (m + n ≤ x) × Value f n × Value f (m + n)
 
 next : (a b K : ℕ) → a < b → a * K + K ≤ b * K
-next a b K h = le_trans (le_of_eq (sym (suc-times a K))) (mul-le-mul_right K h)
-  where
-    suc-times : (a K : ℕ) → suc a * K ≡ a * K + K
-    suc-times a K = omega arith
+next a b K h = le_trans (le_of_eq (sym (suc-mul a K))) (mul-le-mul_right K h)
 
 up_at : (f : Format) (a b k m x : ℕ) → m ≡ a * 2 ^ k → x ≡ b * 2 ^ k → m < x → a < 2 ^ prec f ⊎ b < 2 ^ prec f → x < overflow f → Up f m x
 up_at f a b k m x em ex h d l =

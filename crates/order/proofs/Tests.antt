@@ -14,6 +14,7 @@ use Rattle.order.proofs.Keys.{same_test, lt-key, le-key, mag_of, mag-le}
 use Rattle.order.proofs.Sums.{total-below, total-above, total-from, total-upto, sub-key, sub-real, finite-real}
 
 -- ---- zero
+-- scalar has it too, and neither stands on the other
 pub nought-is : of_bits binary32 0 ≡ nought
 unfolding of_bits
 nought-is = refl

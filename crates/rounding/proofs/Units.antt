@@ -14,7 +14,7 @@ use lib.Ieee.Bits.{of_bits-to_bits}
 use Rattle.rounding.specs.TiesToEven.{gap, off}
 
 -- ---- distances in units
-gap-mul : (x y z : ℕ) → gap (x * z) (y * z) ≡ gap x y * z
+pub gap-mul : (x y z : ℕ) → gap (x * z) (y * z) ≡ gap x y * z
 gap-mul x y z = sym (add-mul (x - y) (y - x) z ∙ ap (λ (a : ℕ). a + (y - x) * z) (one x y) ∙ ap (λ (a : ℕ). x * z - y * z + a) (one y x))
   where
     one : (x y : ℕ) → (x - y) * z ≡ x * z - y * z

@@ -45,14 +45,11 @@ record Normal (N : ℕ) : Type 0 where
 normal : (q j : ℕ) → 0 < q → q < 2 ^ 24 → q * 2 ^ j < 2 ^ 277 → Normal (q * 2 ^ j)
 normal q j p l b = go (count_leading_zeros 32 q - 8) (shifted q j p l)
   where
-    swap : (q a b : ℕ) → q * a * b ≡ q * b * a
-    swap q a b = omega arith
-
     go : (z : ℕ) → Shifted q j z (q * 2 ^ z) (j + 126 - z) → Normal (q * 2 ^ j)
     go z s =
         let few : 23 + j < 277 + z =
         pow_lt_back (23 + j) (277 + z)
-        (lt_of_le_of_lt (le_trans (le_of_eq (pow-add 2 23 j)) (le_trans (mul-le-mul_right (2 ^ j) s.low) (le_of_eq (swap q (2 ^ z) (2 ^ j)))))
+        (lt_of_le_of_lt (le_trans (le_of_eq (pow-add 2 23 j)) (le_trans (mul-le-mul_right (2 ^ j) s.low) (le_of_eq (mul_right_comm q (2 ^ z) (2 ^ j)))))
         (lt_of_lt_of_le (mul-lt-mul_of_pos_right b (pow_pos z)) (le_of_eq (sym (pow-add 2 277 z))))) in
         record {
           m = q * 2 ^ z;
