@@ -2,7 +2,7 @@
 use mathlib.Core.Path.{◌≡◌, refl, sym, ◌∙◌, subst, subst₂}
 use mathlib.Core.Logic.{◌⊎◌, inl, inr}
 use Prim.Native.Nat.{ℕ, ◌+◌, ◌-◌, ◌*◌, ◌/◌, ◌%◌, ◌^◌, ◌≤◌, ◌<◌}
-use native.Mathlib.Nat.{le-add_right, le_antisymm, le_trans, le_of_eq, le_of_lt, lt_of_lt_of_le, mul-one, mul-le-mul, mul-le-mul_left, mul-lt-mul_of_pos_right}
+use native.Mathlib.Nat.{le_antisymm, le_trans, le_of_eq, le_of_lt, lt_of_lt_of_le, mul-one, mul-le-mul, mul-le-mul_left, mul-lt-mul_of_pos_right}
 use native.Mathlib.Omega.{arith}
 use lib.Dec.{leb}
 use lib.Pow.{pow_pos, pow_mono, pow-add}
@@ -22,7 +22,10 @@ finite-value b h =
     (λ l. (b % 2 ^ 23 * 1, subnormal b l, inl (l, omega arith)))
     (λ l. (digits (b % 2 ^ 31) * 2 ^ (b % 2 ^ 31 / 2 ^ 23 - 1), normal-value b l h, inr (l, refl)))
 
-dig-high : (a : ℕ) → digits a < 2 ^ 24
+pub dig-low : (a : ℕ) → 2 ^ 23 ≤ digits a
+dig-low a = omega arith
+
+pub dig-high : (a : ℕ) → digits a < 2 ^ 24
 dig-high a = omega arith
 
 at_least : (m e : ℕ) → m ≤ m * 2 ^ e
@@ -39,12 +42,12 @@ apart d d' e e' h k l g =
 
 pub size-lt : (a a' v v' : ℕ) → Size a v → Size a' v' → a < a' → v < v'
 size-lt a a' v v' (inl (l, e)) (inl (l', e')) h = omega arith
-size-lt a a' v v' (inl (l, e)) (inr (l', e')) h = let g = le_trans (le-add_right (2 ^ 23) (a' % 2 ^ 23)) (at_least (digits a') (a' / 2 ^ 23 - 1)) in omega (arith, l, e, e', g)
+size-lt a a' v v' (inl (l, e)) (inr (l', e')) h = let g = le_trans (dig-low a') (at_least (digits a') (a' / 2 ^ 23 - 1)) in omega (arith, l, e, e', g)
 size-lt a a' v v' (inr (l, e)) (inl (l', e')) h = absurd (no a a' l l' h)
   where
     no : (a a' : ℕ) → 2 ^ 23 ≤ a → a' < 2 ^ 23 → a < a' → ⊥
     no a a' x y z = omega arith
-size-lt a a' v v' (inr (l, e)) (inr (l', e')) h = subst₂ (λ (x y : ℕ). x < y) (sym e) (sym e') (split (a / 2 ^ 23) (a' / 2 ^ 23) (λ g. apart (digits a) (digits a') (a / 2 ^ 23) (a' / 2 ^ 23) (dig-high a) (le-add_right (2 ^ 23) (a' % 2 ^ 23)) (omega arith) g) (λ g. level (omega arith)))
+size-lt a a' v v' (inr (l, e)) (inr (l', e')) h = subst₂ (λ (x y : ℕ). x < y) (sym e) (sym e') (split (a / 2 ^ 23) (a' / 2 ^ 23) (λ g. apart (digits a) (digits a') (a / 2 ^ 23) (a' / 2 ^ 23) (dig-high a) (dig-low a') (omega arith) g) (λ g. level (omega arith)))
   where
     level : a / 2 ^ 23 ≡ a' / 2 ^ 23 → digits a * 2 ^ (a / 2 ^ 23 - 1) < digits a' * 2 ^ (a' / 2 ^ 23 - 1)
     level g = subst (λ (x : ℕ). digits a * 2 ^ (a / 2 ^ 23 - 1) < digits a' * 2 ^ (x - 1)) g (mul-lt-mul_of_pos_right {m = digits a} {n = digits a'} (omega arith) (pow_pos (a / 2 ^ 23 - 1)))

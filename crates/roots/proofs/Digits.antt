@@ -7,7 +7,7 @@ use lib.Pow.{pow-add}
 use lib.Ieee.{binary32, of_bits}
 use Rattle.scalar.specs.Root.{root, sqrt_of}
 use Rattle.scalar.specs.RootPattern.{radicand, root_digits, root_pattern}
-use Rattle.scalar.proofs.RootDigits.{fourfold}
+use Rattle.scalar.proofs.RootDigits.{digits_lt, fourfold}
 use Rattle.scalar.proofs.RoundedRoot.{rounded}
 use Rattle.scalar.proofs.RootPattern.{root-pattern}
 use Rattle.scalar.proofs.Normalise.{pattern_lt}
@@ -20,9 +20,6 @@ m b = 2 ^ 23 + b % 2 ^ 23
 
 abbrev h : ℕ → ℕ
 h b = b / 2 ^ 23 + 125
-
-high : (b : ℕ) → m b < 2 ^ 24
-high b = omega arith
 
 -- what is rooted is a fourth of the radicand
 rooted-is : (b : ℕ) → 4 * rooted b ≡ radicand (m b) (h b)
@@ -57,11 +54,11 @@ pub right-is-root : (b r : ℕ) → Normal b → Right b r → of_bits binary32 
 right-is-root b r n p =
     let f = field_in b n in
     ap (of_bits binary32) (pattern-is b r p)
-    ∙ sym (root-pattern (m b * 2 ^ (b / 2 ^ 23 - 1)) (m b) (h b) (le-add_right (2 ^ 23) (b % 2 ^ 23)) (high b) (omega arith) f.1 (units (m b) (b / 2 ^ 23) f.0))
+    ∙ sym (root-pattern (m b * 2 ^ (b / 2 ^ 23 - 1)) (m b) (h b) (le-add_right (2 ^ 23) (b % 2 ^ 23)) (digits_lt b) (omega arith) f.1 (units (m b) (b / 2 ^ 23) f.0))
     ∙ sym (sqrt-normal b n.1 f.0)
 
 pub right-finite : (b r : ℕ) → Normal b → Right b r → packed_pattern b r < 0x7f80_0000
-right-finite b r n p = subst (λ (x : ℕ). x < 0x7f80_0000) (sym (pattern-is b r p)) (pattern_lt (m b) (h b) (le-add_right (2 ^ 23) (b % 2 ^ 23)) (high b) (field_in b n).1)
+right-finite b r n p = subst (λ (x : ℕ). x < 0x7f80_0000) (sym (pattern-is b r p)) (pattern_lt (m b) (h b) (le-add_right (2 ^ 23) (b % 2 ^ 23)) (digits_lt b) (field_in b n).1)
 
 -- ---- the test by quotients: with S for r * r and n for what is rooted
 pub test-small : (S n r : ℕ) → S < 2 ^ 50 → n < 2 ^ 49 → r < 2 ^ 25 → (S + 2 ^ 62 - n + r) / 2 ^ 62 - (S + 2 ^ 62 - n - r) / 2 ^ 62 ≤ 1

@@ -19,6 +19,10 @@ use Rattle.scalar.proofs.WholeRoot.{Root, square, root_is, root_ge, root-lt}
 use Rattle.rounding.proofs.LastDigit.{size_exact}
 use Rattle.scalar.proofs.Closest.{closest-only}
 
+-- a leading digit and the 23 last ones of any number
+pub digits_lt : (b : ℕ) → 2 ^ 23 + b % 2 ^ 23 < 2 ^ 24
+digits_lt b = omega arith
+
 -- ---- A
 abbrev Span : ℕ → Type 0
 Span A = (2 ^ 48 ≤ A) × (A < 2 ^ 50) × (A % 2 ≡ 0)

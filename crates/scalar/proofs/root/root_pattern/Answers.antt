@@ -6,7 +6,7 @@ use native.Mathlib.Omega.{arith}
 use lib.Dec.{lit<}
 use Rattle.scalar.specs.Root.{root}
 use Rattle.scalar.specs.RootPattern.{radicand, root_digits}
-use Rattle.scalar.proofs.RootDigits.{span, fourfold}
+use Rattle.scalar.proofs.RootDigits.{digits_lt, span, fourfold}
 use Rattle.scalar.proofs.RootPattern.{digits_in}
 use Rattle.scalar.proofs.root.root_pattern.Goals.{After-rounded_root-digits}
 use Rattle.scalar.proofs.root.root_pattern.Goals as goal
@@ -22,11 +22,8 @@ h e = e / 2 ^ 23
 abbrev rooted : ℕ → ℕ
 rooted e = m e * (2 ^ 23 + h e % 2 * 2 ^ 23)
 
-high : (e : ℕ) → m e < 2 ^ 24
-high e = omega arith
-
 rooted-in : (e : ℕ) → (0 < rooted e) × (rooted e < 2 ^ 48)
-rooted-in e = let s = span (m e) (h e) (le-add_right (2 ^ 23) (e % 2 ^ 23)) (high e) in within (rooted e) (radicand (m e) (h e)) (fourfold (m e) (h e)) s.0 s.1
+rooted-in e = let s = span (m e) (h e) (le-add_right (2 ^ 23) (e % 2 ^ 23)) (digits_lt e) in within (rooted e) (radicand (m e) (h e)) (fourfold (m e) (h e)) s.0 s.1
   where
     within : (n A : ℕ) → 4 * n ≡ A → 2 ^ 48 ≤ A → A < 2 ^ 50 → (0 < n) × (n < 2 ^ 48)
     within n A f a b = (omega arith, omega arith)
@@ -36,7 +33,7 @@ result-is : (c : After-rounded_root-digits) → c.rounded_root-digits.result ≡
 result-is c = c.rounded_root-digits.ensures ∙ ap (λ (x : ℕ). (root x + 1) / 2) (fourfold (m c.args.e) (h c.args.e))
 
 result-le : (c : After-rounded_root-digits) → c.rounded_root-digits.result ≤ 2 ^ 24
-result-le c = let e = c.args.e in subst (λ (x : ℕ). x ≤ 2 ^ 24) (sym (result-is c)) (digits_in (m e) (h e) (le-add_right (2 ^ 23) (e % 2 ^ 23)) (high e)).1
+result-le c = let e = c.args.e in subst (λ (x : ℕ). x ≤ 2 ^ 24) (sym (result-is c)) (digits_in (m e) (h e) (le-add_right (2 ^ 23) (e % 2 ^ 23)) (digits_lt e)).1
 
 pub overflow_mul-n : goal.overflow_mul-n
 overflow_mul-n c = record { fits = lt_trans (rooted-in c.args.e).1 (lit< tt) }
