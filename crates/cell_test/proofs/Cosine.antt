@@ -16,8 +16,8 @@ use Rattle.scalar.specs.Scalar.{or_second, max_of}
 use Rattle.order.specs.Units.{real, sgn, mag, key, total}
 use Rattle.order.proofs.Keys.{mag-le}
 use Rattle.order.proofs.Sums.{round-as, total_mono, sub-key}
-use Rattle.order.proofs.Tests.{keys→le, le-real}
-use Rattle.order.proofs.Chains.{lt_not_le, not-le-lt}
+use Rattle.order.proofs.Tests.{keys→le, le-real, not-le-lt}
+use Rattle.std.proofs.lemmas.Float.{lt_irrefl, lt_of_lt_of_le}
 use Rattle.cell_test.specs.Cell.{sqcos_of}
 
 -- ---- a square has no sign
@@ -86,7 +86,7 @@ first d f h = go d refl (le-real f0_000001 d t).1
     t = subst T (sym h) tt
 
     less : lt d f0_000001 ≡ false
-    less = is_false (lt d f0_000001) (not_T (lt d f0_000001) (λ l. lt_not_le binary32 d f0_000001 f small-fits l t))
+    less = is_false (lt d f0_000001) (not_T (lt d f0_000001) (λ l. lt_irrefl d (lt_of_lt_of_le d f0_000001 d l t)))
 
     go : (z : Float) → d ≡ z → T (real d) → (is_nan d || lt d f0_000001) ≡ false
     go nan e r = absurd (subst (λ (z : Float). T (real z)) e r)

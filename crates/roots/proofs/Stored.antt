@@ -3,7 +3,7 @@ use mathlib.Core.Path.{◌≡◌, refl, sym, ◌∙◌, subst}
 use mathlib.Core.Logic.{inl, inr}
 use mathlib.Core.List.{List}
 use Prim.Native.Nat.{ℕ, zero, suc, ◌≤◌, ◌<◌}
-use native.Mathlib.Nat.{eq-or-lt_of_le, not-suc-le-zero}
+use native.Mathlib.Nat.{eq-or-lt_of_le, le_of_suc-le, le_of_suc-le-suc, not-suc-le-zero}
 use native.Mathlib.Omega.{arith}
 use lib.ListN.{length, get_or, set, length-set}
 use lib.Seq.{get_or-set_same, get_or-set_other}
@@ -12,12 +12,6 @@ use Rattle.roots.specs.Roots.{put_each}
 
 apart : (j k : ℕ) → j < k → j ≡ k → ⊥
 apart j k l e = omega arith
-
-under : (j n : ℕ) → j < suc n → j ≤ n
-under j n l = omega arith
-
-less : (n m : ℕ) → suc n ≤ m → n ≤ m
-less n m l = omega arith
 
 module _ {A : Type 0} where
   put-length : (f : ℕ → A) (l : List A) (n : ℕ) → length (put_each f l n) ≡ length l
@@ -30,9 +24,9 @@ module _ {A : Type 0} where
   unfolding put_each
   put-at f d l zero m k h = absurd (not-suc-le-zero h)
   put-at f d l (suc n) m k h =
-      elim (eq-or-lt_of_le (under k n h)) [
+      elim (eq-or-lt_of_le (le_of_suc-le-suc h)) [
         | inl e ↦ subst (λ (i : ℕ). get_or (set (put_each f l n) n (f n)) i d ≡ f i) (sym e) (get_or-set_same (put_each f l n) n (f n) d (subst (λ (z : ℕ). n < z) (sym (put-length f l n)) m))
-        | inr b ↦ get_or-set_other (put_each f l n) n k (f n) d (apart k n b) ∙ put-at f d l n (less n (length l) m) k b
+        | inr b ↦ get_or-set_other (put_each f l n) n k (f n) d (apart k n b) ∙ put-at f d l n (le_of_suc-le m) k b
       ]
 
   -- a list of all that is put
