@@ -1,13 +1,14 @@
 -- Of an array made by index: what each item is.
-use mathlib.Core.Path.{◌≡◌, sym, subst}
+use mathlib.Core.Path.{◌≡◌, sym, ◌∙◌, subst}
 use mathlib.Core.Logic.{inl, inr}
-use mathlib.Core.List.{List}
+use mathlib.Core.List.{List, map}
 use Prim.Native.Nat.{ℕ, zero, suc, ◌+◌, ◌≤◌, ◌<◌}
 use native.Mathlib.Nat.{eq-or-lt_of_le}
 use native.Mathlib.Omega.{arith}
 use denote.Param.Members.{Mut, Called}
-use lib.ListN.{get_or}
+use lib.ListN.{length, get_or, length-map}
 use Rattle.std.specs.Array.{IsFromFnResult, IsFromFnResultFrom}
+use Rattle.std.proofs.lemmas.List.{get_or-map, ext_get_or}
 
 module _ {F B : Type 0} (R : ℕ → B → Type 0) {g : Mut F (ℕ × Unit {0}) B} {f : F} {n : ℕ} (is : (k : ℕ) (y : B) (q : F) → k < n → Called g f (k, tt) y q → R k y × (q ≡ f)) where
   from : (ys : List B) (i m : ℕ) → i + m ≤ n → IsFromFnResultFrom g f ys i m → (d : B) (k : ℕ) → i ≤ k → k < i + m → R k (get_or ys k d)
@@ -22,3 +23,10 @@ module _ {F B : Type 0} (R : ℕ → B → Type 0) {g : Mut F (ℕ × Unit {0}) 
   -- what holds of what each call gives, where it leaves the function as it is
   pub from_fn_each : {ys : List B} → IsFromFnResult g f ys n → (d : B) (k : ℕ) → k < n → R k (get_or ys k d)
   from_fn_each {ys} r d k l = from ys 0 n (omega arith) r.each d k (omega arith) (omega arith)
+
+-- where each call gives what h makes of a list's item
+pub from_fn_map : {F A B : Type 0} (h : A → B) (xs : List A) (d : A) → B → {g : Mut F (ℕ × Unit {0}) B} {f : F} {n : ℕ} → length xs ≡ n → ((k : ℕ) (y : B) (q : F) → k < n → Called g f (k, tt) y q → (y ≡ h (get_or xs k d)) × (q ≡ f)) → {ys : List B} → IsFromFnResult g f ys n → ys ≡ map h xs
+from_fn_map {B = B} h xs d e {n = n} l is {ys} r =
+    ext_get_or e ys (map h xs)
+    (r.long ∙ sym l ∙ sym (length-map xs h))
+    (λ k b. let m = subst (λ (z : ℕ). k < z) r.long b in from_fn_each (λ k y. y ≡ h (get_or xs k d)) is r e k m ∙ sym (get_or-map h xs k d e (subst (λ (z : ℕ). k < z) (sym l) m)))
