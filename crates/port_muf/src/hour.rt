@@ -30,10 +30,7 @@ fn path_numbers_of(numbers: &[u32]) -> PathNumbers
     requires { 4 ≤ length numbers.now }
     ensures { result ≡ path_numbers_of numbers.now }
 {
-    let gcd = scalar::number(numbers[0]);
-    let gcdkm = scalar::number(numbers[1]);
-    let amind = scalar::number(numbers[2]);
-    let ssn = scalar::number(numbers[3]);
+    let [gcd, gcdkm, amind, ssn] = port_state::floats::<4>(numbers, 0);
     PathNumbers {
         gcd,
         gcdkm,

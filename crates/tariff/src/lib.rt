@@ -16,6 +16,7 @@ fn all_within(most: u32, xs: &[u32]) -> bool
     xs.iter().all(|x| *x <= most)
 }
 
+// Stays: the line of `traces::rises`, which is one call of the library's method; of a trace a tariff has nothing else.
 fn rises(tops: &[u32]) -> bool
     ensures { result ≡ rising tops.now }
 {
