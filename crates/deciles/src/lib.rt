@@ -100,9 +100,7 @@ pub fn f2dis(
     if f2d[0] <= 0.0 {
         return Ok(classical(fmuf));
     }
-    let Some(icc) = time_block(abb) else {
-        return Err(Refusal::TimeBlock);
-    };
+    let icc = time_block(abb).ok_or(Refusal::TimeBlock)?;
     let cl = clat * 57.29577;
     let iz = band(cl) + half(fmuf, freq);
     let j = row(ssn, cl);

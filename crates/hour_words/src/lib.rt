@@ -1,14 +1,33 @@
-// A MUF's answer as words: the hour, and the word of an Es row that is rewritten.
+// The words of a MUF: those it is called with, read as floats, and its answer's: the hour, and the word of an Es row that is
+// rewritten.
 // Stays: out with from, and out of 54 words, are the words that callers in C lend; the exports test
 // their lengths once, before all else.
 #![tactic(auto)]
 
 ghost use Rattle.std.specs.Prelude.{◌≡◌, ◌+◌, ◌≤◌, length};
+ghost use Rattle.deviation_words.specs.Floats.{floats};
 ghost use Rattle.hour_words.specs.HourWords.{ten_into, line_into, head_into, hour_into, WordThere, words_by};
 
 use layers::LayerMuf;
 use muf::MufHour;
+use muf::lent::Numbers;
 use sporadic::Rewrite;
+
+// Lent words, read as floats.
+#[derive(Clone, Copy)]
+pub struct Words<'a>(pub &'a [u32]);
+
+impl<'a> Numbers for Words<'a> {
+    ghost floats = { λ w. floats w.0.now };
+
+    fn count(self) -> usize {
+        self.0.len()
+    }
+
+    fn number(self, k: usize) -> f32 {
+        scalar::number(self.0[k])
+    }
+}
 
 // All of a line but its hop count, which stands at word 7.
 fn ten_into(l: LayerMuf, out: &mut [u32], from: usize)

@@ -214,7 +214,7 @@ pub fn muf_from_search<L: Numbers>(
 }
 
 // Row k of numbers that stand four a row.
-fn flat_row<L: Numbers>(es: L, k: usize) -> EsParams
+pub fn flat_row<L: Numbers>(es: L, k: usize) -> EsParams
     requires there { 4 * k + 3 < length (L.floats es) }
     requires fits { 4 * k + 3 < 2 ^ 64 }
     ensures { result ≡ row_at (L.floats es) k }

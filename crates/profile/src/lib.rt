@@ -13,9 +13,7 @@ use slot_curves::{Drawn, Slot};
 pub fn rises_throughout(htr: &[f32; 50]) -> bool
     ensures { result ≡ rises_of htr.now }
 {
-    htr.iter()
-        .zip(htr.iter().skip(1))
-        .all(|(lower, upper)| *lower < *upper)
+    htr.is_sorted_by(|lower, upper| *lower < *upper)
 }
 
 // Stays: `s` and `k` are the Rust's parameters here and in the crates above, and `k < 3` is asked of the number: it

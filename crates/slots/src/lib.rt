@@ -65,7 +65,6 @@ fn layer_from(mut s: IonoState, k: usize, p: usize, i: usize) -> IonoState
     s
 }
 
-// Stays: two and three slots apart, as in the Rust.
 fn two_slots(mut s: IonoState) -> IonoState
     ensures { result ≡ two_slots s }
 {
@@ -75,14 +74,13 @@ fn two_slots(mut s: IonoState) -> IonoState
     layer_from(s2, 1, 2, 1)
 }
 
-fn three_slots(mut s: IonoState) -> IonoState
+// The three copies of two slots, and four more.
+fn three_slots(s: IonoState) -> IonoState
     ensures { result ≡ three_slots s }
 {
-    s.kfx = 3;
-    let s1 = layer_from(s, 0, 1, 2);
-    let s2 = layer_from(s1, 1, 2, 0);
-    let s3 = layer_from(s2, 1, 2, 1);
-    let s4 = layer_from(s3, 1, 2, 2);
+    let mut t = two_slots(s);
+    t.kfx = 3;
+    let s4 = layer_from(t, 1, 2, 2);
     let s5 = layer_from(s4, 2, 4, 0);
     let s6 = layer_from(s5, 2, 4, 1);
     layer_from(s6, 2, 3, 2)

@@ -95,16 +95,13 @@ fn true_rows(s: IonoState, fv: [f32; 30]) -> TrueColumns
     TrueColumns { htrue, segment }
 }
 
-// Stays: as the `hp` of `parabolic` in layer_mufs; the Rust writes it out in each of its two modules.
 fn virtual_by_parabola(s: IonoState, k: usize, f: f32) -> f32
     requires { k < 3 }
     ensures { result ≡ virtual_by_parabola s k f }
 {
     let e = 3 * k;
     let f2 = 3 * k + 2;
-    let bend = parabolas::bendy_at(s.fi[f2], s.yi[f2], f);
-    let lag = parabolas::pen_at(s.fi[e], s.yi[e], f);
-    s.hi[f2] - s.yi[f2] + bend + (lag - 2.0 * s.yi[e])
+    parabolas::height_over_e(s.fi[e], s.yi[e], s.fi[f2], s.yi[f2], s.hi[f2], f)
 }
 
 // Ten rows of a table, and the twenty after them, each by its frequency.

@@ -53,9 +53,7 @@ fn figure_price(tenths: u32, tops: &[u32], rates: &[u32], seconds: u32) -> Resul
     requires { tariff_good tops.now rates.now ≡ true }
     ensures { result ≡ figure_price tenths tops.now rates.now seconds }
 {
-    let Some(band) = first_band(tenths, tops) else {
-        return Err(Refusal::Tariff);
-    };
+    let band = first_band(tenths, tops).ok_or(Refusal::Tariff)?;
     if !(1..=86400).contains(&seconds) {
         return Err(Refusal::Seconds);
     }

@@ -1,6 +1,6 @@
 -- Row by row as the code stores them.
 use Rattle.losses.specs.Alosfv.{loss_stored, cusp_of}
-use Rattle.losses.proofs.cusp.Goals as goal
+use Rattle.losses.proofs.Factors.cusp.Goals as goal
 
 pub returns : goal.returns
 unfolding cusp_of loss_stored

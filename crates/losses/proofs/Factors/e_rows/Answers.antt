@@ -3,7 +3,7 @@ use native.Mathlib.Nat.{le_antisymm}
 use native.Mathlib.Numerals.{add-one}
 use native.Mathlib.Omega.{arith}
 use Rattle.losses.specs.Alosfv.{loss_stored, e_rows}
-use Rattle.losses.proofs.e_rows.Goals as goal
+use Rattle.losses.proofs.Factors.e_rows.Goals as goal
 
 pub loop-ih-init : goal.loop-ih-init
 unfolding e_rows

@@ -3,7 +3,7 @@ use native.Mathlib.Nat.{le_antisymm}
 use native.Mathlib.Numerals.{add-one}
 use native.Mathlib.Omega.{arith}
 use Rattle.losses.specs.Alosfv.{loss_stored, tail_rows}
-use Rattle.losses.proofs.tail_rows.Goals as goal
+use Rattle.losses.proofs.Factors.tail_rows.Goals as goal
 
 pub loop-i-init : goal.loop-i-init
 unfolding tail_rows

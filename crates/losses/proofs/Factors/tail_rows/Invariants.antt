@@ -2,7 +2,7 @@
 use Prim.Native.Nat.{◌≤◌, ◌-◌}
 use mathlib.Core.Path.{◌≡◌}
 use Rattle.losses.specs.Alosfv.{tail_rows}
-use Rattle.losses.proofs.tail_rows.Given as goal
+use Rattle.losses.proofs.Factors.tail_rows.Given as goal
 
 abbrev pub invariant-loop-i : goal.invariant-loop-i
 invariant-loop-i l = (l.i ≤ l.n) × (l.g ≡ tail_rows l.initial.g l.ion l.l l.d l.floor l.first l.i)

@@ -1,6 +1,6 @@
 -- Each path is the clause that its tests choose; each call is what its contract says.
 use Rattle.losses.specs.Alosfv.{above_of}
-use Rattle.losses.proofs.above.Goals as goal
+use Rattle.losses.proofs.Factors.above.Goals as goal
 
 pub returns-then-s-i1 : goal.returns-then-s-i1
 unfolding above_of

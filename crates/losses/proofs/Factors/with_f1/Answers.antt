@@ -1,6 +1,6 @@
 -- The code follows the definition; each call is what its contract says.
 use Rattle.losses.specs.Alosfv.{with_f1}
-use Rattle.losses.proofs.with_f1.Goals as goal
+use Rattle.losses.proofs.Factors.with_f1.Goals as goal
 
 pub returns : goal.returns
 unfolding with_f1
