@@ -2,6 +2,9 @@
 use mathlib.Core.Bool.{Bool, true, false, ◌&&◌}
 use mathlib.Core.List.{List, [], ◌∷◌}
 use Rattle.std.specs.Prelude.{Some}
+use Rattle.std.specs.Bool.{then_some}
+use Rattle.std.proofs.lemmas.Bool.{false≢true}
+use Rattle.std.proofs.lemmas.Option.{none-some, same_Some}
 use mathlib.Core.Path.{◌≡◌, refl, sym, ap, ◌∙◌}
 use Prim.Native.Nat.{ℕ, ◌+◌, ◌≤◌}
 use native.Mathlib.Omega.{arith}
@@ -13,21 +16,20 @@ use Rattle.heights.specs.Gethp.{gethp_of}
 use Rattle.reflectrix.specs.Fobby.{room_for}
 use Rattle.readings.specs.Cursor.{one_if}
 use Rattle.slot_sheet.specs.Sheet.{sheet_by, slot_sheet_with}
-use Rattle.call_lists.specs.Calls.{Call, a_muf, a_sheet, a_nominal, muf_with, es_after, answer_with, after_with, answered, pick_if, picked_slot}
+use Rattle.call_lists.specs.Calls.{Call, a_muf, a_sheet, a_nominal, muf_with, es_after, answer_with, after_with, answered, picked_slot}
 use Rattle.call_lists.specs.Lists.{Every, Together, Allowed}
 use Rattle.call_lists.specs.PaperWords.{is_muf, is_sheet_of, mufs_in, sheets_in, InWords, PaperWords, outcome_of, RefusalByArguments, WithContracts}
-use Rattle.call_lists.proofs.Frames.{not-both, none-some, some_same}
-use Rattle.call_lists.proofs.Lists.{any-list, if-set}
+use Rattle.call_lists.proofs.Lists.{every-both, any-list, if-set}
 
 -- ---- a sheet that picks k is counted among the answered sheets of k
 
-picked-by : (b : Bool) (j k : ℕ) → pick_if b j ≡ Some k → one_if (eqb j k && b) ≡ 1
-picked-by true j k e = ap (λ (b : Bool). one_if (b && true)) (eq-eqb j k (some_same j k e))
+picked-by : (b : Bool) (j k : ℕ) → then_some b j ≡ Some k → one_if (eqb j k && b) ≡ 1
+picked-by true j k e = ap (λ (b : Bool). one_if (b && true)) (eq-eqb j k (same_Some j k e))
 picked-by false j k e = absurd (none-some k e)
 
 counted : (s : IonoState) (d : Call) (k : ℕ) → is_muf d ≡ false → picked_slot s d ≡ Some k → one_if (is_sheet_of s k d) ≡ 1
 unfolding picked_slot
-counted s (a_muf es f2d clat clck c) k m e = absurd (not-both (sym m))
+counted s (a_muf es f2d clat clck c) k m e = absurd (false≢true (sym m))
 counted s (a_sheet j nang layers cells) k m e = picked-by (answered s (a_sheet j nang layers cells)) j k e
 counted s (a_nominal points f2m3 es km gcd gcdkm) k m e = absurd (none-some k e)
 
@@ -55,8 +57,7 @@ apart s c (d ∷ ds) one none_left none_before = (
 
 -- what follows from P at each entry is so of every entry
 pub every-so : {A : Type 0} (P Q : A → Type 0) (xs : List A) → Every P xs → ((x : A) → P x → Q x) → Every Q xs
-every-so P Q [] p f = tt
-every-so P Q (x ∷ xs) p f = (f x p.0, every-so P Q xs p.1 f)
+every-so P Q xs p f = every-both P P Q xs p p (λ x h _. f x h)
 
 first-zero : (a n : ℕ) → a + n ≡ 0 → a ≡ 0
 first-zero a n e = omega arith
