@@ -25,13 +25,13 @@ use Rattle.reflectrix.specs.declared.Ionogram.{Ionogram}
 use Rattle.sounding_rows.specs.Rows.{HTE, HPE, rows_of, true_by_profile, segment_by_profile, virtual_by_parabola, virtual_by, made, rows_by, rows_with}
 use Rattle.sounding.specs.Genion.{fvert_at, genion_with}
 use Rattle.sounding.proofs.Ways.{rows_agree}
-use Rattle.losses.specs.Alosfv.{e_rows, layer_line_at, above_by, above_of, not_below_zeros, with_afac, alosfv_of}
+use Rattle.losses.specs.Alosfv.{e_rows, layer_line_at, above_by, above_of, alosfv_of}
 use Rattle.losses.specs.declared.Factors.{Factors}
 use Rattle.losses.specs.declared.Decay.{Decay}
 use Rattle.hops.specs.Geometry.{geometry_of}
 use Rattle.tangents.specs.Tangents.{tangents_of}
-use Rattle.e_lines.specs.Lines.{read_with, e_heights_by, e_heights_with, e_line_by, e_line_with}
-use Rattle.layer_mufs.specs.Lines.{f2_heights_by, f2_heights_with, f2_line_by, f2_line_with, f1_own_by, f1_own_with, f1_line_by, f1_line_with}
+use Rattle.e_lines.specs.Lines.{read_with, e_heights_by, e_heights_with, e_line_with}
+use Rattle.layer_mufs.specs.Lines.{f2_heights_by, f2_heights_with, f2_line_with, f1_own_by, f1_own_with, f1_line_by, f1_line_with}
 use Rattle.layer_mufs.specs.declared.PathNumbers.{PathNumbers}
 use Rattle.tangents.specs.declared.F2Tangent.{F2Tangent}
 use Rattle.e_lines.specs.declared.HeightPair.{HeightPair}
