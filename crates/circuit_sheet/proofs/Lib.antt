@@ -1,3 +1,2 @@
--- Ranges that the sheet of a circuit stays in; what a `map` over three numbers gives.
-mod Mapped
+-- Ranges that the sheet of a circuit stays in.
 pub mod Ranges
