@@ -1,6 +1,6 @@
 // The numbers that the words of a circuit stand for.
-// Stays: in `three_at`, `params` and `column` the calls written out. An array's `map` over the numbers was tried in `params`: it
-// asks that a point's number is below five at each of its calls, and the closure would have to carry what each number is asked to be.
+// Stays: in `three_at` and `column` the calls written out. An array's `map` asks at each of its calls what is asked of `i` or `j`
+// too, which the closure holds, and the lemma on that, `callable-at_each` of `records`, is of what is asked of the number alone.
 #![tactic(auto)]
 
 ghost use Rattle.std.specs.Prelude.{◌≡◌, ◌+◌, ◌<◌};
@@ -35,13 +35,7 @@ fn layers_at(words: &[u32; 75], i: usize) -> LayerParams
 pub fn params(words: &[u32; 75]) -> [LayerParams; 5]
     ensures { result ≡ params_of words.now }
 {
-    [
-        layers_at(words, 0),
-        layers_at(words, 1),
-        layers_at(words, 2),
-        layers_at(words, 3),
-        layers_at(words, 4),
-    ]
+    [0, 1, 2, 3, 4].map(|i| layers_at(words, i))
 }
 
 // Of each point Es fs and hs.

@@ -89,7 +89,7 @@ pub fn write_form(o: Form, c: Circuit, beside: &[u32], out: &mut [u8]) -> Result
     ensures value { result ≡ write_answer_of o c out.old }
     ensures out_after { out.new ≡ left_of o c beside.now out.old }
 {
-    if c.km < 1 || c.km > 5 || c.shape > 1 {
+    if !(1..=5).contains(&c.km) || c.shape > 1 {
         return Err(Refusal::RecordZero);
     }
     let n = records(&c);

@@ -60,9 +60,8 @@ fn put_height<const N: usize>(page: &mut Page<N>, m: Mark, density: f32, h: f32)
 fn put_profile<const N: usize>(page: &mut Page<N>, p: &Profile, marks: &[Mark; 50])
     ensures { page.new ≡ with_text N page.old (profile_text p.now marks.now) }
 {
-    // Stays: three lists are read at one index, and the library's lemmas on the turns of a zip (`zip_turn`, `zip_end`) are of two lists.
-    for i in 0..50 {
-        put_height(page, marks[i], p.fnsq[i], p.htr[i]);
+    for ((mark, density), h) in marks.iter().zip(&p.fnsq).zip(&p.htr) {
+        put_height(page, *mark, *density, *h);
     }
 }
 
