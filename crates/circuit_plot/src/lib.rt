@@ -37,7 +37,7 @@ fn profile_at(s: IonoState, k: usize) -> Profile
 fn profiles(s: IonoState) -> [Profile; 3]
     ensures { result ≡ profiles_of s }
 {
-    [0, 1, 2].map(|k| profile_at(s, k))
+    std::array::from_fn(|k| profile_at(s, k))
 }
 
 // What is drawn of a file, or where it is turned away.

@@ -89,7 +89,7 @@ fn answered(s: IonoState, nang: usize, hour: MufHour) -> Sheet
     ensures { result ≡ answered_of s nang hour }
 {
     let lines = hour.layers;
-    let rows = [0, 1, 2].map(|k| slot_rows(s, k, nang, lines));
+    let rows = std::array::from_fn(|k| slot_rows(s, k, nang, lines));
     Sheet {
         hour,
         slots: s.kfx,
