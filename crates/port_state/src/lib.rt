@@ -130,7 +130,8 @@ pub fn state_into(s: IonoState, w: &mut [u32])
 }
 
 // The first n of five rows, the rest as `zero`.
-// Stays: that n is 5 at most is asked, here and below, since the exports have just tested it, and refuse more by its number.
+// Stays: five places and a count, here and at `points_of`, as `from_layers` and `nommuf` take them. That n is 5 at most is asked,
+// since the exports have just tested it, and refuse more by their numbers.
 pub fn rows_of<T: Copy, F: Fn(usize) -> T>(n: usize, zero: T, row: F) -> [T; 5]
     requires count { n ≤ 5 }
     requires called { (k : ℕ) → k < n → F.pre row k }

@@ -30,8 +30,10 @@ fn set_point(mut s: IonoState, k: usize, p: LayerParams) -> IonoState
     s
 }
 
-// Stays: s and n, here and at `settle_slots`, are the Rust's state and the bound of its loops. That n is 5 at most is asked, since
-// `from_layers` has just tested it, to refuse more.
+// Stays: s and n, here and at `settle_slots`, are the Rust's state and the bound of its loops. Five places and a count, here and
+// at `from_layers`, are what a circuit and the exports have: over a slice each caller would cut its five, and the definition, which
+// reads point k of all that are handed in, would be one of the list cut off. That n is 5 at most is asked, since `from_layers` has
+// just tested it, to refuse more.
 fn set_points(s: IonoState, params: [LayerParams; 5], n: usize) -> IonoState
     requires { n ≤ 5 }
     ensures { result ≡ points_set s params n }
