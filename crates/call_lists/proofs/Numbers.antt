@@ -5,7 +5,7 @@ use mathlib.Core.Path.{◌≡◌, sym, subst}
 use Rattle.std.specs.Prelude.{Result, Ok, IfOk}
 use Rattle.refusal.specs.declared.Refusal.{Refusal}
 use Prim.Native.Nat.{ℕ, zero, suc, ◌+◌, ◌*◌}
-use lib.Dec.{T, leb}
+use lib.Dec.{leb}
 use lib.ListN.{set, replicate}
 use lib.Ieee.{Float, binary32, of_bits, fits, is_nan}
 use lib.Ieee.Fits.{nan-fits, add-fits, sub-fits, mul-fits, div-fits}

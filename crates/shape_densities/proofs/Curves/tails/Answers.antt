@@ -1,11 +1,10 @@
 use mathlib.Core.Path.{◌≡◌, refl, ap, ◌∙◌}
-use mathlib.Core.List.{List, [], ◌∷◌}
-use Prim.Native.Nat.{ℕ, zero, suc, ◌<◌}
+use Prim.Native.Nat.{◌<◌}
 use native.Mathlib.Numerals.{add-one}
 use native.Mathlib.Omega.{arith}
 use borrow.Author.Rules.{rules}
-use lib.Ieee.{Float, nan}
-use lib.ListN.{length, get_or}
+use lib.Ieee.{nan}
+use lib.ListN.{length}
 use Rattle.shape_densities.specs.Density.{fnd_of}
 use Rattle.cases.proofs.Tabulate.{mapped, mapped-more, mapped-all, untouched}
 use Rattle.shape_densities.proofs.Curves.tails.Goals as goal
