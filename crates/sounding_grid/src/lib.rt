@@ -23,7 +23,7 @@ fn e_grid(fv: [f32; 30], fi0: f32) -> [f32; 30]
     fill(l, 3, 4, step)
 }
 
-// Stays: fi0 and fi2, here and at `fvert`, are the critical frequencies of two layers, read off the state's table by the caller.
+// Stays: fi0 and fi2, here and at `fvert`, are two of a slot's frequencies, and the caller has the slot.
 fn nose_grid(fv: [f32; 30], fi0: f32, fi2: f32) -> [f32; 30]
     ensures { result ≡ nose_grid fv fi0 fi2 }
 {
