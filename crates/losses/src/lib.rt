@@ -2,8 +2,8 @@
 // have zero up to the true height at its MUF; the two rows of a cusp between layers have one at any
 // height.
 // Stays: s, k, ion and layers are the Rust's own parameters, and a row is two heights handed on apart, since
-// an ionogram handed down for each would be copied each time. A loop over rows reads two columns at a row
-// and writes a third.
+// an ionogram handed down for each would be copied each time. A loop over rows reads two columns at a row,
+// writes a third and hands the constant on to the next row.
 #![tactic(auto)]
 
 ghost use Rattle.std.specs.Prelude.{◌≡◌, ◌+◌, ◌<◌, ◌≤◌};
