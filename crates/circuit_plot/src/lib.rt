@@ -33,7 +33,6 @@ fn profile_at(s: IonoState, k: usize) -> Profile
     Profile { htr, fnsq }
 }
 
-// The three slots in turn, each from the same state.
 fn profiles(s: IonoState) -> [Profile; 3]
     ensures { result ≡ profiles_of s }
 {

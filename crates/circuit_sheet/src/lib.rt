@@ -84,7 +84,6 @@ fn slot_rows(s: IonoState, k: usize, nang: usize, lines: [LayerMuf; 4]) -> SlotR
     no_slot()
 }
 
-// The three slots in turn, each from the same state.
 fn answered(s: IonoState, nang: usize, hour: MufHour) -> Sheet
     ensures { result ≡ answered_of s nang hour }
 {

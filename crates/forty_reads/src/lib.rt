@@ -84,7 +84,7 @@ fn walk_reads(p: Profile, ht: f32) -> Densities
     let h0 = p.htr[0];
     let mut ysq = [0.0; 40];
     let mut ih = 0usize;
-    // Stays: the read's number gives the node and its half, and the place in the table.
+    // Stays: each read goes on from the cursor that the one before left, and is put at its node's place.
     for k in 0..40 {
         let ig = ig_at(k);
         let ib = ib_at(up, k);

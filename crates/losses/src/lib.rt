@@ -4,7 +4,8 @@
 // Stays: s, k, ion and layers are the Rust's own parameters, and ion is read by each step of the factors,
 // which are stored in it at the end. A row is two heights handed on apart, since an ionogram handed down for
 // each would be copied each time; beside them `hm` is of the layer's line, or of the row after a cusp, and `d`
-// of the layer's shape. A loop over rows reads two columns at a row and writes a third.
+// of the layer's shape. A loop over rows reads two columns at a row, writes a third and hands
+// the constant on to the next row.
 #![tactic(auto)]
 
 ghost use Rattle.std.specs.Prelude.{◌≡◌, ◌+◌, ◌<◌, ◌≤◌};

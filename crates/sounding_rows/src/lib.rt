@@ -55,7 +55,7 @@ fn by_profile(t: Tested, fv: [f32; 30]) -> Ionogram
     let mut hprim = [0.0; 30];
     let mut htrue = [0.0; 30];
     let mut segment = [0; 30];
-    // Stays: three columns are written at a row.
+    // Stays: three columns are written at a row; by `std::array::from_fn` the rows would be made first, and each column of them.
     for i in 0..30 {
         let h = heights::gethp_read(p, exact, fv[i]);
         hprim[i] = h.hp;
@@ -86,7 +86,7 @@ fn true_rows(s: IonoState, fv: [f32; 30]) -> TrueColumns
     let mut htrue = [0.0; 30];
     htrue[..10].copy_from_slice(&HTE);
     let mut segment = [50; 30];
-    // Stays: two columns are written at a row.
+    // Stays: two columns are written at a row, as in `by_profile`.
     for i in 0..20 {
         let h = true_by_profile(s, fv[10 + i]);
         htrue[10 + i] = h.value;
@@ -111,7 +111,7 @@ fn rows_from_ten<F: Fn(f32) -> f32>(start: [f32; 10], fv: [f32; 30], row: F) -> 
 {
     let mut rows = [0.0; 30];
     rows[..10].copy_from_slice(&start);
-    // Stays: a turn writes one list from the place of another.
+    // Stays: by `std::array::from_fn` each of the thirty would be tested for being one of the first ten.
     for i in 0..20 {
         rows[10 + i] = row(fv[10 + i]);
     }

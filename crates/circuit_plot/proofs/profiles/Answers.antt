@@ -1,4 +1,4 @@
--- Each call is the definition's, and leaves what the closure holds as it was.
+-- The three slots in turn, each from the same state.
 use Rattle.std.proofs.Common.{rules}
 use Rattle.scalar.proofs.FromFn.{from_fn_numbers}
 use Rattle.circuit_plot.specs.CircuitPlot.{profile_of, profiles_of}
@@ -6,4 +6,4 @@ use Rattle.circuit_plot.proofs.profiles.Goals as goal
 
 pub returns : goal.returns
 unfolding profiles_of
-returns c = from_fn_numbers (λ k. profile_of c.args.s k) 3 (λ k y q l r. search rules) c.from_fn.ensures.items
+returns c = from_fn_numbers (profile_of c.args.s) 3 (λ k y q l r. search rules) c.from_fn.ensures.items
