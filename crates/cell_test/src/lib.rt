@@ -31,7 +31,7 @@ pub fn squared_cosine(sphe: f32) -> f32
 }
 
 // The cell itself, with a root and a division.
-// Stays: a row's frequency and the square of an angle's cosine, here and below, meet in one cell and are no pair that is kept.
+// Stays: a row's fvv and an angle's sqcos, here and below, meet in one cell and are no pair that is kept.
 pub fn khz(fvv: f32, sqcos: f32) -> i32
     ensures { result ≡ khz_of fvv sqcos }
 {
