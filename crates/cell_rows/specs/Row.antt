@@ -3,7 +3,7 @@ use Rattle.std.specs.Prelude.{List, ℕ, zero, suc, ◌+◌, ◌*◌, ◌<◌, �
 use Rattle.scalar.specs.F32.{◌/f◌, at}
 use Rattle.cell_test.specs.Cell.{khz_of, sqcos_of, Told}
 
--- What is told for the frequencies fv and the radii at their heights: each cell or that it is in doubt, and how many are.
+-- What is told for the frequencies fv and the radii at their heights: each cell or that it is in doubt.
 abbrev pub RowTold : List Float → List Float → Float → List ℕ → Type 0
 RowTold fv radii rcosd told = (i : ℕ) → i < 32 → Told (at fv i) (sqcos_of (rcosd /f at radii i)) (get_or told i 0)
 

@@ -1,7 +1,8 @@
 // The cells of one angle: all guessed together, and those in doubt worked out after. Each step is made
 // for thirty-two places, and the compiler makes vector instructions of it.
 // Stays: the loop over the angles, since a row goes to its part of the lent cells, and of what
-// `chunks_exact_mut` under a zip leaves a proof knows the lengths alone.
+// `chunks_exact_mut` leaves under a zip or `enumerate` a proof knows the lengths alone. The angles and how many
+// of them are scanned are handed on apart, as the Rust has them.
 #![tactic(auto)]
 
 ghost use Rattle.std.specs.Prelude.{◌≡◌, true, map, ℕ, ◌+◌, ◌*◌, ◌≤◌, ◌<◌, length, take, get_or, pos};
@@ -19,6 +20,12 @@ pub fn padded(x: [f32; 30]) -> [f32; 32]
     let mut r = [0.0123456; 32];
     r[..30].copy_from_slice(&x);
     r
+}
+
+// A guess at the cell's kHz, half a kHz low, with the root as the machine takes it. No proof rests on that: the
+// test refuses a wrong guess.
+fn rough_khz(fvv: f32, sqcos: f32) -> f32 {
+    1000.0 * (fvv / sqcos.sqrt()) - 0.5
 }
 
 // The cell that was told, and worked out where it is in doubt.
@@ -71,9 +78,9 @@ impl Rows {
     {
         let uncut: [f32; 32] = from_fn(|i| cell_test::uncut(rcosd / self.radii[i]));
         let sqcos: [f32; 32] = from_fn(|i| cell_test::cut(uncut[i]));
-        let khz: [f32; 32] = from_fn(|i| cell_test::guess(self.fv[i], sqcos[i]));
+        let khz: [f32; 32] = from_fn(|i| rough_khz(self.fv[i], sqcos[i]));
         let n: [u32; 32] = from_fn(|i| cell_test::digits(khz[i]));
-        from_fn(|i| cell_test::cell(n[i], self.fv[i], sqcos[i], self.low[i], self.high[i]))
+        from_fn(|i| cell_test::tested(n[i], self.fv[i], sqcos[i], self.low[i], self.high[i]))
     }
 
     // The thirty cells of an angle.

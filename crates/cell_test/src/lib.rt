@@ -16,7 +16,7 @@ pub fn uncut(sphe: f32) -> f32
     1.0 - sphe * sphe
 }
 
-// Cut at a millionth, by one test where `scalar::max` has two.
+// Cut at a millionth. Stays: one test where `scalar::max` has two, by which a scan takes 1.04 of the time.
 pub fn cut(square: f32) -> f32
     ensures { result ≡ max_of square f0_000001 }
 {
@@ -81,21 +81,15 @@ pub fn digits(v: f32) -> u32
     f32::to_bits(from_zero(v) + 12582912.0) % 0x40_0000
 }
 
-// A guess at the cell's kHz, half a kHz low, with the root as the machine takes it. No proof rests on that: the test refuses a wrong
-// guess.
-pub fn guess(fvv: f32, sqcos: f32) -> f32 {
-    1000.0 * (fvv / sqcos.sqrt()) - 0.5
-}
-
 // From this number on an answer says that the cell is in doubt.
-// Stays: the doubt is a bit of the guess's own word, with no branch; an Option for each of the thirty-two places of a row
+// Stays: the doubt is a number that no cell has, in the guess's own word; an Option for each of the thirty-two places of a row
 // would take twice the room and a test at each.
 pub const IN_DOUBT: u32 = 0x8000_0000;
 
 // The number n where it passes the test, which says that it is the cell, else `IN_DOUBT`. Both products are
 // tested, with no branch. Nothing is asked: a caller has the five by place, and says of each place what they
 // are. Of a guess no digit is cut.
-pub fn cell(n: u32, fvv: f32, sqcos: f32, low: f32, high: f32) -> u32
+pub fn tested(n: u32, fvv: f32, sqcos: f32, low: f32, high: f32) -> u32
     ensures { Tested n fvv sqcos low high → Told fvv sqcos result }
 {
     let x = (n % 0x40_0000) as f32;

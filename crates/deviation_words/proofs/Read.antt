@@ -6,8 +6,7 @@ use native.Mathlib.Omega.{arith}
 use lib.Ieee.{nan, binary32, of_bits}
 use lib.ListN.{length, get_or, take}
 use Rattle.std.proofs.lemmas.List.{get_or-map, get_or-take, length-take-le}
-use Rattle.port_state.specs.Words.{floats_of}
-use Rattle.deviation_words.specs.Floats.{number}
+use Rattle.port_state.specs.Words.{number, floats_of}
 
 pub float-read : (w : List ℕ) (n i : ℕ) → i < n → n ≤ length w → get_or (floats_of w 0 n) i nan ≡ number w i
 unfolding floats_of

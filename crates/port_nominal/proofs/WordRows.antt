@@ -7,11 +7,11 @@ use lib.Ieee.{nan, binary32, of_bits}
 use lib.ListN.{length, get_or, drop}
 use Rattle.std.proofs.Math.Seq.{drop-cons}
 use Rattle.std.proofs.lemmas.List.{get_or-map}
-use Rattle.sporadic.specs.Sporadic.{row_at}
-use Rattle.port_state.specs.Words.{floats_of}
+use Rattle.sporadic.specs.Sporadic.{no_row, row_at}
+use Rattle.port_state.specs.Words.{number, floats_of}
 use Rattle.port_state.specs.Ports.{rows_of}
-use Rattle.deviation_words.specs.Floats.{number, floats}
-use Rattle.port_nominal.specs.Exports.{word_row, zero_row, word_rows}
+use Rattle.deviation_words.specs.Floats.{floats}
+use Rattle.port_nominal.specs.Exports.{word_row, word_rows}
 
 module _ (w : List ℕ) where
   after : (j k : ℕ) → k ≡ suc j → j < length w → drop j w ≡ get_or w j 0 ∷ drop k w
@@ -28,7 +28,7 @@ module _ (w : List ℕ) where
   unfolding word_row
   row k h = rw (three (4 * k) (omega arith), one (4 * k) (omega arith), one (4 * k + 1) (omega arith), one (4 * k + 2) (omega arith), one (4 * k + 3) (omega arith)) refl
 
-  pub rows : (n : ℕ) → 4 * n ≤ length w → rows_of (row_at (floats w)) zero_row n ≡ word_rows w n
+  pub rows : (n : ℕ) → 4 * n ≤ length w → rows_of (row_at (floats w)) no_row n ≡ word_rows w n
   unfolding rows_of
   rows zero h = refl
   rows (suc n) h = rw (rows n (omega arith), row n (omega arith))

@@ -8,8 +8,8 @@ use Rattle.scalar.specs.F32.{◌≤f◌}
 use Rattle.cell_test.specs.Cell.{Told}
 use Rattle.cell_test.specs.Laws.{product_of}
 use Rattle.cell_test.proofs.Test.{test-suffices}
-use Rattle.cell_test.proofs.cell.Goals as goal
-use Rattle.cell_test.proofs.cell.Goals.{then-x-sqcos, else-x-sqcos}
+use Rattle.cell_test.proofs.tested.Goals as goal
+use Rattle.cell_test.proofs.tested.Goals.{then-x-sqcos, else-x-sqcos}
 
 pub returns-then-high-m : goal.returns-then-high-m
 returns-then-high-m c = λ t.
