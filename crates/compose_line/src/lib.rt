@@ -33,9 +33,9 @@ fn begin(kind: LineKind) -> Row
     Row {
         kind,
         values: [0; 15],
-        missing: names::wanted(kind),
+        missing: kind.wanted(),
         at: 0,
-        left: names::at_once(kind),
+        left: kind.at_once(),
     }
 }
 
@@ -71,11 +71,11 @@ fn first_word(w: &[u8]) -> Result<Row, Fault>
 fn field_word(r: Row, w: &[u8]) -> Result<Row, Fault>
     ensures { result ≡ field_word r (field_place_of r.kind w.now) }
 {
-    let place = names::place(r.kind, w).ok_or(Fault::UnknownField)?;
+    let place = r.kind.place(w).ok_or(Fault::UnknownField)?;
     if !r.missing[place] {
         return Err(Fault::FieldTwice);
     }
-    Ok(name(r, place, names::width(r.kind, place)))
+    Ok(name(r, place, r.kind.width(place)))
 }
 
 fn number_word(r: Row, w: &[u8]) -> Result<Row, Fault>

@@ -63,22 +63,14 @@ fn head_into(h: MufHour, out: &mut [u32])
     out[9] = port_state::count(h.ks);
 }
 
-// Stays: the four lines written out, since each call of `line_into` asks that its words are there, and a loop over the lines would
-// have to carry that, and what the lines before left.
 pub fn hour_into(h: MufHour, out: &mut [u32])
     requires { 54 ≤ length out.old }
     ensures { out.new ≡ hour_into h out.old }
 {
-    let layers = h.layers;
-    let e = layers[0];
-    let f1 = layers[1];
-    let f2 = layers[2];
-    let es = layers[3];
     head_into(h, out);
-    line_into(e, out, 10);
-    line_into(f1, out, 21);
-    line_into(f2, out, 32);
-    line_into(es, out, 43);
+    for (k, l) in h.layers.iter().enumerate() {
+        line_into(*l, out, 10 + 11 * k);
+    }
 }
 
 // The row that is rewritten is there.

@@ -27,9 +27,7 @@ pub fn floats<const N: usize>(w: &[u32], from: usize) -> [f32; N]
     requires { from + N ≤ length w.now }
     ensures { result ≡ floats_of w.now from N }
 {
-    let mut x = [0.0; N];
-    floats_of(w, from, &mut x);
-    x
+    std::array::from_fn(|i| scalar::number(w[from + i]))
 }
 
 // The floats written into the words from `from` on.
@@ -131,7 +129,8 @@ pub fn state_into(s: IonoState, w: &mut [u32])
 
 // The first n of five rows, the rest as `zero`.
 // Stays: five places and a count, here and at `points_of`, as `from_layers` and `nommuf` take them. That n is 5 at most is asked,
-// since the exports have just tested it, and refuse more by their numbers.
+// since the exports have just tested it, and refuse more by their numbers. And the rows are made and written over, since
+// `std::array::from_fn` asks that the array takes fewer than 2^63 bytes, which of any `T` nothing tells.
 pub fn rows_of<T: Copy, F: Fn(usize) -> T>(n: usize, zero: T, row: F) -> [T; 5]
     requires count { n ≤ 5 }
     requires called { (k : ℕ) → k < n → F.pre row k }
