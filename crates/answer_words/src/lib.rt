@@ -10,8 +10,8 @@ ghost use Rattle.answer_words.specs.Words.{number_left, float_left};
 use refusal::Refusal;
 
 // The number into the first word; where it is refused, the words stay.
-// Stays: a number, a count and a float by three functions, whose one store differs: by one of them
-// `out[0] = answer? as u32` would be `number_into(answer.map(|n| n as u32), out)`.
+// Stays: a number, a count and a float by three functions, whose one store differs. `number_into(answer.map(|n| n as u32), out)`
+// hands on a `Result` that is made for it, and of the closure, which casts, each caller's proof needs a lemma: tried, it didn't close.
 pub fn number_into(answer: Result<u32, Refusal>, out: &mut [u32]) -> Result<(), Refusal>
     requires { 1 ≤ length out.old }
     ensures { (answer_number result ≡ answer_number answer) × (out.new ≡ number_left answer out.old) }

@@ -75,7 +75,8 @@ impl<'a> Draft<'a> {
         ensures { out.new ≡ file_of self.now.form self.now.circuit.now self.now.beside.now ++ drop (self.now.form.size * self.now.count) out.old }
     {
         let size = self.form.size;
-        // Stays: i is the record's number, and no list is read.
+        // Stays: i is the record's number, and `out` is written by parts: of what `chunks_exact_mut` leaves under `enumerate` a proof
+        // knows the lengths alone, as in crate `cell_rows`.
         for i in 0..self.count {
             self.entry(i, &mut out[size * i..size * i + size]);
         }

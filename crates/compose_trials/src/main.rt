@@ -75,7 +75,6 @@ fn longest() {
     print(&[b'#'; 32769]);
 }
 
-// Stays: beside `main` of `sheet_trials`, which happens to call six functions too: no twins, the trials are others.
 fn main() {
     lines();
     order();

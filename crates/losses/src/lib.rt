@@ -2,10 +2,10 @@
 // have zero up to the true height at its MUF; the two rows of a cusp between layers have one at any
 // height.
 // Stays: s, k, ion and layers are the Rust's own parameters, and ion is read by each step of the factors,
-// which are stored in it at the end. A row is two heights handed on apart, since an ionogram handed down for
-// each would be copied each time; beside them `hm` is of the layer's line, or of the row after a cusp, and `d`
-// of the layer's shape. A loop over rows reads two columns at a row, writes a third and hands
-// the constant on to the next row.
+// which are stored in it at the end. A row is two heights handed on apart, since the definitions speak of two
+// heights, and an ionogram lent would be read as `ion.now` in each clause; beside them `hm` is of the layer's
+// line, or of the row after a cusp, and `d` of the layer's shape. A loop over rows reads two columns at a row,
+// writes a third and hands the constant on to the next row.
 #![tactic(auto)]
 
 ghost use Rattle.std.specs.Prelude.{◌≡◌, ◌+◌, ◌<◌, ◌≤◌};
@@ -88,7 +88,7 @@ fn tail_loss(cf: f32, htrue: f32, hprim: f32, htmuf: f32, hm: f32, d: Decay, flo
 }
 
 impl Factors {
-    // Stays: apart from `tail_rows`, since E's rows take no floor.
+    // Stays: apart from `tail_rows`: it calls `e_loss`, which takes no floor, and one function would be handed which of the two.
     fn e_rows(self, ion: Ionogram, l: LayerMuf, d: Decay) -> Factors
         ensures { result ≡ e_rows self ion l d 10 }
     {

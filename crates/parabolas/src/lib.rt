@@ -26,7 +26,7 @@ pub fn pen_at(fi: f32, yi: f32, f: f32) -> f32
 
 // The virtual height of a frequency that an F2 reflects: bent by it, and delayed in the E layer under it
 // instead of crossing that in a straight line.
-// Stays: five numbers of two layers, which one caller has in a `Slot` and the other in the state's tables: a struct of them would be
+// Stays: five numbers of two layers. A `Slot` has them, and would make this crate stand on `slot_curves`; a struct of the five would be
 // made for each call and taken apart here.
 pub fn height_over_e(fi0: f32, yi0: f32, fi2: f32, yi2: f32, hi2: f32, f: f32) -> f32
     ensures { result ≡ height_over_e fi0 yi0 fi2 yi2 hi2 f }

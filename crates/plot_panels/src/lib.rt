@@ -88,8 +88,8 @@ fn put_panels<const N: usize>(page: &mut Page<N>, p: &Plot)
     ensures { page.new ≡ with_text N page.old (joined (panel_at p.now.sheet.rows p.now.profiles p.now.sheet.hour) p.now.sheet.slots) }
 {
     let sheet = &p.sheet;
-    // Stays: k is the slot's number too, and a zip of rows and profiles inside `enumerate` is no plainer. Beside `put_slots` of
-    // `sheet_lines` and `show_page` it puts of a slot what takes its profile and the hour too.
+    // Stays: k is the slot's number too, and `for (k, (rows, profile)) in sheet.rows[..n].iter().zip(&p.profiles).enumerate()` is no
+    // shorter. Beside `put_slots` of `sheet_lines` and `show_page` it puts of a slot what takes its profile and the hour too.
     for k in 0..sheet.slots {
         put_panel(page, &sheet.rows[k], &p.profiles[k], &sheet.hour, k);
     }

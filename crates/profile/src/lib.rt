@@ -16,7 +16,7 @@ pub fn rises_throughout(htr: &[f32; 50]) -> bool
     htr.is_sorted_by(|lower, upper| *lower < *upper)
 }
 
-// Stays: `s` and `k` are the Rust's parameters here and in the crates above, and `k < 3` is asked of the number: it
+// Stays: `s` and `k` are the Rust's parameters here, in `slots` and in the crates above, and `k < 3` is asked of the number: it
 // indexes the tables and counts loops, which would have to make a number of a type of its own at each turn.
 pub fn slot_at(s: IonoState, k: usize) -> Slot
     requires { k < 3 }

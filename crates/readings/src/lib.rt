@@ -93,15 +93,12 @@ impl Reading {
 pub fn scan(from: &[f32; 50], to: &[f32; 50], probe: f32) -> Reading
     ensures { result ≡ scan_of from.now to.now probe }
 {
-    // Stays: neighbours of two lists by one index, which is the segment's number too.
-    for ih in 0..49 {
+    let held = (0..49).find_map(|ih| {
         let next = ih + 1;
-        if let Some(v) = segment(from[ih], from[next], to[ih], to[next], probe) {
-            return Reading::Segment(v, ih as u32);
-        }
-    }
-    let top = to[49];
-    Reading::Top(top)
+        let v = segment(from[ih], from[next], to[ih], to[next], probe)?;
+        Some(Reading::Segment(v, ih as u32))
+    });
+    held.unwrap_or(Reading::Top(to[49]))
 }
 
 // A number found by a search, and the segment that it was found on.

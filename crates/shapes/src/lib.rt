@@ -55,7 +55,7 @@ fn first(c: Candidates, density: f32) -> Mark
     Mark::F2
 }
 
-// Stays: the shapes c and the height h are no one thing: the loop has the same shapes at fifty heights.
+// Stays: the shapes c and the height h are no one thing: fifty heights are read with the same shapes.
 fn mark_at(c: Curves, fnd: f32, h: f32) -> Mark
     requires { fnd ≡ fnd_of c h }
     ensures { result ≡ mark_of c h }

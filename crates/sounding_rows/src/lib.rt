@@ -111,7 +111,9 @@ fn rows_from_ten<F: Fn(f32) -> f32>(start: [f32; 10], fv: [f32; 30], row: F) -> 
 {
     let mut rows = [0.0; 30];
     rows[..10].copy_from_slice(&start);
-    // Stays: by `std::array::from_fn` each of the thirty would be tested for being one of the first ten.
+    // Stays: the definition stores row after row, as this loop does. Tried: of `rows[10..].iter_mut().zip(&fv[10..])` the invariant has
+    // no name for what is written so far; by `from_fn`, with a test for the first ten, the proof reads the stores place by place, by
+    // lemmas as long as itself, and did not close.
     for i in 0..20 {
         rows[10 + i] = row(fv[10 + i]);
     }

@@ -16,7 +16,8 @@ fn all_within(most: u32, xs: &[u32]) -> bool
     xs.iter().all(|x| *x <= most)
 }
 
-// Stays: `rises` of `traces` is this one call too; one function for both would make one crate stand on the other, or be a crate.
+// Stays: `rises` of `traces` and `rises_throughout` of `profile` are this one call too, the latter on floats; one function for
+// them would make one crate stand on another, or be a crate.
 fn rises(tops: &[u32]) -> bool
     ensures { result ≡ rising tops.now }
 {
