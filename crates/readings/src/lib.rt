@@ -93,12 +93,16 @@ impl Reading {
 pub fn scan(from: &[f32; 50], to: &[f32; 50], probe: f32) -> Reading
     ensures { result ≡ scan_of from.now to.now probe }
 {
-    let held = (0..49).find_map(|ih| {
+    // Stays: neighbours of two lists by one index, which is the segment's number too. By `find_map` it is as long, since the
+    // closure wraps each reading again and the top is put in its place after, and its proof is twice as long.
+    for ih in 0..49 {
         let next = ih + 1;
-        let v = segment(from[ih], from[next], to[ih], to[next], probe)?;
-        Some(Reading::Segment(v, ih as u32))
-    });
-    held.unwrap_or(Reading::Top(to[49]))
+        if let Some(v) = segment(from[ih], from[next], to[ih], to[next], probe) {
+            return Reading::Segment(v, ih as u32);
+        }
+    }
+    let top = to[49];
+    Reading::Top(top)
 }
 
 // A number found by a search, and the segment that it was found on.
