@@ -9,7 +9,8 @@ ghost use Rattle.aligned.specs.Aligned.{repeated, right};
 use lines::Page;
 
 // A byte, n times.
-// Stays: a loop that only counts; there is no list of bytes to go over, and `repeat_n` would be no plainer.
+// Stays: a loop that only counts; there is no list of bytes to go over. `for b in iter::repeat_n(b, n)` would name a byte at each turn
+// that stands here already.
 #[tactic(auto, using(lines::proofs::Placing::putting), unfolding(crate::specs::Aligned::repeated))]
 pub fn put_repeated<const N: usize>(page: &mut Page<N>, b: u8, n: usize)
     ensures { page.new ≡ with_text N page.old (repeated b n) }

@@ -4,7 +4,7 @@ use mathlib.Core.Path.{◌≡◌, refl, sym, ap, ◌∙◌, subst, subst₂}
 use mathlib.Core.Bool.{Bool, true, false, ◌&&◌, ◌||◌}
 use mathlib.Core.Logic.{◌⊎◌, inl, inr}
 use Prim.Native.Nat.{ℕ, ◌+◌, ◌≤◌}
-use native.Mathlib.Nat.{le_trans, le_refl, le_of_lt, lt_of_lt_of_le, lt_of_le_of_lt, le-add_right}
+use native.Mathlib.Nat.{le_trans, le_refl, le_of_lt, lt_of_lt_of_le, lt_of_le_of_lt, le-add_right, add-le-add}
 use native.Mathlib.Omega.{arith}
 use lib.Dec.{T}
 use lib.IntN.{ℤ, pos, negsuc}
@@ -17,6 +17,9 @@ use borrow.Author.Tests.{le-ltb, ltb-false}
 use Rattle.scalar.specs.F32.{◌+f◌, ◌-f◌, ◌*f◌, ◌/f◌, ◌≤f◌, ◌<f◌, ◌>f◌, negf}
 use Rattle.scalar.specs.Literals.{f0, f0_5, f1, f2, f4, f6_3, f90, f1000, f40100}
 use Rattle.scalar.specs.Scalar.{max_of, or_second, trunc_of}
+use Rattle.std.proofs.lemmas.Float.{T_from_true}
+use Rattle.scalar.proofs.Nan.{nan-only}
+use Rattle.same.specs.Same.{F32}
 use Rattle.order.specs.Units.{real, key, rounded}
 use Rattle.order.proofs.Keys.{lt-key, overflow-pos}
 use Rattle.order.proofs.Sums.{round-as, round-key, rounded-mono, finite-real}
@@ -28,10 +31,7 @@ use Rattle.constants.specs.Constants.{D2R, PIO2, RZ}
 use Rattle.hops.specs.Geometry.{hop_ratio_of, hops_by, hops_of, psi_of, del_of}
 use Rattle.angles.specs.Angles.{Small, SinAnswers, CosAnswers, NeverRefused13}
 use Rattle.angles.proofs.Keys.{Above, UpTo, From, Between, quotient, product, product-from, difference, finite-of, key-range}
-use Rattle.std.proofs.lemmas.Bool.{and_parts}
-
-abbrev F : Float → Type 0
-F x = T (fits binary32 x)
+use Rattle.std.proofs.lemmas.Bool.{and_parts, or_parts}
 
 -- and then sine and cosine answer
 pub sin-answers : SinAnswers
@@ -48,17 +48,14 @@ small-nan nan e = (refl, refl)
 small-nan (inf s) e = let z : ◌≡◌ {A = ℕ} 0 1 = cc in absurd (omega arith)
 small-nan (fin s m e) q = let z : ◌≡◌ {A = ℕ} 0 1 = cc in absurd (omega arith)
 
-is_T : {b : Bool} → b ≡ true → T b
-is_T e = subst T (sym e) tt
-
 pub zero-key : key binary32 f0 ≡ overflow binary32
 zero-key = ap (key binary32) nought-is ∙ nought-key binary32
 
-four-fits : F f4 × F (negf f4) × T (finite f4) × T (finite (negf f4))
+four-fits : F32 f4 × F32 (negf f4) × T (finite f4) × T (finite (negf f4))
 unfolding of_bits fits neg
 four-fits = (tt, tt, tt, tt)
 
-small-between : (A B x : Float) → F A → F B → T (le (negf f4) A) → T (le B f4) → Between binary32 A B x → Small x
+small-between : (A B x : Float) → F32 A → F32 B → T (le (negf f4) A) → T (le B f4) → Between binary32 A B x → Small x
 small-between A B x pa pb lo hi h =
     let r = finite-real x h.fin in
     let a : key binary32 (negf f4) ≤ key binary32 x =
@@ -74,7 +71,7 @@ over X x h = record { held = h.held; fin = h.fin; low = rw zero-key h.low; high 
 
 -- ---- constants
 
-pub f0-fits : F f0
+pub f0-fits : F32 f0
 unfolding of_bits fits
 f0-fits = tt
 
@@ -82,7 +79,7 @@ pub f0-finite : T (finite f0)
 unfolding of_bits
 f0-finite = tt
 
-up_to : (x X : Float) → F x → F X → T (finite X) → T (le f0 x) → T (le x X) → UpTo binary32 X x
+up_to : (x X : Float) → F32 x → F32 X → T (finite X) → T (le f0 x) → T (le x X) → UpTo binary32 X x
 up_to x X p q c a b =
     let l : overflow binary32 ≤ key binary32 x = rw zero-key at (le→keys binary32 f0 x f0-fits p (le-real f0 x a).0 (le-real f0 x a).1 a) in
     let h : key binary32 x ≤ key binary32 X = le→keys binary32 x X p q (le-real x X b).0 (le-real x X b).1 b in
@@ -90,15 +87,15 @@ up_to x X p q c a b =
     let o = overflow-pos binary32 in
     record { held = p; fin = finite-of binary32 x (le-real f0 x a).1 (lt_of_lt_of_le o l) (lt_of_le_of_lt h r.1); low = l; high = h }
 
-exactly : (x : Float) → F x → T (finite x) → Between binary32 x x x
+exactly : (x : Float) → F32 x → T (finite x) → Between binary32 x x x
 exactly x p c = record { held = p; fin = c; low = le_refl _; high = le_refl _ }
 
-from : (x : Float) → F x → T (finite x) → From binary32 x x
+from : (x : Float) → F32 x → T (finite x) → From binary32 x x
 from x p c = record { held = p; fin = c; low = le_refl _ }
 
 -- x is one of the domain's numbers 0 to top
-domain : (x top : Float) → F x → F top → T (finite top) → (f0 ≤f x && x ≤f top) ≡ true → UpTo binary32 top x
-domain x top p q c e = let w = and_parts (f0 ≤f x) (x ≤f top) e in up_to x top p q c (is_T w.0) (is_T w.1)
+domain : (x top : Float) → F32 x → F32 top → T (finite top) → (f0 ≤f x && x ≤f top) ≡ true → UpTo binary32 top x
+domain x top p q c e = let w = and_parts (f0 ≤f x) (x ≤f top) e in up_to x top p q c (T_from_true _ w.0) (T_from_true _ w.1)
 
 -- ---- the number of hops: 1 to 1000
 
@@ -110,7 +107,7 @@ thousand-is : f1000 ≡ round binary32 false 1000 1
 unfolding of_bits round
 thousand-is = refl
 
-pub hop-constants : F f1 × T (finite f1) × F f1000 × T (finite f1000)
+pub hop-constants : F32 f1 × T (finite f1) × F32 f1000 × T (finite f1000)
 unfolding of_bits fits
 hop-constants = (tt, tt, tt, tt)
 
@@ -132,17 +129,14 @@ pub record HopCount (x : Float) : Type 0 where
   pub from : From binary32 f1 x
   pub upto : UpTo binary32 f1000 x
 
-add_le_add_left : (c a b : ℕ) → a ≤ b → c + a ≤ c + b
-add_le_add_left c a b h = omega arith
-
 whole-count : (n : ℕ) → 1 ≤ n → n ≤ 1000 → HopCount (of_int binary32 (pos n))
 whole-count n h k =
     let x = of_int binary32 (pos n) in
     let e = whole-key n in
     let a : rounded binary32 1 1 ≤ rounded binary32 n 1 = rounded-mono binary32 1 1 n 1 (omega arith) (omega arith) (omega arith) in
     let b : rounded binary32 n 1 ≤ rounded binary32 1000 1 = rounded-mono binary32 n 1 1000 1 (omega arith) (omega arith) (omega arith) in
-    let lo : key binary32 f1 ≤ key binary32 x = subst₂ (λ (u v : ℕ). u ≤ v) (sym one_key) (sym e) (add_le_add_left (overflow binary32) _ _ a) in
-    let hi : key binary32 x ≤ key binary32 f1000 = subst₂ (λ (u v : ℕ). u ≤ v) (sym e) (sym thousand-key) (add_le_add_left (overflow binary32) _ _ b) in
+    let lo : key binary32 f1 ≤ key binary32 x = subst₂ (λ (u v : ℕ). u ≤ v) (sym one_key) (sym e) (add-le-add (le_refl (overflow binary32)) a) in
+    let hi : key binary32 x ≤ key binary32 f1000 = subst₂ (λ (u v : ℕ). u ≤ v) (sym e) (sym thousand-key) (add-le-add (le_refl (overflow binary32)) b) in
     let low : overflow binary32 ≤ key binary32 x = subst (λ (u : ℕ). overflow binary32 ≤ u) (sym e) (le-add_right (overflow binary32) (rounded binary32 n 1)) in
     let r = key-range binary32 f1000 hop-constants.2 hop-constants.3 in
     let fx = finite-of binary32 x (whole-real n) (lt_of_lt_of_le (overflow-pos binary32) low) (lt_of_le_of_lt hi r.1) in
@@ -166,7 +160,7 @@ counted gcdkm amind h x e = let z = trunc_of (hop_ratio_of gcdkm amind h) in cou
 
 -- ---- the least takeoff angle, of the hop count
 
-least-constants : F f90 × T (finite f90) × F D2R × T (finite D2R) × T (le f0 D2R) × T (le f0 f0) × T (le f0 f90) × T (finite (f90 *f D2R)) × F (f90 *f D2R) × T (le (f90 *f D2R) f4) × T (le (negf f4) f0)
+least-constants : F32 f90 × T (finite f90) × F32 D2R × T (finite D2R) × T (le f0 D2R) × T (le f0 f0) × T (le f0 f90) × T (finite (f90 *f D2R)) × F32 (f90 *f D2R) × T (le (f90 *f D2R) f4) × T (le (negf f4) f0)
 unfolding of_bits fits le mul round neg
 least-constants = (tt, tt, tt, tt, tt, tt, tt, tt, tt, tt, tt)
 
@@ -174,12 +168,8 @@ d2r-self : T (le D2R D2R)
 unfolding of_bits le
 d2r-self = tt
 
-not-below : (x : Float) → F x → T (real x) → (x <f f0) ≡ false → overflow binary32 ≤ key binary32 x
+not-below : (x : Float) → F32 x → T (real x) → (x <f f0) ≡ false → overflow binary32 ≤ key binary32 x
 not-below x p r e = rw zero-key at (ltb-false (key binary32 x) (key binary32 f0) (sym (lt-key binary32 x f0 p f0-fits r (finite-real f0 f0-finite)) ∙ e))
-
-or-none : (a b : Bool) → (a || b) ≡ false → (a ≡ false) × (b ≡ false)
-or-none true b e = let z : ◌≡◌ {A = ℕ} 0 1 = cc in absurd (omega arith)
-or-none false b e = (refl, e)
 
 real_of : (x : Float) → is_nan x ≡ false → T (real x)
 unfolding is_nan
@@ -187,11 +177,11 @@ real_of nan e = let z : ◌≡◌ {A = ℕ} 0 1 = cc in absurd (omega arith)
 real_of (inf s) e = tt
 real_of (fin s m e) q = tt
 
-dele-by : (b : Bool) (a : Float) → F a → (is_nan a || (f0 >f a)) ≡ b → (a >f f90) ≡ false → UpTo binary32 f90 (or_second b a f0)
+dele-by : (b : Bool) (a : Float) → F32 a → (is_nan a || (f0 >f a)) ≡ b → (a >f f90) ≡ false → UpTo binary32 f90 (or_second b a f0)
 unfolding or_second
 dele-by true a p e g = up_to f0 f90 f0-fits least-constants.0 least-constants.1 least-constants.5 least-constants.6
 dele-by false a p e g =
-    let w = or-none (is_nan a) (f0 >f a) e in
+    let w = or_parts (is_nan a) (f0 >f a) e in
     let r = real_of a w.0 in
     let l = not-below a p r w.1 in
     let h : key binary32 a ≤ key binary32 f90 = ltb-false _ _ (sym (lt-key binary32 f90 a least-constants.0 p (finite-real f90 least-constants.1) r) ∙ g) in
@@ -199,7 +189,7 @@ dele-by false a p e g =
     record { held = p; fin = finite-of binary32 a r (lt_of_lt_of_le (overflow-pos binary32) l) (lt_of_le_of_lt h t.1); low = l; high = h }
 
 -- cos in the hop count, of the layers and of Es
-pub least-angle : (amind : Float) → F amind → (amind >f f90) ≡ false → Small (max_of amind f0 *f D2R)
+pub least-angle : (amind : Float) → F32 amind → (amind >f f90) ≡ false → Small (max_of amind f0 *f D2R)
 unfolding max_of
 least-angle amind p g =
     let k = least-constants in
@@ -213,11 +203,11 @@ least-angle amind p g =
 abbrev P : Float
 P = f40100 /f (f2 *f RZ)
 
-psi-constants : F f40100 × T (finite f40100) × F (f2 *f RZ) × T (finite (f2 *f RZ)) × T (lt f0 (f2 *f RZ)) × T (finite P) × F P × T (lt f0 f1) × T (finite (P /f f1)) × T (finite ((f2 *f RZ) *f f1000)) × T (finite ((f2 *f RZ) *f f1)) × T (lt f0 ((f2 *f RZ) *f f1)) × T (finite (f40100 /f ((f2 *f RZ) *f f1)))
+psi-constants : F32 f40100 × T (finite f40100) × F32 (f2 *f RZ) × T (finite (f2 *f RZ)) × T (lt f0 (f2 *f RZ)) × T (finite P) × F32 P × T (lt f0 f1) × T (finite (P /f f1)) × T (finite ((f2 *f RZ) *f f1000)) × T (finite ((f2 *f RZ) *f f1)) × T (lt f0 ((f2 *f RZ) *f f1)) × T (finite (f40100 /f ((f2 *f RZ) *f f1)))
 unfolding of_bits fits lt mul div round
 psi-constants = (tt, tt, tt, tt, tt, tt, tt, tt, tt, tt, tt, tt, tt)
 
-above : (x : Float) → F x → T (lt f0 x) → Above binary32 x
+above : (x : Float) → F32 x → T (lt f0 x) → Above binary32 x
 above x p h = rw zero-key at (lt→keys binary32 f0 x f0-fits p (lt-real f0 x h).0 (lt-real f0 x h).1 h)
 
 pub psi-twice : (gcdkm x : Float) → UpTo binary32 f40100 gcdkm → HopCount x → UpTo binary32 (P /f f1) (psi_of gcdkm x true)
@@ -235,7 +225,7 @@ psi-once gcdkm x g h =
     let d = product-from binary32 c f1 c x k.2 hop-constants.0 k.3 hop-constants.1 (le_of_lt a) (le_of_lt (above f1 hop-constants.0 k.7)) w.fin (from c k.2 k.3) h.from in
     quotient binary32 f40100 (c *f f1) gcdkm (c *f x) k.0 (mul-fits binary32 c f1) k.1 k.10 (above (c *f f1) (mul-fits binary32 c f1) k.11) k.12 g d
 
-psi-small : F (P /f f1) × T (le (P /f f1) f4) × F (f40100 /f ((f2 *f RZ) *f f1)) × T (le (f40100 /f ((f2 *f RZ) *f f1)) f4)
+psi-small : F32 (P /f f1) × T (le (P /f f1) f4) × F32 (f40100 /f ((f2 *f RZ) *f f1)) × T (le (f40100 /f ((f2 *f RZ) *f f1)) f4)
 unfolding of_bits fits le mul div round
 psi-small = (tt, tt, tt, tt)
 
@@ -246,11 +236,11 @@ hop-angle gcdkm x false g h = small-between f0 (f40100 /f ((f2 *f RZ) *f f1)) _ 
 
 -- ---- the takeoff angle: half pi, less an arc tangent, less psi
 
-half-constants : F PIO2 × F (negf PIO2) × T (finite PIO2) × T (finite (negf PIO2)) × T (finite (PIO2 -f PIO2)) × T (finite (PIO2 -f negf PIO2)) × F (PIO2 -f PIO2) × F (PIO2 -f negf PIO2)
+half-constants : F32 PIO2 × F32 (negf PIO2) × T (finite PIO2) × T (finite (negf PIO2)) × T (finite (PIO2 -f PIO2)) × T (finite (PIO2 -f negf PIO2)) × F32 (PIO2 -f PIO2) × F32 (PIO2 -f negf PIO2)
 unfolding of_bits fits neg sub add round
 half-constants = (tt, tt, tt, tt, tt, tt, tt, tt)
 
-arc : (x : Float) → F x → T (le (negf PIO2) x) → T (le x PIO2) → Between binary32 (negf PIO2) PIO2 x
+arc : (x : Float) → F32 x → T (le (negf PIO2) x) → T (le x PIO2) → Between binary32 (negf PIO2) PIO2 x
 arc x p a b =
     let k = half-constants in
     let l = le→keys binary32 (negf PIO2) x k.1 p (le-real (negf PIO2) x a).0 (le-real (negf PIO2) x a).1 a in
@@ -261,7 +251,7 @@ arc x p a b =
 
 -- psi is at most Q, which is small enough that neither end leaves -4 to 4
 record Narrow (Q : Float) : Type 0 where
-  held : F Q
+  held : F32 Q
   fin : T (finite Q)
   lowest : T (finite (PIO2 -f PIO2 -f Q))
   highest : T (finite (PIO2 -f negf PIO2 -f f0))
@@ -276,26 +266,20 @@ narrow-once : Narrow (f40100 /f ((f2 *f RZ) *f f1))
 unfolding of_bits fits le neg sub add mul div round
 narrow-once = record { held = tt; fin = tt; lowest = tt; highest = tt; above_low = tt; below-high = tt }
 
-nan_is : (x : Float) → is_nan x ≡ true → x ≡ nan
-unfolding is_nan
-nan_is nan e = refl
-nan_is (inf s) e = let z : ◌≡◌ {A = ℕ} 0 1 = cc in absurd (omega arith)
-nan_is (fin s m e) q = let z : ◌≡◌ {A = ℕ} 0 1 = cc in absurd (omega arith)
-
 nan-less : (psi : Float) → Small (PIO2 -f nan -f psi)
 unfolding sub add neg lt of_bits round
 nan-less psi = (refl, refl)
 
-takeoff-by : (phe psi Q : Float) → F phe → (is_nan phe ≡ true) ⊎ (((negf PIO2 ≤f phe) ≡ true) × ((phe ≤f PIO2) ≡ true)) → UpTo binary32 Q psi → Narrow Q → Small (PIO2 -f phe -f psi)
-takeoff-by phe psi Q p (inl e) h n = subst (λ (z : Float). Small (PIO2 -f z -f psi)) (sym (nan_is phe e)) (nan-less psi)
+takeoff-by : (phe psi Q : Float) → F32 phe → (is_nan phe ≡ true) ⊎ (((negf PIO2 ≤f phe) ≡ true) × ((phe ≤f PIO2) ≡ true)) → UpTo binary32 Q psi → Narrow Q → Small (PIO2 -f phe -f psi)
+takeoff-by phe psi Q p (inl e) h n = subst (λ (z : Float). Small (PIO2 -f z -f psi)) (sym (nan-only phe e)) (nan-less psi)
 takeoff-by phe psi Q p (inr w) h n =
     let k = half-constants in
-    let b = difference binary32 PIO2 PIO2 (negf PIO2) PIO2 PIO2 phe k.0 k.0 k.1 k.0 k.2 k.2 k.3 k.2 k.4 k.5 (exactly PIO2 k.0 k.2) (arc phe p (is_T w.0) (is_T w.1)) in
+    let b = difference binary32 PIO2 PIO2 (negf PIO2) PIO2 PIO2 phe k.0 k.0 k.1 k.0 k.2 k.2 k.3 k.2 k.4 k.5 (exactly PIO2 k.0 k.2) (arc phe p (T_from_true _ w.0) (T_from_true _ w.1)) in
     let d = difference binary32 (PIO2 -f PIO2) (PIO2 -f negf PIO2) f0 Q (PIO2 -f phe) psi k.6 k.7 f0-fits n.held k.4 k.5 f0-finite n.fin n.lowest n.highest b (over Q psi h) in
     small-between (PIO2 -f PIO2 -f Q) (PIO2 -f negf PIO2 -f f0) (PIO2 -f phe -f psi) (sub-fits binary32 (PIO2 -f PIO2) Q) (sub-fits binary32 (PIO2 -f negf PIO2) f0) n.above_low n.below-high d
 
 -- it is the value of a pattern
-atan-fits : (x : Float) → F (atan_of x)
+atan-fits : (x : Float) → F32 (atan_of x)
 unfolding atan_of
 atan-fits x = of_bits-fits binary32 (atan_bits (to_bits binary32 x))
 
@@ -310,7 +294,7 @@ takeoff-angle gcdkm x cpsi spsi hp false g h = takeoff-small (psi_of gcdkm x fal
 
 -- ---- Es: half the path in radians, over the hops
 
-es-constants : F f0_5 × T (finite f0_5) × T (le f0 f0_5) × T (le f0_5 f0_5) × F f6_3 × T (finite f6_3) × T (finite (f0_5 *f f6_3)) × F (f0_5 *f f6_3) × T (finite (f0_5 *f f6_3 /f f1)) × F (f0_5 *f f6_3 /f f1) × T (le (f0_5 *f f6_3 /f f1) f4)
+es-constants : F32 f0_5 × T (finite f0_5) × T (le f0 f0_5) × T (le f0_5 f0_5) × F32 f6_3 × T (finite f6_3) × T (finite (f0_5 *f f6_3)) × F32 (f0_5 *f f6_3) × T (finite (f0_5 *f f6_3 /f f1)) × F32 (f0_5 *f f6_3 /f f1) × T (le (f0_5 *f f6_3 /f f1) f4)
 unfolding of_bits fits le mul div round
 es-constants = (tt, tt, tt, tt, tt, tt, tt, tt, tt, tt, tt)
 
@@ -330,10 +314,10 @@ pub es-angle : (gcd x : Float) → UpTo binary32 f6_3 gcd → HopCount x → Sma
 es-angle gcd x g h = over-hops (f0_5 *f gcd) x (half-path gcd g) h.from
 
 -- the domain gives what these ask
-pub gcdkm-up-to : (gcdkm : Float) → F gcdkm → (f0 ≤f gcdkm && gcdkm ≤f f40100) ≡ true → UpTo binary32 f40100 gcdkm
+pub gcdkm-up-to : (gcdkm : Float) → F32 gcdkm → (f0 ≤f gcdkm && gcdkm ≤f f40100) ≡ true → UpTo binary32 f40100 gcdkm
 gcdkm-up-to gcdkm p e = domain gcdkm f40100 p psi-constants.0 psi-constants.1 e
 
-pub gcd-up-to : (gcd : Float) → F gcd → (f0 ≤f gcd && gcd ≤f f6_3) ≡ true → UpTo binary32 f6_3 gcd
+pub gcd-up-to : (gcd : Float) → F32 gcd → (f0 ≤f gcd && gcd ≤f f6_3) ≡ true → UpTo binary32 f6_3 gcd
 gcd-up-to gcd p e = domain gcd f6_3 p es-constants.4 es-constants.5 e
 
 -- ---- all of them, on the domain

@@ -1,10 +1,11 @@
 -- `fobby` takes the cosine of its forty angles, 0 to 89.99 degrees: each of them in radians is computed and found within -4 to 4. So 13 is never its answer either.
-use mathlib.Core.Path.{◌≡◌, refl}
-use mathlib.Core.Bool.{Bool, true, false, not, ◌&&◌}
+use mathlib.Core.Path.{refl}
+use mathlib.Core.Bool.{Bool, true, not, ◌&&◌}
 use mathlib.Core.List.{List, [], ◌∷◌}
 use Prim.Native.Nat.{ℕ, zero, suc}
 use lib.Dec.{T}
 use lib.Ieee.{Float, of_bits, round, lt, neg, mul}
+use lib.Ieee.Bits.{is_false}
 use lib.Ieee.Fits.{and_l, and_r}
 use Rattle.scalar.specs.F32.{◌*f◌, ◌<f◌, ◌>f◌, negf, at}
 use Rattle.scalar.specs.Literals.{f4}
@@ -24,13 +25,9 @@ all_small : List Float → Bool
 all_small [] = true
 all_small (x ∷ l) = small (x *f D2R) && all_small l
 
-not_so : (b : Bool) → T (not b) → b ≡ false
-not_so true h = absurd h
-not_so false h = refl
-
 is-small : (x : Float) → T (small x) → Small x
 unfolding small
-is-small x t = (not_so (x <f negf f4) (and_l (not (x <f negf f4)) (not (x >f f4)) t), not_so (x >f f4) (and_r (not (x <f negf f4)) (not (x >f f4)) t))
+is-small x t = (is_false (x <f negf f4) (and_l (not (x <f negf f4)) (not (x >f f4)) t), is_false (x >f f4) (and_r (not (x <f negf f4)) (not (x >f f4)) t))
 
 -- past the list's end stands NaN
 each-small : (l : List Float) → T (all_small l) → (ia : ℕ) → Small (radians l ia)

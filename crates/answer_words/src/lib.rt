@@ -4,11 +4,14 @@
 
 ghost use Rattle.std.specs.Prelude.{◌≡◌, ◌^◌, ◌≤◌, ◌<◌, length};
 ghost use Rattle.refusal.specs.Number.{answer_number};
-ghost use Rattle.answer_words.specs.Words.{number_in, number_left, float_left};
+ghost use Rattle.std.specs.Result.{result_unwrap_or};
+ghost use Rattle.answer_words.specs.Words.{number_left, float_left};
 
 use refusal::Refusal;
 
 // The number into the first word; where it is refused, the words stay.
+// Stays: a number, a count and a float by three functions, whose one store differs. `number_into(answer.map(|n| n as u32), out)`
+// hands on a `Result` that is made for it, and of the closure, which casts, each caller's proof needs a lemma: tried, it didn't close.
 pub fn number_into(answer: Result<u32, Refusal>, out: &mut [u32]) -> Result<(), Refusal>
     requires { 1 ≤ length out.old }
     ensures { (answer_number result ≡ answer_number answer) × (out.new ≡ number_left answer out.old) }
@@ -19,7 +22,7 @@ pub fn number_into(answer: Result<u32, Refusal>, out: &mut [u32]) -> Result<(), 
 
 // So a count, a usize here and a word there.
 pub fn count_into(answer: Result<usize, Refusal>, out: &mut [u32]) -> Result<(), Refusal>
-    requires { (1 ≤ length out.old) × (number_in answer < 2 ^ 32) }
+    requires { (1 ≤ length out.old) × (result_unwrap_or answer 0 < 2 ^ 32) }
     ensures { (answer_number result ≡ answer_number answer) × (out.new ≡ number_left answer out.old) }
 {
     out[0] = answer? as u32;

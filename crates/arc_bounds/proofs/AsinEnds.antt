@@ -4,7 +4,7 @@
 use mathlib.Core.Path.{◌≡◌, refl, sym, ap, subst}
 use mathlib.Core.Logic.{◌⊎◌, inl, inr}
 use Prim.Native.Nat.{ℕ, ◌+◌, ◌-◌, ◌*◌, ◌/◌, ◌^◌, ◌≤◌, ◌<◌}
-use native.Mathlib.Nat.{le_trans, le_of_eq, le_of_lt, le_dest, mul_assoc, mul-pos, mul-le-mul, mul-le-mul_left, mul-le-mul_right, le_of_mul-le-mul_right, div-mul-le_self}
+use native.Mathlib.Nat.{le_trans, le_of_eq, le_of_lt, le_dest, mul_assoc, mul-pos, mul-le-mul, mul-le-mul_left, mul-le-mul_right, le_of_mul-le-mul_right, div-mul-le_self, sub-add_cancel, sub-le}
 use native.Mathlib.Omega.{arith}
 use lib.Dec.{lit≤}
 use lib.Pow.{pow_pos}
@@ -15,7 +15,8 @@ use Rattle.arcs.proofs.Angle.{Sizes, wide-le, wide_ok}
 use Rattle.arc_tables.proofs.Angles.{Entry}
 use Rattle.arcs.proofs.Cosine.{Cosine}
 use Rattle.arcs.proofs.Step as step
-use Rattle.arc_bounds.proofs.SmallCircle.{root-le, twice, W², g-w, circle-low, circle-high, under-tangent, over-tangent, sides}
+use Rattle.scalar.proofs.WholeRoot.{square-back}
+use Rattle.arc_bounds.proofs.SmallCircle.{twice, W², g-w, circle-low, circle-high, under-tangent, over-tangent, sides}
 
 -- the sine X and the cosine 8 r, brought by the table's angle A to a small angle whose sine is s * 2 ^ -56
 pub record Turned (X r A s : ℕ) : Type 0 where
@@ -105,7 +106,7 @@ over-sine s j w g σ v BB P J G S g-w e h W big = at (le_dest (le_trans (low s j
 -- the sides of the two: c + n is at most the root of 2 N, so 2 ^ 31 times it is well below P
 far : (M N R P c n : ℕ) → R * R + P * P ≡ M * N → N ≡ c * c + n * n → 2 ^ 64 - 2 ^ 34 ≤ M → 2 ^ 69 ≤ N → R ≤ 2 ^ 61 → 64 * (2 ^ 25 * (c + n)) ≤ P
 far M N R P c n e f h l r =
-    root-le (64 * (2 ^ 25 * (c + n))) P (le_trans (le_of_eq (square (c + n)))
+    square-back (64 * (2 ^ 25 * (c + n))) P (le_trans (le_of_eq (square (c + n)))
     (go (2 ^ 62 * ((c + n) * (c + n))) (2 ^ 62 * N) (R * R) (P * P) (M * N) (le_trans (mul-le-mul_left (2 ^ 62) sum) (twofold (2 ^ 62) N)) (le_trans (le_of_eq (threefold (2 ^ 62) N)) (mul-le-mul_right N (le_trans (lit≤ tt) h))) (le_trans (mul-le-mul r r) (le_trans (lit≤ tt) (mul-le-mul_left (2 ^ 62) l))) e))
   where
     square : (q : ℕ) → 64 * (2 ^ 25 * q) * (64 * (2 ^ 25 * q)) ≡ 2 ^ 62 * (q * q)
@@ -257,26 +258,20 @@ leg-over u t v a b = le_trans (go (2 ^ 56 - 2 ^ 27) (2 ^ 27) (le_trans (mul-le-m
 
 leg-low : (u s y R R' v : ℕ) → u + 16 * v ≤ s → s ≤ 2 ^ 31 * v → s * 2 ^ 11 ≤ R → R ≤ (s + 1) * 2 ^ 11 → R' + y * 16 ≡ R → y * 2 ^ 23 ≤ 2 ^ 31 * v → 2 ^ 12 ≤ 2 * v + 2 → u * (2 ^ 67 + 2 ^ 38) ≤ (2 ^ 56 - 2) * R'
 leg-low u s y R R' v a b c d e f g =
-    le_trans (le_of_eq (cut u)) (le_trans (mul-le-mul_right (2 ^ 11) (leg-under u (R' / 2 ^ 11) v (omega arith) (apart (R' / 2 ^ 11) (omega arith)))) (le_trans (le_of_eq (turn (2 ^ 56 - 2) (R' / 2 ^ 11) (2 ^ 11))) (mul-le-mul_left (2 ^ 56 - 2) (div-mul-le_self R' (2 ^ 11)))))
+    le_trans (le_of_eq (cut u)) (le_trans (mul-le-mul_right (2 ^ 11) (leg-under u (R' / 2 ^ 11) v (omega arith) (apart (R' / 2 ^ 11) (omega arith)))) (le_trans (le_of_eq (mul_assoc (2 ^ 56 - 2) (R' / 2 ^ 11) (2 ^ 11))) (mul-le-mul_left (2 ^ 56 - 2) (div-mul-le_self R' (2 ^ 11)))))
   where
     cut : (u : ℕ) → u * (2 ^ 67 + 2 ^ 38) ≡ u * (2 ^ 56 + 2 ^ 27) * 2 ^ 11
     cut u = omega arith
-
-    turn : (k t z : ℕ) → k * t * z ≡ k * (t * z)
-    turn k t z = omega arith
 
     apart : (t : ℕ) → R' ≤ t * 2 ^ 11 + 2 ^ 11 → u + 13 * v ≤ t
     apart t h = omega arith
 
 leg-high : (u s y R v : ℕ) → s + 15 * v ≤ u → u ≤ 2 ^ 31 * v → R ≤ (s + 1) * 2 ^ 11 → y * 2 ^ 23 ≤ 2 ^ 31 * v → 2 ^ 12 ≤ 2 * v + 2 → (2 ^ 56 + 2) * (R + y * 8) ≤ u * (2 ^ 67 - 2 ^ 38)
 leg-high u s y R v a b c d e =
-    le_trans (mul-le-mul_left (2 ^ 56 + 2) over) (le_trans (le_of_eq (turn (2 ^ 56 + 2) (s + 1 + v) (2 ^ 11))) (le_trans (mul-le-mul_right (2 ^ 11) (leg-over u (s + 1 + v) v b (omega arith))) (le_of_eq (cut u))))
+    le_trans (mul-le-mul_left (2 ^ 56 + 2) over) (le_trans (le_of_eq (sym (mul_assoc (2 ^ 56 + 2) (s + 1 + v) (2 ^ 11)))) (le_trans (mul-le-mul_right (2 ^ 11) (leg-over u (s + 1 + v) v b (omega arith))) (le_of_eq (cut u))))
   where
     over : R + y * 8 ≤ (s + 1 + v) * 2 ^ 11
     over = omega arith
-
-    turn : (k t z : ℕ) → k * (t * z) ≡ k * t * z
-    turn k t z = omega arith
 
     cut : (u : ℕ) → u * (2 ^ 56 - 2 ^ 27) * 2 ^ 11 ≡ u * (2 ^ 67 - 2 ^ 38)
     cut u = omega arith
@@ -309,10 +304,7 @@ module _ (X r A s p o v : ℕ) (T : Turned X r A s) (Z : Sizes (arc_of A s) p o 
 
   R₁-is : R₁ + T.y₀ * 16 ≡ T.R
   unfolding R₁
-  R₁-is = go T.R (T.y₀ * 16) T.R-large
-    where
-      go : (x y : ℕ) → y ≤ x → x - y + y ≡ x
-      go x y h = omega arith
+  R₁-is = sub-add_cancel T.R-large
 
   e₁ : R₁ + T.y₀ * (8 * r + 16) ≡ T.x₀ * X
   e₁ = go T.x₀ T.y₀ T.R R₁ R₁-is T.e_r
@@ -433,10 +425,7 @@ module _ (X r A s p o v : ℕ) (T : Turned X r A s) (Z : Sizes (arc_of A s) p o 
       go x y a b = omega arith
 
   σ₂-w : σ₂ ≤ W₂
-  σ₂-w = go W₂ g₂
-    where
-      go : (x y : ℕ) → x - y ≤ x
-      go x y = omega arith
+  σ₂-w = sub-le W₂ g₂
 
   leg₂ : (2 ^ 56 + 2) * (T.R + T.y₀ * 8) ≤ τ₂ * (2 ^ 67 - 2 ^ 38)
   leg₂ = leg-high τ₂ s T.y₀ T.R v (go σ₂ (ρ W₂) τ₂ sine₂ ρ₂ τ₂-is) (most σ₂ W₂ τ₂ (ρ W₂) σ₂-w wide₂ τ₂-is) T.s-high y-most large

@@ -1,7 +1,7 @@
 -- The two ends of the arc tangent and of the arc sine: x itself below 2 ^ -12, where x³ / 3 is less than an ulp, and half pi, by sharp enclosures on both sides of it.
 use mathlib.Core.Path.{◌≡◌, refl, sym, ap, ap₂, ◌∙◌, subst}
 use Prim.Native.Nat.{ℕ, zero, suc, ◌+◌, ◌-◌, ◌*◌, ◌/◌, ◌^◌, ◌≤◌, ◌<◌}
-use native.Mathlib.Nat.{le_trans, le_of_eq, le_refl, le_dest, mul-pos, mul-le-mul, mul-le-mul_left, mul-le-mul_right, le_of_mul-le-mul_right, pow-suc, mul-zero, add-le-add}
+use native.Mathlib.Nat.{le_trans, le_of_eq, le_refl, le_dest, mul-pos, mul-le-mul, mul-le-mul_left, mul-le-mul_right, le_of_mul-le-mul_right, pow-suc, mul-zero, add-le-add, sub-eq-zero_of_le, le_of_lt}
 use native.Mathlib.Omega.{arith}
 use lib.Pow.{pow_pos}
 use lib.Dec.{T, lit≤}
@@ -76,11 +76,8 @@ module _ (B v u : ℕ) (b : 0 < B) (sv : v * 2 ^ 16 ≤ B) (su : u * 2 ^ 16 ≤ 
         go k T t a c = omega (arith, a, mul-le-mul_right w c)
 
   pub small-le : SinLe (16 * v - 15 * u) B (16 * v) B
-  small-le = split (16 * v) (15 * u) (λ l. subst (λ (w : ℕ). SinLe w B (16 * v) B) (sym (gone l)) (zero-le B (16 * v) B)) (λ l. at (16 * v - 15 * u) (omega arith) (omega arith))
+  small-le = split (16 * v) (15 * u) (λ l. subst (λ (w : ℕ). SinLe w B (16 * v) B) (sym (sub-eq-zero_of_le (le_of_lt l))) (zero-le B (16 * v) B)) (λ l. at (16 * v - 15 * u) (omega arith) (omega arith))
     where
-      gone : 16 * v < 15 * u → 16 * v - 15 * u ≡ 0
-      gone l = omega arith
-
       go : (w f g k : ℕ) → w + 15 * u ≡ 16 * v → f * 2 ^ 13 ≤ w → (w + (1 + u)) * B + (f + (1 + u)) * (16 * v) ≤ g * B + (B + k) * (16 * v)
       go w f g k e h =
           let a : f * (16 * v * 2 ^ 12) ≤ f * B = mul-le-mul_left f (omega arith) in
@@ -121,11 +118,8 @@ module _ (B v u : ℕ) (b : 0 < B) (sv : v * 2 ^ 16 ≤ B) (su : u * 2 ^ 16 ≤ 
           cos-plus w B B (B + k w m) w (f w m) (g w m) (B + k w m + (1 + u)) (w + (1 + u)) (f w m + (1 + u)) (g w m + (1 + u)) b b (enc w m) (go w (f w m) (k w m) (f-le w m (omega arith)) l)
 
   pub small-sine-le : Later (λ j. num (class 1) (16 * v - 15 * u) B j * B ≤ num (class 3) (16 * v - 15 * u) B j * B + 16 * v * full B j)
-  small-sine-le = split (16 * v) (15 * u) (λ l. subst (λ (w : ℕ). Later (λ j. num (class 1) w B j * B ≤ num (class 3) w B j * B + 16 * v * full B j)) (sym (gone l)) (0, λ j h. rw (none 0 B j) (omega arith))) (λ l. at (16 * v - 15 * u) (omega arith) (omega arith))
+  small-sine-le = split (16 * v) (15 * u) (λ l. subst (λ (w : ℕ). Later (λ j. num (class 1) w B j * B ≤ num (class 3) w B j * B + 16 * v * full B j)) (sym (sub-eq-zero_of_le (le_of_lt l))) (0, λ j h. rw (none 0 B j) (omega arith))) (λ l. at (16 * v - 15 * u) (omega arith) (omega arith))
     where
-      gone : 16 * v < 15 * u → 16 * v - 15 * u ≡ 0
-      gone l = omega arith
-
       go : (w g : ℕ) → w + 15 * u ≡ 16 * v → (w + (1 + u)) * B ≤ g * B + 16 * v * B
       go w g e = omega (arith, ap (λ (x : ℕ). x * B) e, mul-le-mul_right B one)
 

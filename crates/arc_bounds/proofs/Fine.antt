@@ -1,11 +1,12 @@
 -- Enclosures of sine and cosine within 2 ^ -109, for every angle y / 2 ^ 56 from 2 ^ -14 to 2, and what the arc sine's proof asks of them.
-use mathlib.Core.Path.{◌≡◌, ap, ◌∙◌, subst}
+use mathlib.Core.Path.{◌≡◌, subst, sym}
 use Prim.Native.Nat.{ℕ, zero, suc, ◌+◌, ◌*◌, ◌^◌, ◌≤◌, ◌<◌}
-use native.Mathlib.Nat.{le_trans, le_of_eq, add-le-add, mul-le-mul_left, mul-le-mul_right, le_of_mul-le-mul_right, not-le_of_lt, pow-le-pow_left, pow-suc, pow-zero, one-mul}
+use native.Mathlib.Nat.{le_trans, le_of_eq, add-le-add, mul-le-mul_left, mul-le-mul_right, le_of_mul-le-mul_right, not-le_of_lt, pow-le-pow_left, suc-mul, mul_assoc, le-add_left, le-add_right}
 use native.Mathlib.Omega.{arith}
 use lib.Dec.{lit≤}
 use lib.Pow.{pow_pos}
 use Rattle.series.specs.Series.{full, num, class, SinLe, SinGe}
+use Rattle.series.proofs.Terms.{pow-1, full-1}
 use Rattle.series.proofs.Addition.{full-pos}
 use Rattle.cases.proofs.Cases.{split}
 use Rattle.series.proofs.Fractions.{num-mono}
@@ -35,17 +36,10 @@ four-terms (suc (suc (suc r))) h = absurd (no r h)
 
 num-one : (n d : ℕ) → num (class 1) n d 1 ≡ n
 unfolding num class
-num-one n d = go (n ^ 1) (pow-one n)
+num-one n d = go (n ^ 1) (pow-1 n)
   where
-    pow-one : (n : ℕ) → n ^ 1 ≡ n
-    pow-one n = pow-suc n 0 ∙ ap (λ (x : ℕ). x * n) (pow-zero n) ∙ one-mul n
-
     go : (p : ℕ) → p ≡ n → 0 * (d * 1) + 1 * p ≡ n
     go p e = omega arith
-
-full-one : (d : ℕ) → full d 1 ≡ d
-unfolding full
-full-one d = omega arith
 
 module _ (y : ℕ) (large : 2 ^ 42 ≤ y) (small : y ≤ 2 ^ 57) where
   pub enc : Enc4 y (2 ^ 56) (2 ^ 110) (fine 0 y) (fine 1 y) (fine 2 y) (fine 3 y) (fine 0 y + 2) (fine 1 y + 2) (fine 2 y + 2) (fine 3 y + 2)
@@ -63,17 +57,11 @@ module _ (y : ℕ) (large : 2 ^ 42 ≤ y) (small : y ≤ 2 ^ 57) where
   first : 2 ^ 54 * y ≤ fine 1 y
   first =
       go (2 ^ 54) (fine 1 y) (num (class 1) y (2 ^ 56) 45) (full (2 ^ 56) 45) (portion-next (2 ^ 110) 45 1 y)
-      (subst (λ (x : ℕ). x * full (2 ^ 56) 45 ≤ num (class 1) y (2 ^ 56) 45 * 2 ^ 56) (num-one y (2 ^ 56)) (subst (λ (x : ℕ). num (class 1) y (2 ^ 56) 1 * full (2 ^ 56) 45 ≤ num (class 1) y (2 ^ 56) 45 * x) (full-one (2 ^ 56)) (grows (class 1) (class-le 1) y (2 ^ 56) 1 44)))
+      (subst (λ (x : ℕ). x * full (2 ^ 56) 45 ≤ num (class 1) y (2 ^ 56) 45 * 2 ^ 56) (num-one y (2 ^ 56)) (subst (λ (x : ℕ). num (class 1) y (2 ^ 56) 1 * full (2 ^ 56) 45 ≤ num (class 1) y (2 ^ 56) 45 * x) (full-1 (2 ^ 56)) (grows (class 1) (class-le 1) y (2 ^ 56) 1 44)))
     where
       go : (m p n F : ℕ) → m * 2 ^ 56 * n < p * F + F → y * F ≤ n * 2 ^ 56 → m * y ≤ p
-      go m p n F a b = split p (m * y) (λ l. absurd (not-le_of_lt a (le_trans (le_trans (le_of_eq (again p F)) (mul-le-mul_right F l)) (le_trans (le_of_eq (one m y F)) (le_trans (mul-le-mul_left m b) (le_of_eq (two m n))))))) (λ l. l)
+      go m p n F a b = split p (m * y) (λ l. absurd (not-le_of_lt a (le_trans (le_trans (le_of_eq (sym (suc-mul p F))) (mul-le-mul_right F l)) (le_trans (le_of_eq (mul_assoc m y F)) (le_trans (mul-le-mul_left m b) (le_of_eq (two m n))))))) (λ l. l)
         where
-          again : (p F : ℕ) → p * F + F ≡ suc p * F
-          again p F = omega arith
-
-          one : (m y F : ℕ) → m * y * F ≡ m * (y * F)
-          one m y F = omega arith
-
           two : (m n : ℕ) → m * (n * 2 ^ 56) ≡ m * 2 ^ 56 * n
           two m n = omega arith
 
@@ -102,22 +90,10 @@ module _ (y : ℕ) (large : 2 ^ 42 ≤ y) (small : y ≤ 2 ^ 57) where
   from_le n c L =
       let k = L.0 + 45 in
       back (full (2 ^ 56) k) c n (2 ^ 110) (num (class 1) y (2 ^ 56) k) (num (class 2) y (2 ^ 56) k) (num (class 3) y (2 ^ 56) k) (num (class 0) y (2 ^ 56) k) (fine 3 y + 2) (fine 0 y + 2) (fine 1 y) (fine 2 y) (full-pos (2 ^ 56) k (pow_pos 56))
-      (low 1 k (up L.0)) (low 2 k (up L.0)) (enc.high3 k) (enc.high0 k) (L.1 k (over L.0))
-    where
-      up : (N : ℕ) → 45 ≤ N + 45
-      up N = omega arith
-
-      over : (N : ℕ) → N ≤ N + 45
-      over N = omega arith
+      (low 1 k (le-add_left 45 L.0)) (low 2 k (le-add_left 45 L.0)) (enc.high3 k) (enc.high0 k) (L.1 k (le-add_right L.0 45))
 
   pub from-ge : (n c : ℕ) → SinGe y (2 ^ 56) n c → fine 3 y * c + fine 0 y * n ≤ (fine 1 y + 2) * c + (fine 2 y + 2) * n
   from-ge n c L =
       let k = L.0 + 45 in
       back (full (2 ^ 56) k) c n (2 ^ 110) (num (class 3) y (2 ^ 56) k) (num (class 0) y (2 ^ 56) k) (num (class 1) y (2 ^ 56) k) (num (class 2) y (2 ^ 56) k) (fine 1 y + 2) (fine 2 y + 2) (fine 3 y) (fine 0 y) (full-pos (2 ^ 56) k (pow_pos 56))
-      (low 3 k (up L.0)) (low 0 k (up L.0)) (enc.high1 k) (enc.high2 k) (L.1 k (over L.0))
-    where
-      up : (N : ℕ) → 45 ≤ N + 45
-      up N = omega arith
-
-      over : (N : ℕ) → N ≤ N + 45
-      over N = omega arith
+      (low 3 k (le-add_left 45 L.0)) (low 0 k (le-add_left 45 L.0)) (enc.high1 k) (enc.high2 k) (L.1 k (le-add_right L.0 45))

@@ -6,12 +6,12 @@ use Prim.Native.Nat.{ℕ, ◌-◌, ◌*◌, ◌^◌, ◌≤◌, ◌<◌}
 use native.Mathlib.Omega.{arith}
 use lib.Dec.{T, eqb, eqb→eq}
 use lib.ListN.{get_or}
+use mir.Facts.{or_yes}
 use Rattle.series.specs.Series.{full, num, class}
 use Rattle.cases.proofs.Entries as table
 use Rattle.series.proofs.Sharp.{portion}
 use Rattle.arc_tables.specs.Tables.{cosines, arcs, half_pi}
 use Rattle.arc_tables.proofs.Angles.{good, Entry, entry}
-use Rattle.arcs.proofs.AtanMost.{or_cases}
 
 gentle-test : (i : ℕ) → i < 183 → T (good (2 ^ 25) (get_or cosines i 0) (i * 2 ^ 24) (get_or arcs i 0))
 unfolding good cosines arcs portion num full class
@@ -25,7 +25,7 @@ unfolding good cosines arcs portion num full class
 steep-test j h = table.entry (λ j A. eqb j 0 || good (2 ^ 25) (j * 2 ^ 24) (get_or cosines j 0) (half_pi - A)) arcs tt j h
 
 pub steep-node : (j : ℕ) → 1 ≤ j → j < 183 → Entry (2 ^ 25) (j * 2 ^ 24) (get_or cosines j 0) (half_pi - get_or arcs j 0)
-steep-node j l h = go (or_cases (eqb j 0) (good (2 ^ 25) (j * 2 ^ 24) (get_or cosines j 0) (half_pi - get_or arcs j 0)) (steep-test j h))
+steep-node j l h = go (or_yes (eqb j 0) (good (2 ^ 25) (j * 2 ^ 24) (get_or cosines j 0) (half_pi - get_or arcs j 0)) (steep-test j h))
   where
     no : j ≡ 0 → 1 ≤ j → ⊥
     no e k = omega arith

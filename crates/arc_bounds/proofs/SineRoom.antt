@@ -3,7 +3,7 @@
 use mathlib.Core.Path.{◌≡◌, ap}
 use mathlib.Core.Logic.{◌⊎◌, inl, inr}
 use Prim.Native.Nat.{ℕ, ◌+◌, ◌-◌, ◌*◌, ◌^◌, ◌≤◌, ◌<◌}
-use native.Mathlib.Nat.{le_trans, le_of_lt, le_refl, mul-le-mul, mul-le-mul_left, mul-le-mul_right}
+use native.Mathlib.Nat.{le_trans, le_of_lt, le_refl, mul-le-mul, mul-le-mul_left, mul-le-mul_right, le-add_left}
 use native.Mathlib.Omega.{arith}
 use lib.Dec.{lit<, lit≤}
 use lib.Pow.{pow_pos}
@@ -157,10 +157,7 @@ module _ (y X r : ℕ) (large : 2 ^ 42 ≤ y) (small : y ≤ 2 ^ 57) (C : Cosine
       enough' : ε p₁ p₂ * (X * X) ≤ 2 * (h * X * s) + s * s
       enough' =
           let l : 4 * 2 ^ 93 ≤ s = le_trans (mul-le-mul_left 4 u-large) s-large in
-          le_trans (width p₁ p₂ X (most y large small 1 (lit< tt)) (most y large small 2 (lit< tt)) X-lt) (le_trans (lit≤ tt) (le_trans (mul-le-mul l l) (up (2 * (h * X * s)) (s * s))))
-        where
-          up : (a b : ℕ) → b ≤ a + b
-          up a b = omega arith
+          le_trans (width p₁ p₂ X (most y large small 1 (lit< tt)) (most y large small 2 (lit< tt)) X-lt) (le_trans (lit≤ tt) (le_trans (mul-le-mul l l) (le-add_left (s * s) (2 * (h * X * s)))))
 
       sine-near : X * 2 ^ 110 ≤ u * 2 ^ 35
       sine-near = sine-over u h X (8 * r) (2 ^ 35) (2 ^ 110) s (h * X) (ε p₁ p₂) (le_refl (h * X)) s-is C.low circle' enough'

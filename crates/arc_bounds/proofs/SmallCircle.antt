@@ -3,12 +3,9 @@ use mathlib.Core.Path.{◌≡◌, ap, subst}
 use Prim.Native.Nat.{ℕ, ◌+◌, ◌*◌, ◌^◌, ◌≤◌, ◌<◌}
 use native.Mathlib.Nat.{le_of_lt, le_dest, mul-pos, mul-le-mul, mul-le-mul_left, mul-le-mul_right, le_of_mul-le-mul_right}
 use native.Mathlib.Omega.{arith}
-use Rattle.scalar.proofs.WholeRoot.{root_ge}
+use Rattle.scalar.proofs.WholeRoot.{square-back}
 use Rattle.cases.proofs.Cases.{split}
 use Rattle.series.proofs.SmallAngle.{Parts}
-
-pub root-le : (a b : ℕ) → a * a ≤ b * b → a ≤ b
-root-le a b h = root_ge (b * b) b a (omega arith) h
 
 pub twice : (a b : ℕ) → 2 * (a * b) ≤ a * a + b * b
 twice a b = split a b (λ l. at a b (le_dest (le_of_lt l))) (λ l. turn (at b a (le_dest l)))
@@ -90,10 +87,10 @@ module _ (w B f g k D σ κ ρ : ℕ) (P : Parts w B f g k D) (eσ : σ + g ≡ 
 
 -- ---- from the sine to the tangent
 pub under-tangent : (u κ P R H B : ℕ) → B * B ≤ κ * κ + u * u → R * R + P * P ≤ H * H → u * H ≤ B * R → u * P ≤ κ * R
-under-tangent u κ P R H B c h s = root-le (u * P) (κ * R) (omega (arith, mul-le-mul s s, mul-le-mul_left (u * u) h, mul-le-mul_left (R * R) c))
+under-tangent u κ P R H B c h s = square-back (u * P) (κ * R) (omega (arith, mul-le-mul s s, mul-le-mul_left (u * u) h, mul-le-mul_left (R * R) c))
 
 pub over-tangent : (u κ P R H B : ℕ) → κ * κ + u * u ≤ B * B → H * H ≤ R * R + P * P → B * R ≤ u * H → κ * R ≤ u * P
-over-tangent u κ P R H B c h s = root-le (κ * R) (u * P) (omega (arith, mul-le-mul s s, mul-le-mul_left (u * u) h, mul-le-mul_left (R * R) c))
+over-tangent u κ P R H B c h s = square-back (κ * R) (u * P) (omega (arith, mul-le-mul s s, mul-le-mul_left (u * u) h, mul-le-mul_left (R * R) c))
 
 -- R and P are the sides that two of squares M and N make together
 pub sides : (x y c n R : ℕ) → R + y * c ≡ x * n → R * R + (x * c + y * n) * (x * c + y * n) ≡ (x * x + y * y) * (c * c + n * n)

@@ -2,32 +2,14 @@
 -- At z = v - a with a = w - b and b = v⁵ / 4 in the same way: sin z is at least z - z³ / 6, cos z at most 1 - z² / 2 + z⁴ / 24, and v z⁴ / 24 + v² a / 2 is at most b, as 1 / 24 + 1 / 6 is at most 1 / 4.
 use mathlib.Core.Path.{◌≡◌, refl, sym, ap, ap₂, ◌∙◌}
 use Prim.Native.Nat.{ℕ, ◌+◌, ◌-◌, ◌*◌, ◌^◌, ◌≤◌, ◌<◌}
-use native.Mathlib.Nat.{le_trans, le_of_eq, mul-pos, mul-le-mul, mul-le-mul_left, mul-le-mul_right, le_of_mul-le-mul_right, pow-suc, pow-zero}
+use native.Mathlib.Nat.{le_trans, le_of_eq, mul-pos, mul-le-mul, mul-le-mul_left, mul-le-mul_right, le_of_mul-le-mul_right, le-add_right, le-add_left, sub-add_cancel, mul_assoc}
 use native.Mathlib.Omega.{arith}
 use lib.Dec.{lit≤, lit<}
+use Rattle.series.proofs.Terms.{pow-1, pow-2, pow-3, pow-4, pow-5}
 use Rattle.series.specs.Series.{full, num, class, SinLe, SinGe}
 use Rattle.series.proofs.Addition.{full-pos}
 use Rattle.exact.proofs.Enclosure.{one-wave}
 use Rattle.arc_series.specs.OwnSeries.{AtanOwnSeries}
-
--- ---- powers
-pow-1 : (y : ℕ) → y ^ 1 ≡ y
-pow-1 y = go (y ^ 0) (y ^ 1) (pow-zero y) (pow-suc y 0)
-  where
-    go : (p q : ℕ) → p ≡ 1 → q ≡ p * y → q ≡ y
-    go p q e f = omega (arith, f, ap (λ (x : ℕ). x * y) e)
-
-pow-2 : (y : ℕ) → y ^ 2 ≡ y * y
-pow-2 y = pow-suc y 1 ∙ ap (λ (x : ℕ). x * y) (pow-1 y)
-
-pow-3 : (y : ℕ) → y ^ 3 ≡ y * y * y
-pow-3 y = pow-suc y 2 ∙ ap (λ (x : ℕ). x * y) (pow-2 y)
-
-pow-4 : (y : ℕ) → y ^ 4 ≡ y * y * y * y
-pow-4 y = pow-suc y 3 ∙ ap (λ (x : ℕ). x * y) (pow-3 y)
-
-pow-5 : (y : ℕ) → y ^ 5 ≡ y * y * y * y * y
-pow-5 y = pow-suc y 4 ∙ ap (λ (x : ℕ). x * y) (pow-4 y)
 
 -- ---- the first partial sums
 module _ (y d : ℕ) where
@@ -105,19 +87,13 @@ fifth x z h = mul-le-mul (mul-le-mul (mul-le-mul (mul-le-mul h h) h) h) h
 fourth : (x z : ℕ) → x ≤ z → x * x * x * x ≤ z * z * z * z
 fourth x z h = mul-le-mul (mul-le-mul (mul-le-mul h h) h) h
 
-more : (a b : ℕ) → a ≤ a + b
-more a b = omega arith
-
-last : (a b : ℕ) → b ≤ a + b
-last a b = omega arith
-
 -- ---- below: y and w in units of 1 / d, and v = y + w; D is d²
 low-core : (Y W D : ℕ) → 3 * D * W ≡ (Y + W) * (Y + W) * (Y + W) → 120 * (Y * (D * D)) + Y * Y * Y * Y * Y + 60 * ((Y + W) * (Y * Y) * D) ≤ 120 * ((Y + W) * (D * D)) + 20 * (Y * Y * Y * D)
 low-core Y W D cube =
     let S = Y + W in
     open_up (Y * Y * Y * Y * Y)
     (finish (Y * Y * (2 * S + W) * D) (S * S * W * D) (S * S * S * D) (W * W * W * D) (W * D * D) (Y * Y * Y * Y * Y) (S * S * S * S * S)
-    (square Y W) (ap (λ (x : ℕ). x * D) (sym cube) ∙ turn D W) (fifth Y S (more Y W)) (cubes S cube) (fifths S cube))
+    (square Y W) (ap (λ (x : ℕ). x * D) (sym cube) ∙ turn D W) (fifth Y S (le-add_right Y W)) (cubes S cube) (fifths S cube))
   where
     square : (Y W : ℕ) → 20 * (Y * Y * (2 * (Y + W) + W) * D) + 60 * ((Y + W) * (Y + W) * W * D) ≡ 40 * ((Y + W) * (Y + W) * (Y + W) * D) + 20 * (W * W * W * D)
     square Y W = omega arith
@@ -126,7 +102,7 @@ low-core Y W D cube =
     turn D W = omega arith
 
     cubes : (S : ℕ) → 3 * D * W ≡ S * S * S → 3 * (W * W * W * D) ≤ (Y + W) * (Y + W) * (Y + W) * (Y + W) * (Y + W)
-    cubes S e = le_trans (le_of_eq (go (Y + W) cube)) (le_trans (mul-le-mul_right ((Y + W) * (Y + W) * (Y + W)) (mul-le-mul (last Y W) (last Y W))) (le_of_eq (flat (Y + W))))
+    cubes S e = le_trans (le_of_eq (go (Y + W) cube)) (le_trans (mul-le-mul_right ((Y + W) * (Y + W) * (Y + W)) (mul-le-mul (le-add_left W Y) (le-add_left W Y))) (le_of_eq (flat (Y + W))))
       where
         go : (S : ℕ) → 3 * D * W ≡ S * S * S → 3 * (W * W * W * D) ≡ W * W * (S * S * S)
         go S e = omega (arith, ap (λ (x : ℕ). x * (W * W)) e)
@@ -209,7 +185,7 @@ high-core Z A B D cube five =
     let S = Z + A in
     open_up (S * (Z * Z * Z * Z))
     (finish (Z * Z * (2 * S + A) * D) (S * S * A * D) (S * S * S * D) (A * A * A * D) (A * D * D) (B * D * D) (S * (Z * Z * Z * Z)) (S * S * S * S * S)
-    (square Z A) (ap (λ (x : ℕ). x * D) (sym cube) ∙ turn D A B) (le_trans (mul-le-mul_left S (fourth Z S (more Z A))) (le_of_eq (flat S))) (parts S cube) (turned D B ∙ five))
+    (square Z A) (ap (λ (x : ℕ). x * D) (sym cube) ∙ turn D A B) (le_trans (mul-le-mul_left S (fourth Z S (le-add_right Z A))) (le_of_eq (flat S))) (parts S cube) (turned D B ∙ five))
   where
     square : (Z A : ℕ) → 4 * (Z * Z * (2 * (Z + A) + A) * D) + 12 * ((Z + A) * (Z + A) * A * D) ≡ 8 * ((Z + A) * (Z + A) * (Z + A) * D) + 4 * (A * A * A * D)
     square Z A = omega arith
@@ -288,11 +264,8 @@ module _ (n c : ℕ) (C : 0 < c) (h : n ≤ c) where
       (powers n c ∙ ap (λ (x : ℕ). x * x * x) (sym whole)) (turn n (c * c) c ∙ ap (λ (x : ℕ). x * c) (sym whole)) (least n (c * c) c (mul-le-mul_right (c * c) h))
     where
       whole : 3 * n * (c * c) - n * n * n + n * n * n ≡ 3 * n * (c * c)
-      whole = go (n * n * n) (n * (c * c)) (3 * n * (c * c)) thrice (flat n (c * c))
+      whole = go (n * n * n) (n * (c * c)) (3 * n * (c * c)) thrice (mul_assoc 3 n (c * c))
         where
-          flat : (n C : ℕ) → 3 * n * C ≡ 3 * (n * C)
-          flat n C = omega arith
-
           go : (p q r : ℕ) → p ≤ q → r ≡ 3 * q → r - p + p ≡ r
           go p q r i e = omega arith
 
@@ -303,11 +276,8 @@ module _ (n c : ℕ) (C : 0 < c) (h : n ≤ c) where
       turn n C c = omega arith
 
       least : (n C c : ℕ) → n * C ≤ c * C → 3 * n * C - n * n * n ≤ 4 * (3 * C * c)
-      least n C c i = go (n * C) (c * C) (n * n * n) (3 * n * C) (4 * (3 * C * c)) i (flat n C) (flat' C c)
+      least n C c i = go (n * C) (c * C) (n * n * n) (3 * n * C) (4 * (3 * C * c)) i (mul_assoc 3 n C) (flat' C c)
         where
-          flat : (n C : ℕ) → 3 * n * C ≡ 3 * (n * C)
-          flat n C = omega arith
-
           flat' : (C c : ℕ) → 4 * (3 * C * c) ≡ 12 * (c * C)
           flat' C c = omega arith
 
@@ -327,20 +297,14 @@ module _ (n c : ℕ) (C : 0 < c) (h : n ≤ c) where
     where
       -- 3 p ≤ 4 n³ c², and 4 n³ c² ≤ 12 n c⁴
       first : 3 * P ≤ 4 * (n * n * n) * (c * c)
-      first = go P (n * n * n * (c * c)) (4 * (n * n * n) * (c * c)) five-times (flat (n * n * n) (c * c))
+      first = go P (n * n * n * (c * c)) (4 * (n * n * n) * (c * c)) five-times (mul_assoc 4 (n * n * n) (c * c))
         where
-          flat : (p C : ℕ) → 4 * p * C ≡ 4 * (p * C)
-          flat p C = omega arith
-
           go : (p q r : ℕ) → p ≤ q → r ≡ 4 * q → 3 * p ≤ r
           go p q r i e = omega arith
 
       second : 4 * (n * n * n) * (c * c) ≤ 12 * n * E
-      second = go (n * n * n * (c * c)) (n * (c * c) * (c * c)) (4 * (n * n * n) * (c * c)) (12 * n * E) (mul-le-mul_right (c * c) thrice) (flat (n * n * n) (c * c)) (flat' n (c * c))
+      second = go (n * n * n * (c * c)) (n * (c * c) * (c * c)) (4 * (n * n * n) * (c * c)) (12 * n * E) (mul-le-mul_right (c * c) thrice) (mul_assoc 4 (n * n * n) (c * c)) (flat' n (c * c))
         where
-          flat : (p C : ℕ) → 4 * p * C ≡ 4 * (p * C)
-          flat p C = omega arith
-
           flat' : (n C : ℕ) → 12 * n * (C * C) ≡ 12 * (n * C * C)
           flat' n C = omega arith
 
@@ -348,10 +312,7 @@ module _ (n c : ℕ) (C : 0 < c) (h : n ≤ c) where
           go p q r s i e f = omega arith
 
       joined : 4 * (n * n * n) * (c * c) - 3 * P + 3 * P ≡ 4 * (n * n * n) * (c * c)
-      joined = go (4 * (n * n * n) * (c * c)) (3 * P) first
-        where
-          go : (w b : ℕ) → b ≤ w → w - b + b ≡ w
-          go w b i = omega arith
+      joined = sub-add_cancel first
 
       whole : 12 * n * E + 3 * P - 4 * (n * n * n) * (c * c) + (4 * (n * n * n) * (c * c) - 3 * P) ≡ 12 * n * E
       whole = go (12 * n * E) (4 * (n * n * n) * (c * c)) (3 * P) first second

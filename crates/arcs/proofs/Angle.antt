@@ -11,7 +11,7 @@ use lib.Ieee.{size}
 use Rattle.fixed.specs.Fixed.{mant}
 use Rattle.arcs.specs.Atan.{cube_of, angle_of}
 use Rattle.series.specs.Series.{SinLe, SinGe}
-use Rattle.fixed.proofs.Round.{rounded, place, place_is}
+use Rattle.fixed.proofs.Round.{grain, rounded, place, place_is}
 use Rattle.fixed.proofs.Values.{ulp-exp}
 use Rattle.series.proofs.Bounds.{le-scaled, ge-scaled}
 use Rattle.arc_tables.proofs.Angles.{Entry}
@@ -178,9 +178,6 @@ module _ (n c A q p o v : ℕ) (X : Reduced n c A q) (Z : Sizes (angle_of A q) p
       go A q j a b d e f = omega (arith, a, b, d, e, f)
 
 -- ---- a rounded angle s in the units of the statement
-abbrev pub o : ℕ → ℕ
-o s = 2 ^ (34 - count_leading_zeros 64 s)
-
 -- the result's unit, in units of 2 ^ -50
 abbrev pub v : ℕ → ℕ
 v s = 2 ^ (size (mant s * place s) - 24 - 99)
@@ -189,13 +186,13 @@ module _ (s : ℕ) (big : 2 ^ 30 ≤ s) (fits : s < 2 ^ 64) where
   exps : (133 - count_leading_zeros 64 s ≤ size (mant s * place s) - 24) × (size (mant s * place s) - 24 ≤ 133 - count_leading_zeros 64 s + 1)
   exps = ulp-exp (mant s) (133 - count_leading_zeros 64 s) (rounded s big fits).least (rounded s big fits).most
 
-  pub sizes : Sizes s (mant s * o s) (o s) (v s)
+  pub sizes : Sizes s (mant s * grain s) (grain s) (v s)
   sizes =
       record {
         s-over = (rounded s big fits).over;
         s-under = (rounded s big fits).under;
-        p-most = mul-le-mul_right (o s) (rounded s big fits).most;
-        p-least = mul-le-mul_right (o s) (rounded s big fits).least;
+        p-most = mul-le-mul_right (grain s) (rounded s big fits).most;
+        p-least = mul-le-mul_right (grain s) (rounded s big fits).least;
         o-v = pow_mono (low (count_leading_zeros 64 s) (size (mant s * place s)) exps.0);
         v-o = le_trans (pow_mono (high (count_leading_zeros 64 s) (size (mant s * place s)) (rounded s big fits).few exps.1)) (le_of_eq (pow-add 2 1 (34 - count_leading_zeros 64 s)));
       }
@@ -212,14 +209,14 @@ module _ (s : ℕ) (big : 2 ^ 30 ≤ s) (fits : s < 2 ^ 64) where
       go : (l z : ℕ) → l ≤ 33 → 133 - l ≤ z - 24 → z - 24 ≡ 99 + (z - 24 - 99)
       go l z h k = omega arith
 
-  pub low-is : (64 * (mant s * o s) - 60 * v s) * 2 ^ 97 ≡ 16 * (mant s * place s) - 15 * 2 ^ (size (mant s * place s) - 24)
-  low-is = go (mant s) (o s) (v s) (place s) (2 ^ (size (mant s * place s) - 24)) (place_is s (rounded s big fits).few) unit-is
+  pub low-is : (64 * (mant s * grain s) - 60 * v s) * 2 ^ 97 ≡ 16 * (mant s * place s) - 15 * 2 ^ (size (mant s * place s) - 24)
+  low-is = go (mant s) (grain s) (v s) (place s) (2 ^ (size (mant s * place s) - 24)) (place_is s (rounded s big fits).few) unit-is
     where
       go : (m o v P U : ℕ) → P ≡ 2 ^ 99 * o → U ≡ 2 ^ 99 * v → (64 * (m * o) - 60 * v) * 2 ^ 97 ≡ 16 * (m * P) - 15 * U
       go m o v P U e f = omega (arith, ap (λ (x : ℕ). m * x) e)
 
-  pub high_is : (64 * (mant s * o s) + 60 * v s) * 2 ^ 97 ≡ 16 * (mant s * place s) + 15 * 2 ^ (size (mant s * place s) - 24)
-  high_is = go (mant s) (o s) (v s) (place s) (2 ^ (size (mant s * place s) - 24)) (place_is s (rounded s big fits).few) unit-is
+  pub high_is : (64 * (mant s * grain s) + 60 * v s) * 2 ^ 97 ≡ 16 * (mant s * place s) + 15 * 2 ^ (size (mant s * place s) - 24)
+  high_is = go (mant s) (grain s) (v s) (place s) (2 ^ (size (mant s * place s) - 24)) (place_is s (rounded s big fits).few) unit-is
     where
       go : (m o v P U : ℕ) → P ≡ 2 ^ 99 * o → U ≡ 2 ^ 99 * v → (64 * (m * o) + 60 * v) * 2 ^ 97 ≡ 16 * (m * P) + 15 * U
       go m o v P U e f = omega (arith, ap (λ (x : ℕ). m * x) e)
@@ -230,10 +227,10 @@ module _ (n c A q : ℕ) (X : Reduced n c A q) (big : 2 ^ 30 ≤ angle_of A q) (
   s = angle_of A q
 
   pub angle-le : SinLe (16 * (mant s * place s) - 15 * 2 ^ (size (mant s * place s) - 24)) (16 * 2 ^ 149) n c
-  angle-le = subst (λ (y : ℕ). SinLe y (16 * 2 ^ 149) n c) (low-is s big fits) (le-scaled (64 * (mant s * o s) - 60 * v s) (2 ^ 56) n c (2 ^ 97) (end-le n c A q (mant s * o s) (o s) (v s) X (sizes s big fits)))
+  angle-le = subst (λ (y : ℕ). SinLe y (16 * 2 ^ 149) n c) (low-is s big fits) (le-scaled (64 * (mant s * grain s) - 60 * v s) (2 ^ 56) n c (2 ^ 97) (end-le n c A q (mant s * grain s) (grain s) (v s) X (sizes s big fits)))
 
   pub angle-ge : SinGe (16 * (mant s * place s) + 15 * 2 ^ (size (mant s * place s) - 24)) (16 * 2 ^ 149) n c
-  angle-ge = subst (λ (y : ℕ). SinGe y (16 * 2 ^ 149) n c) (high_is s big fits) (ge-scaled (64 * (mant s * o s) + 60 * v s) (2 ^ 56) n c (2 ^ 97) (end_ge n c A q (mant s * o s) (o s) (v s) X (sizes s big fits)))
+  angle-ge = subst (λ (y : ℕ). SinGe y (16 * 2 ^ 149) n c) (high_is s big fits) (ge-scaled (64 * (mant s * grain s) + 60 * v s) (2 ^ 56) n c (2 ^ 97) (end_ge n c A q (mant s * grain s) (grain s) (v s) X (sizes s big fits)))
 
   pub angle-2 : 16 * (mant s * place s) + 15 * 2 ^ (size (mant s * place s) - 24) ≤ 2 * (16 * 2 ^ 149)
-  angle-2 = subst (λ (y : ℕ). y ≤ 2 * (16 * 2 ^ 149)) (high_is s big fits) (mul-le-mul_right (2 ^ 97) (end-2 n c A q (mant s * o s) (o s) (v s) X (sizes s big fits)))
+  angle-2 = subst (λ (y : ℕ). y ≤ 2 * (16 * 2 ^ 149)) (high_is s big fits) (mul-le-mul_right (2 ^ 97) (end-2 n c A q (mant s * grain s) (grain s) (v s) X (sizes s big fits)))

@@ -12,7 +12,9 @@ use Rattle.cases.proofs.Cases.{split}
 use Rattle.fixed.specs.Fixed.{pick, pattern, digits, scaled_of}
 use Rattle.arc_tables.specs.Tables.{cosines, arcs, half_pi}
 use Rattle.arcs.specs.Asin.{cosine_of, gentle_arc, steep_arc, mid_arc, low_arc, asin_mag, asin_bits}
-use Rattle.arcs.proofs.Reduce.{dig-low, dig-high, within}
+use Rattle.fixed.proofs.Sizes.{dig-low, dig-high}
+use Rattle.arcs.proofs.Reduce.{within}
+use Rattle.arcs.proofs.Signed.{sign}
 use Rattle.arc_tables.proofs.Nodes.{arc-most}
 use Rattle.arcs.proofs.Arcs.{gentle-placed, steep-placed, turn-size, arc-big}
 
@@ -77,9 +79,6 @@ mag-fits a l h = split a 0x3c00_0000 low mid
         subst (λ (x : ℕ). (2 ^ 30 ≤ x) × (x < 2 ^ 64)) (sym (mid-is a k)) (mid-fits (scaled_of a 118) r.0 r.1)
 
 -- ---- the bit patterns
-abbrev sign : ℕ → ℕ
-sign b = b / 2 ^ 31 * 2 ^ 31
-
 abbrev mid : ℕ → ℕ
 mid b = sign b + pattern (asin_mag (b % 2 ^ 31))
 

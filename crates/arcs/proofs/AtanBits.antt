@@ -9,11 +9,9 @@ use borrow.Author.Tests.{le-leb, lt-leb, le-ltb, lt-ltb}
 use Rattle.fixed.specs.Fixed.{pick, pattern}
 use Rattle.arcs.specs.Atan.{cube_of, angle_of, atan_mag, atan_bits}
 use Rattle.arcs.proofs.Angle.{Reduced, cube-small}
+use Rattle.arcs.proofs.Signed.{sign}
 
 -- ---- what the pattern is
-abbrev sign : ℕ → ℕ
-sign b = b / 2 ^ 31 * 2 ^ 31
-
 pub small-bits : (b : ℕ) → b % 2 ^ 31 < 0x3980_0000 → atan_bits b ≡ b
 unfolding atan_bits
 small-bits b h = ap (λ (x : Bool). pick x b (pick (ltb (b % 2 ^ 31) 0x4c80_0000) (sign b + pattern (atan_mag (b % 2 ^ 31))) (pick (leb (b % 2 ^ 31) 0x7f80_0000) (sign b + 0x3fc9_0fdb) b))) (lt-ltb _ _ h)

@@ -1,7 +1,7 @@
 -- No angle of the arc tangent is rounded above the f32 nearest to half pi, whose pattern is 0x3fc9_0fdb: only the table's first steep angle comes near it, and what is added there
 -- is at most 2 ^ -7 less a third of its cube.
 use mathlib.Core.Path.{◌≡◌, refl, sym, ap, ◌∙◌, subst}
-use mathlib.Core.Bool.{Bool, true, false, ◌||◌}
+use mathlib.Core.Bool.{◌||◌}
 use mathlib.Core.Logic.{◌⊎◌, inl, inr}
 use Prim.Native.Nat.{ℕ, zero, suc, ◌+◌, ◌-◌, ◌*◌, ◌/◌, ◌^◌, ◌≤◌, ◌<◌}
 use native.Mathlib.Nat.{le_trans, le_of_mul-le-mul_right, lt_of_le_of_lt, lt_of_not-le, not-le_of_lt, lt_of_lt_of_le, div-mul-le_self, mul-le-mul, mul-le-mul_left, mul-le-mul_right}
@@ -10,13 +10,15 @@ use lib.Dec.{T, leb, leb→le, eqb, eqb→eq, lit<, lit≤}
 use lib.Pow.{pow_mono}
 use lib.Count.{count_leading_zeros, leading_top}
 use lib.ListN.{get_or}
+use mir.Facts.{or_yes}
 use Rattle.cases.proofs.Cases.{split}
 use Rattle.cases.proofs.Entries as table
 use Rattle.fixed.specs.Fixed.{digits, mant, pattern, scaled_of}
 use Rattle.fixed.proofs.Round.{rounded}
 use Rattle.arc_tables.specs.Tables.{angles, steep}
 use Rattle.arcs.specs.Atan.{cube_of, angle_of, gentle_of, steep_of, atan_mag}
-use Rattle.arcs.proofs.Reduce.{dig-low, dig-high, within, high-top, high-fine, high-coarse, low-is, mid-is, high_is, i_lt, q-most, at_lt, quo-most}
+use Rattle.fixed.proofs.Sizes.{dig-low, dig-high}
+use Rattle.arcs.proofs.Reduce.{within, high-top, high-fine, high-coarse, low-is, mid-is, high_is, i_lt, q-most, at_lt, quo-most}
 use Rattle.arcs.proofs.Angle.{cube-high}
 
 -- the largest angle that is rounded to half pi, in units of 2 ^ -56
@@ -28,16 +30,12 @@ gentle-most : (i : ℕ) → i < 128 → get_or angles i 0 ≤ 2 ^ 56
 unfolding angles
 gentle-most i h = leb→le (get_or angles i 0) (2 ^ 56) (table.entry (λ i A. leb A (2 ^ 56)) angles tt i h)
 
-pub or_cases : (a b : Bool) → T (a || b) → T a ⊎ T b
-or_cases true b t = inl tt
-or_cases false b t = inr t
-
 steep-test : (i : ℕ) → i < 129 → T (eqb i 0 || leb (get_or steep i 0) 112061995738161969)
 unfolding steep
 steep-test i h = table.entry (λ i A. eqb i 0 || leb A 112061995738161969) steep tt i h
 
 steep-cases : (i : ℕ) → i < 129 → (i ≡ 0) ⊎ (get_or steep i 0 ≤ 112061995738161969)
-steep-cases i h = go (or_cases (eqb i 0) (leb (get_or steep i 0) 112061995738161969) (steep-test i h))
+steep-cases i h = go (or_yes (eqb i 0) (leb (get_or steep i 0) 112061995738161969) (steep-test i h))
   where
     go : T (eqb i 0) ⊎ T (leb (get_or steep i 0) 112061995738161969) → (i ≡ 0) ⊎ (get_or steep i 0 ≤ 112061995738161969)
     go (inl t) = inl (eqb→eq i 0 t)

@@ -1,7 +1,7 @@
 -- The inequalities behind atan v = v - v³ / 3, for a small angle w. With g w = v * w² / 2 - w³ / 6: g w ≤ g v = v³ / 3 for w ≤ v, g v - g w ≤ (v - w) * v² / 2, and g v ≤ g w from v to 2 v.
 use mathlib.Core.Path.{◌≡◌, ap, subst}
 use Prim.Native.Nat.{ℕ, ◌+◌, ◌*◌, ◌^◌, ◌≤◌, ◌<◌}
-use native.Mathlib.Nat.{le_trans, le_of_lt, le_dest, mul-le-mul, mul-le-mul_left, mul-le-mul_right, le_of_mul-le-mul_right, mul-pos}
+use native.Mathlib.Nat.{le_trans, le_of_lt, le_dest, mul-le-mul, mul-le-mul_left, mul-le-mul_right, le_of_mul-le-mul_right, mul-pos, le-add_right}
 use native.Mathlib.Omega.{arith}
 use Rattle.cases.proofs.Cases.{split}
 use Rattle.series.proofs.SmallAngle.{Parts}
@@ -19,16 +19,13 @@ module _ (w v B f g k D σ κ j ρ : ℕ) (b : 0 < B) (P : Parts w B f g k D) (e
   -- ---- w lies below v - v³ / 3 (j is v³ / 3, cut) by ρ and 3 units at least: sin w + ρ ≤ v cos w
   pub poly-le : v * v * v ≤ 3 * (B * B) * (j + 2) → w + (j + 3 + ρ) ≤ v → (σ + ρ) * B ≤ κ * v
   poly-le J h =
-      let o = le_dest (le_trans (less w (j + 3 + ρ)) h) in
+      let o = le_dest (le_trans (le-add_right w (j + 3 + ρ)) h) in
       let c : 3 * (v * (w * w)) ≤ 2 * (v * v * v) + w * w * w = subst (λ (x : ℕ). 3 * (x * (w * w)) ≤ 2 * (x * x * x) + w * w * w) o.1 (cubic-below w o.0) in
       le_of_mul-le-mul_right {k = 6 * B}
       (shape (go (B * B) (v * (w * w)) (v * v * v) (w * w * w) (f * v * (2 * B)) (κ * v * (6 * B)) c (flat f v w B (mul-le-mul_right v P.f-low)) P.g-high J (mul-le-mul_left (B * B) h)
       (ap (λ (x : ℕ). x * (B * B)) eσ) (kv κ f B k v eκ)))
       (mul-pos (omega arith) b)
     where
-      less : (w x : ℕ) → w ≤ w + x
-      less w x = omega arith
-
       flat : (f v w B : ℕ) → f * (2 * B) * v ≤ w * w * v → f * v * (2 * B) ≤ v * (w * w)
       flat f v w B h = omega arith
 

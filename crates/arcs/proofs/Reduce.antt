@@ -3,13 +3,14 @@ use mathlib.Core.Path.{◌≡◌, refl, sym, ap, ap₂, ◌∙◌, subst}
 use mathlib.Core.Logic.{inl, inr}
 use mathlib.Core.Bool.{Bool}
 use Prim.Native.Nat.{ℕ, zero, suc, ◌+◌, ◌-◌, ◌*◌, ◌/◌, ◌^◌, ◌≤◌, ◌<◌}
-use native.Mathlib.Nat.{le_trans, mul_comm, mul_assoc, mul-le-mul, mul-le-mul_left, mul-le-mul_right, le_of_mul-le-mul_right, div-mul-le_self, lt-div-mul-add}
+use native.Mathlib.Nat.{le_trans, mul_comm, mul_assoc, mul-le-mul, mul-le-mul_left, mul-le-mul_right, le_of_mul-le-mul_right, div-mul-le_self, lt-div-mul-add, le_of_lt, le-add_left}
 use native.Mathlib.Omega.{arith}
 use lib.Pow.{pow_pos, pow_mono, pow-add}
 use lib.Dec.{lit<, lit≤}
 use lib.ListN.{get_or}
 use borrow.Author.Tests.{le-ltb, lt-ltb}
 use Rattle.fixed.specs.Fixed.{pick, digits}
+use Rattle.fixed.proofs.Sizes.{dig-low, dig-high}
 use Rattle.arc_tables.specs.Tables.{angles, steep}
 use Rattle.arcs.specs.Atan.{angle_of, low_angle, mid_angle, high_angle, atan_mag}
 use Rattle.cases.proofs.Cases.{split}
@@ -128,13 +129,10 @@ module _ (n c d : ℕ) (top : n ≤ c) (pos : 0 < d) (fine : d * 2 ^ 8 ≤ c) (c
   q-large = split i 1 (λ k. at_zero (get_or angles i 0) i q k P-q) (λ k. later i (get_or angles i 0) q k E.least)
     where
       at_zero : (A i q : ℕ) → i < 1 → (2 ^ 7 * n - i * c) * 2 ^ 56 ≤ (q + 1) * (2 ^ 7 * c + i * n) → 2 ^ 43 ≤ A + q
-      at_zero A zero q k h = le_trans (le_of_mul-le-mul_right {k = c} (go (mul-le-mul_left (q + 1) least)) c_pos) (up A q)
+      at_zero A zero q k h = le_trans (le_of_mul-le-mul_right {k = c} (go (mul-le-mul_left (q + 1) least)) c_pos) (le-add_left q A)
         where
           go : (q + 1) * c ≤ (q + 1) * (n * 2 ^ 12) → 2 ^ 43 * c ≤ q * c
           go a = omega (arith, h, least)
-
-          up : (A q : ℕ) → q ≤ A + q
-          up A q = omega arith
       at_zero A (suc i) q k h = absurd (no i k)
         where
           no : (i : ℕ) → suc i < 1 → ⊥
@@ -273,6 +271,10 @@ module _ (n c d : ℕ) (top : c ≤ n) (pos : 0 < d) (fine : d * 2 ^ 8 ≤ n) (c
       large : (A q : ℕ) → 128 * 2 ^ 48 ≤ 1 * A → 2 ^ 43 ≤ A + q
       large A q k = omega arith
 
+-- what `angle_sum` asks of a table's angle and a quotient
+pub sum-fits : {A q a b : ℕ} → A ≡ a → q ≡ b → a ≤ 2 ^ 57 - 2 ^ 50 → b ≤ 2 ^ 49 + 2 ^ 41 → (A ≤ 2 ^ 57) × (q < 2 ^ 50)
+sum-fits e f h k = (omega arith, omega arith)
+
 -- ---- what the definition gives, for the patterns of 2 ^ -12 up to 2 ^ 26: x = n / c, and its numerator in units of 2 ^ -149 is n * k
 pub record Case (a : ℕ) : Type 0 where
   pub n : ℕ
@@ -287,13 +289,7 @@ pub record Case (a : ℕ) : Type 0 where
   pub unit : c * k ≡ 2 ^ 149
   pub value : digits a * 2 ^ (a / 2 ^ 23 - 1) ≡ n * k
 
-pub dig-low : (a : ℕ) → 2 ^ 23 ≤ digits a
-dig-low a = omega arith
-
-pub dig-high : (a : ℕ) → digits a ≤ 2 ^ 24
-dig-high a = omega arith
-
--- d * 2 ^ i, cut by a power
+-- d * 2 ^ i, cut by a power (height_integral, which does not stand on this crate, states it too)
 pub powers : (d i j k : ℕ) → i ≡ j + k → d * 2 ^ i ≡ d * 2 ^ j * 2 ^ k
 powers d i j k e = ap (λ (x : ℕ). d * 2 ^ x) e ∙ ap (λ (x : ℕ). d * x) (pow-add 2 j k) ∙ sym (mul_assoc d (2 ^ j) (2 ^ k))
 
@@ -304,11 +300,11 @@ high-top m e h k = omega arith
 pub high-fine : (m : ℕ) → 2 ^ 23 ≤ m → 2 ^ 16 * 2 ^ 8 ≤ 4 * m
 high-fine m h = omega arith
 
-pub high-coarse : (m e : ℕ) → m ≤ 2 ^ 24 → e ≤ 2 ^ 25 → 129 * (e + 4 * m) ≤ 2 ^ 16 * (2 ^ 18 - 2 ^ 10)
+pub high-coarse : (m e : ℕ) → m < 2 ^ 24 → e ≤ 2 ^ 25 → 129 * (e + 4 * m) ≤ 2 ^ 16 * (2 ^ 18 - 2 ^ 10)
 high-coarse m e h k = omega arith
 
-pub within : (d e i j : ℕ) → 2 ^ 23 ≤ d → d ≤ 2 ^ 24 → i ≤ e → e ≤ j → (2 ^ 23 * 2 ^ i ≤ d * 2 ^ e) × (d * 2 ^ e ≤ 2 ^ 24 * 2 ^ j)
-within d e i j l h a b = (mul-le-mul l (pow_mono a), mul-le-mul h (pow_mono b))
+pub within : (d e i j : ℕ) → 2 ^ 23 ≤ d → d < 2 ^ 24 → i ≤ e → e ≤ j → (2 ^ 23 * 2 ^ i ≤ d * 2 ^ e) × (d * 2 ^ e ≤ 2 ^ 24 * 2 ^ j)
+within d e i j l h a b = (mul-le-mul l (pow_mono a), mul-le-mul (le_of_lt h) (pow_mono b))
 
 pub low-is : (a : ℕ) → a < 0x3c00_0000 → atan_mag a ≡ low_angle a
 unfolding atan_mag

@@ -1,7 +1,7 @@
 -- The tangent of A + w against x, from the table's entry at A, the quotient q and a small angle w below or above q - q³ / 3.
 use mathlib.Core.Path.{◌≡◌, sym, subst, subst₂}
 use Prim.Native.Nat.{ℕ, ◌+◌, ◌-◌, ◌*◌, ◌/◌, ◌^◌, ◌≤◌, ◌<◌}
-use native.Mathlib.Nat.{mul-pos, mul-le-mul, mul-le-mul_left, mul-le-mul_right, le_of_mul-le-mul_right}
+use native.Mathlib.Nat.{mul-pos, mul-le-mul, mul-le-mul_left, mul-le-mul_right, le_of_mul-le-mul_right, sub-add_cancel}
 use native.Mathlib.Omega.{arith}
 use Rattle.series.specs.Series.{SinLe, SinGe}
 use Rattle.series.proofs.Waves.{Enc4}
@@ -66,10 +66,7 @@ module _ (B w D : ℕ) (b : 0 < B) (W : 120 * w ≤ B) (d : w + 2 ^ 33 ≤ D * 2
   κ = B + k - f
 
   pub eσ : σ + g ≡ w
-  eσ = go g g-le
-    where
-      go : (g : ℕ) → g ≤ w → w - g + g ≡ w
-      go g h = omega arith
+  eσ = sub-add_cancel g-le
 
   pub eκ : κ + f ≡ B + k
   eκ = go f k f-le

@@ -10,6 +10,7 @@ mod arcsin;
 mod arctan;
 
 // NaN outside -1 to 1
+// Stays: as `atan`, `exp` and the others, each one line; one function for them would be handed `asin_bits`, and a call of it as long.
 pub fn asin(x: f32) -> f32
     ensures { result ≡ asin_of x }
 {

@@ -25,13 +25,13 @@ use Rattle.reflectrix.specs.declared.Ionogram.{Ionogram}
 use Rattle.sounding_rows.specs.Rows.{HTE, HPE, rows_of, true_by_profile, segment_by_profile, virtual_by_parabola, virtual_by, made, rows_by, rows_with}
 use Rattle.sounding.specs.Genion.{fvert_at, genion_with}
 use Rattle.sounding.proofs.Ways.{rows_agree}
-use Rattle.losses.specs.Alosfv.{e_rows, layer_line_at, above_by, above_of, not_below_zeros, with_afac, alosfv_of}
+use Rattle.losses.specs.Alosfv.{e_rows, layer_line_at, above_by, above_of, alosfv_of}
 use Rattle.losses.specs.declared.Factors.{Factors}
 use Rattle.losses.specs.declared.Decay.{Decay}
 use Rattle.hops.specs.Geometry.{geometry_of}
 use Rattle.tangents.specs.Tangents.{tangents_of}
-use Rattle.e_lines.specs.Lines.{read_with, e_heights_by, e_heights_with, e_line_by, e_line_with}
-use Rattle.layer_mufs.specs.Lines.{f2_heights_by, f2_heights_with, f2_line_by, f2_line_with, f1_own_by, f1_own_with, f1_line_by, f1_line_with}
+use Rattle.e_lines.specs.Lines.{read_with, e_heights_by, e_heights_with, e_line_with}
+use Rattle.layer_mufs.specs.Lines.{f2_heights_by, f2_heights_with, f2_line_with, f1_own_by, f1_own_with, f1_line_by, f1_line_with}
 use Rattle.layer_mufs.specs.declared.PathNumbers.{PathNumbers}
 use Rattle.tangents.specs.declared.F2Tangent.{F2Tangent}
 use Rattle.e_lines.specs.declared.HeightPair.{HeightPair}
@@ -50,33 +50,27 @@ pub record Alike (u v : IonoState) (k : ℕ) : Type 0 where
 
 -- ---- the slot's numbers one by one
 
-pub yi0-same : (u v : IonoState) (k : ℕ) → slot_at u k ≡ slot_at v k → at u.yi (3 * k) ≡ at v.yi (3 * k)
-unfolding slot_at
-yi0-same u v k e = ap (λ (p : Slot). p.yi0) e
+pub record SlotAlike (u v : IonoState) (k : ℕ) : Type 0 where
+  pub yi0-same : at u.yi (3 * k) ≡ at v.yi (3 * k)
+  pub yi1-same : at u.yi (3 * k + 1) ≡ at v.yi (3 * k + 1)
+  pub yi2-same : at u.yi (3 * k + 2) ≡ at v.yi (3 * k + 2)
+  pub hi0-same : at u.hi (3 * k) ≡ at v.hi (3 * k)
+  pub hi1-same : at u.hi (3 * k + 1) ≡ at v.hi (3 * k + 1)
+  pub hi2-same : at u.hi (3 * k + 2) ≡ at v.hi (3 * k + 2)
+  pub fsec-same : at u.fsecv k ≡ at v.fsecv k
 
-pub yi1-same : (u v : IonoState) (k : ℕ) → slot_at u k ≡ slot_at v k → at u.yi (3 * k + 1) ≡ at v.yi (3 * k + 1)
+pub slot-alike : (u v : IonoState) (k : ℕ) → slot_at u k ≡ slot_at v k → SlotAlike u v k
 unfolding slot_at
-yi1-same u v k e = ap (λ (p : Slot). p.yi1) e
-
-pub yi2-same : (u v : IonoState) (k : ℕ) → slot_at u k ≡ slot_at v k → at u.yi (3 * k + 2) ≡ at v.yi (3 * k + 2)
-unfolding slot_at
-yi2-same u v k e = ap (λ (p : Slot). p.yi2) e
-
-pub hi0-same : (u v : IonoState) (k : ℕ) → slot_at u k ≡ slot_at v k → at u.hi (3 * k) ≡ at v.hi (3 * k)
-unfolding slot_at
-hi0-same u v k e = ap (λ (p : Slot). p.hi0) e
-
-pub hi1-same : (u v : IonoState) (k : ℕ) → slot_at u k ≡ slot_at v k → at u.hi (3 * k + 1) ≡ at v.hi (3 * k + 1)
-unfolding slot_at
-hi1-same u v k e = ap (λ (p : Slot). p.hi1) e
-
-pub hi2-same : (u v : IonoState) (k : ℕ) → slot_at u k ≡ slot_at v k → at u.hi (3 * k + 2) ≡ at v.hi (3 * k + 2)
-unfolding slot_at
-hi2-same u v k e = ap (λ (p : Slot). p.hi2) e
-
-pub fsec-same : (u v : IonoState) (k : ℕ) → slot_at u k ≡ slot_at v k → at u.fsecv k ≡ at v.fsecv k
-unfolding slot_at
-fsec-same u v k e = ap (λ (p : Slot). p.fsec) e
+slot-alike u v k e =
+    record {
+      yi0-same = ap (λ (p : Slot). p.yi0) e;
+      yi1-same = ap (λ (p : Slot). p.yi1) e;
+      yi2-same = ap (λ (p : Slot). p.yi2) e;
+      hi0-same = ap (λ (p : Slot). p.hi0) e;
+      hi1-same = ap (λ (p : Slot). p.hi1) e;
+      hi2-same = ap (λ (p : Slot). p.hi2) e;
+      fsec-same = ap (λ (p : Slot). p.fsec) e;
+    }
 
 -- ---- heights
 
@@ -86,11 +80,11 @@ gethp-same u v eh en ex f = rw (eh, en, ex)
 
 bendy-same : (u v : IonoState) (k : ℕ) → Alike u v k → (f : Float) → bendy_of u 2 k f ≡ bendy_of v 2 k f
 unfolding bendy_of
-bendy-same u v k a f = rw (a.fi-same, yi2-same u v k a.slot_same)
+bendy-same u v k a f = rw (a.fi-same, (slot-alike u v k a.slot_same).yi2-same)
 
 pen-same : (u v : IonoState) (k : ℕ) → Alike u v k → (f : Float) → pen_of u 0 k f ≡ pen_of v 0 k f
 unfolding pen_of
-pen-same u v k a f = rw (a.fi-same, add-zero (3 * k), yi0-same u v k a.slot_same)
+pen-same u v k a f = rw (a.fi-same, add-zero (3 * k), (slot-alike u v k a.slot_same).yi0-same)
 
 -- ---- the ionogram
 
@@ -109,7 +103,7 @@ segment-same u v k a f = rw (a.fnsq-same, a.htr-same)
 parabola-same : (u v : IonoState) (k : ℕ) → Alike u v k → (f : Float) → virtual_by_parabola u k f ≡ virtual_by_parabola v k f
 unfolding virtual_by_parabola
 parabola-same u v k a f =
-    rw (hi2-same u v k a.slot_same, yi2-same u v k a.slot_same, bendy-same u v k a f, pen-same u v k a f, yi0-same u v k a.slot_same)
+    let p = slot-alike u v k a.slot_same in rw (p.hi2-same, p.yi2-same, bendy-same u v k a f, pen-same u v k a f, p.yi0-same)
 
 module _ (find other : Finder) (u v : IonoState) (k : ℕ) (a : Alike u v k) (found : FindAlike find u other v) where
   virtual-same : (b : Bool) (f : Float) → virtual_by b find u k f ≡ virtual_by b other v k f
@@ -136,26 +130,25 @@ module _ (find other : Finder) (u v : IonoState) (k : ℕ) (a : Alike u v k) (fo
 -- ---- the loss factors
 
 above-by : (b : Bool) (u v : IonoState) (k : ℕ) → Alike u v k → (f : Factors) (ion : Ionogram) (layers : List LayerMuf) → above_by b f u k ion layers ≡ above_by b f v k ion layers
-above-by true u v k a f ion layers = rw (yi2-same u v k a.slot_same)
-above-by false u v k a f ion layers = rw (yi1-same u v k a.slot_same, yi2-same u v k a.slot_same)
+above-by true u v k a f ion layers = rw (slot-alike u v k a.slot_same).yi2-same
+above-by false u v k a f ion layers = let p = slot-alike u v k a.slot_same in rw (p.yi1-same, p.yi2-same)
 
 above_same : (u v : IonoState) (k : ℕ) → Alike u v k → (f : Factors) (ion : Ionogram) (layers : List LayerMuf) → above_of f u k ion layers ≡ above_of f v k ion layers
 unfolding above_of
 above_same u v k a f ion layers =
-    above-by (at u.fi (3 * k + 1) ≤f f0) u v k a f ion layers ∙ ap (λ (fi : List Float). above_by (at fi (3 * k + 1) ≤f f0) f v k ion layers) a.fi-same
+    rw (above-by (at u.fi (3 * k + 1) ≤f f0) u v k a f ion layers, a.fi-same)
 
 abbrev decay_at : IonoState → ℕ → Decay
 decay_at s k = record { hz = at s.hi (3 * k) -f at s.yi (3 * k); y = at s.yi (3 * k) }
 
 decay-same : (u v : IonoState) (k : ℕ) → Alike u v k → decay_at u k ≡ decay_at v k
-decay-same u v k a = rw (hi0-same u v k a.slot_same, yi0-same u v k a.slot_same)
+decay-same u v k a = let p = slot-alike u v k a.slot_same in rw (p.hi0-same, p.yi0-same)
 
 pub alosfv-same : (u v : IonoState) (k : ℕ) → Alike u v k → (ion : Ionogram) (layers : List LayerMuf) → alosfv_of u k ion layers ≡ alosfv_of v k ion layers
 unfolding alosfv_of
 alosfv-same u v k a ion layers =
     let start : Factors = record { cf = f0; afac = ion.afac } in
-    ap (λ (f : Factors). with_afac ion (not_below_zeros f.afac 30))
-    (above_same u v k a (e_rows start ion (layer_line_at layers 0) (decay_at u k) 10) ion layers ∙ ap (λ (d : Decay). above_of (e_rows start ion (layer_line_at layers 0) d 10) v k ion layers) (decay-same u v k a))
+    rw (above_same u v k a (e_rows start ion (layer_line_at layers 0) (decay_at u k) 10) ion layers, decay-same u v k a)
 
 -- ---- the layers' MUF lines
 
@@ -174,8 +167,7 @@ module _ (find other : Finder) (u v : IonoState) (k : ℕ) (a : Alike u v k) (fo
   e-line-same : (fxe gcdkm amind : Float) → e_line_with find u fxe gcdkm amind ≡ e_line_with other v fxe gcdkm amind
   unfolding e_line_with e_heights_with
   e-line-same fxe gcdkm amind =
-      ap (λ (h : HeightPair). e_line_by (geometry_of gcdkm amind h.hp h.ht true) h fxe)
-      (e-heights-by (profile_only u) fxe ∙ ap (λ (b : Bool). e_heights_by b other v fxe) (shape_same u v k a))
+      rw (e-heights-by (profile_only u) fxe, shape_same u v k a)
 
   f2-heights-by : (b f1 : Bool) (l : Slot) (x : F2Tangent) → f2_heights_by b f1 find u l x ≡ f2_heights_by b f1 other v l x
   f2-heights-by true f1 l x = read_same x.fx2
@@ -185,8 +177,7 @@ module _ (find other : Finder) (u v : IonoState) (k : ℕ) (a : Alike u v k) (fo
   f2-line-same : (l : Slot) (x : F2Tangent) (f2d : List Float) (clat clck : Float) (c : PathNumbers) → f2_line_with find u l x f2d clat clck c ≡ f2_line_with other v l x f2d clat clck c
   unfolding f2_line_with f2_heights_with
   f2-line-same l x f2d clat clck c =
-      ap (λ (h : HeightPair). f2_line_by (geometry_of c.gcdkm c.amind h.hp h.ht false) l h x f2d clat clck c)
-      (f2-heights-by (profile_only u) (l.fi1 >f f0) l x ∙ ap (λ (b : Bool). f2_heights_by b (l.fi1 >f f0) other v l x) (shape_same u v k a))
+      rw (f2-heights-by (profile_only u) (l.fi1 >f f0) l x, shape_same u v k a)
 
   f1-line-by : (b : Bool) (l : Slot) (fx1 : Float) (e : LayerMuf) (gcdkm amind : Float) → f1_line_by b find u l fx1 e gcdkm amind ≡ f1_line_by b other v l fx1 e gcdkm amind
   unfolding f1_own_with

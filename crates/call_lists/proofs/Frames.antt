@@ -2,12 +2,14 @@
 use mathlib.Core.Bool.{Bool, true, false, ◌&&◌}
 use mathlib.Core.List.{List}
 use mathlib.Core.Path.{◌≡◌, refl, sym, ap, ◌∙◌, subst}
-use Rattle.std.specs.Prelude.{Option, Some, None, Result, Ok, Err, is_ok, is_some}
-use Rattle.std.proofs.lemmas.Bool.{and_parts, and_from}
+use Rattle.std.specs.Prelude.{Some, Result, Ok, Err, is_ok}
+use Rattle.std.specs.Bool.{then_some}
+use Rattle.std.proofs.lemmas.Bool.{false≢true, and_parts, and_from}
+use Rattle.std.proofs.lemmas.Option.{same_Some}
 use Prim.Native.Nat.{ℕ, ◌<◌, ◌≤◌}
 use native.Mathlib.Omega.{arith}
 use borrow.Author.Tests.{leb-true}
-use lib.Dec.{T, leb, ltb, eqb}
+use lib.Dec.{leb, ltb, eqb}
 use lib.IntN.{ℤ}
 use lib.ListN.{length}
 use lib.Ieee.{Float}
@@ -40,16 +42,10 @@ use Rattle.shapes.specs.declared.Mark.{Mark}
 use Rattle.slot_sheet.specs.declared.SlotSheet.{SlotSheet}
 use Rattle.slot_sheet.specs.Sheet.{sheet_by, sheet_cells_by, slot_sheet_with, sheet_cells_with}
 use Rattle.muf_records.specs.Records.{es_row_at, records_answer_with}
-use Rattle.call_lists.specs.Calls.{EsRows, flat, records, muf_with, Call, a_muf, a_sheet, a_nominal, SlotRows, rows_of, part_of, answer_with, answer_of, state_left, after_with, after_of, answered, prepares, pick_if, picked_slot}
+use Rattle.call_lists.specs.Calls.{EsRows, flat, records, muf_with, Call, a_muf, a_sheet, a_nominal, SlotRows, rows_of, part_of, answer_with, answer_of, state_left, after_with, after_of, answered, prepares, picked_slot}
 use Rattle.call_lists.specs.Lists.{SameProfile}
 use Rattle.call_lists.proofs.Alike.{Alike, gethp-same, genion-same, alosfv-same, three-same}
 use Rattle.call_lists.proofs.Prepared.{Common, common-self, lecden-alike, lecden-others, lecden-common}
-
-pub not-both : false ≡ true → ⊥
-not-both e = subst (λ (b : Bool). T b) (sym e) tt
-
-pub none-some : (k : ℕ) → None ≡ Some k → ⊥
-none-some k e = not-both (ap (λ (o : Option ℕ). is_some o) e)
 
 -- the slot that c picks, if it picks one, stands in t as in s
 abbrev pub FreshFor : IonoState → IonoState → Call → Type 0
@@ -122,15 +118,15 @@ done-by true true find s t step f2d clat clck c agree g fresh =
 done-by true false find s t step f2d clat clck c agree g fresh = (refl, refl, refl)
 done-by false r find s t step f2d clat clck c agree g fresh = (refl, refl, refl)
 
-picked : (d e : Bool) (k : ℕ) → d ≡ true → e ≡ true → pick_if (d && e) k ≡ Some k
+picked : (d e : Bool) (k : ℕ) → d ≡ true → e ≡ true → then_some (d && e) k ≡ Some k
 picked d e k hd he = rw (hd, he)
 
-done-follows : (find : Finder) (s t : IonoState) (n : ℕ) (row : ℕ → EsParams) (f2d clat clck : List Float) (c : PathNumbers) → ((k : ℕ) → pick_if (in_domain c && eqb (length f2d) 576) (controlling_of s) ≡ Some k → AgreesAt find t k) → Common s t → ((k : ℕ) → pick_if (in_domain c && eqb (length f2d) 576) (controlling_of s) ≡ Some k → slot_at t k ≡ slot_at s k) → Follows (muf_of_rows_with find t n row f2d clat clck c) (muf_of_rows_with gethp_of s n row f2d clat clck c) t (controlling_of s)
+done-follows : (find : Finder) (s t : IonoState) (n : ℕ) (row : ℕ → EsParams) (f2d clat clck : List Float) (c : PathNumbers) → ((k : ℕ) → then_some (in_domain c && eqb (length f2d) 576) (controlling_of s) ≡ Some k → AgreesAt find t k) → Common s t → ((k : ℕ) → then_some (in_domain c && eqb (length f2d) 576) (controlling_of s) ≡ Some k → slot_at t k ≡ slot_at s k) → Follows (muf_of_rows_with find t n row f2d clat clck c) (muf_of_rows_with gethp_of s n row f2d clat clck c) t (controlling_of s)
 unfolding muf_of_rows_with muf_from_search_with lists_reach
 done-follows find s t n row f2d clat clck c agree g fresh =
     let step = es_from row c n 0 start_of in
     let reach : ℕ → Bool = λ k. eqb (length f2d) 576 && ltb k (length clat) && ltb k (length clck) in
-    let has-picked : in_domain c ≡ true → reach (controlling_of s) ≡ true → pick_if (in_domain c && eqb (length f2d) 576) (controlling_of s) ≡ Some (controlling_of s) =
+    let has-picked : in_domain c ≡ true → reach (controlling_of s) ≡ true → then_some (in_domain c && eqb (length f2d) 576) (controlling_of s) ≡ Some (controlling_of s) =
     λ hd hr. picked (in_domain c) (eqb (length f2d) 576) (controlling_of s) hd (deciles-right (length f2d) (controlling_of s) (length clat) (length clck) hr) in
     subst (λ (k : ℕ). Follows (muf_from_search_by (in_domain c) (reach k) find t step f2d clat clck c) (muf_from_search_by (in_domain c) (reach (controlling_of s)) gethp_of s step f2d clat clck c) t (controlling_of s)) (sym (controlling-same s t g))
     (done-by (in_domain c) (reach (controlling_of s)) find s t step f2d clat clck c (λ hd hr. agree (controlling_of s) (has-picked hd hr)) g (λ hd hr. fresh (controlling_of s) (has-picked hd hr)))
@@ -148,10 +144,10 @@ muf-follows (records es) find s t f2d clat clck c agree g fresh =
 -- where it is refused 9, or 10 for its deciles, it is not answered: so an answered MUF has picked its slot
 answered-by : (d r : Bool) (s : IonoState) (step : Result EsSearch Refusal) (f2d clat clck : List Float) (c : PathNumbers) → is_ok (hour_in (muf_from_search_by d r gethp_of s step f2d clat clck c)) ≡ true → (d ≡ true) × (r ≡ true)
 answered-by true true s step f2d clat clck c e = (refl, refl)
-answered-by true false s step f2d clat clck c e = absurd (not-both e)
-answered-by false r s step f2d clat clck c e = absurd (not-both e)
+answered-by true false s step f2d clat clck c e = absurd (false≢true e)
+answered-by false r s step f2d clat clck c e = absurd (false≢true e)
 
-done-picked : (s : IonoState) (n : ℕ) (row : ℕ → EsParams) (f2d clat clck : List Float) (c : PathNumbers) → is_ok (hour_in (muf_of_rows_with gethp_of s n row f2d clat clck c)) ≡ true → pick_if (in_domain c && eqb (length f2d) 576) (controlling_of s) ≡ Some (controlling_of s)
+done-picked : (s : IonoState) (n : ℕ) (row : ℕ → EsParams) (f2d clat clck : List Float) (c : PathNumbers) → is_ok (hour_in (muf_of_rows_with gethp_of s n row f2d clat clck c)) ≡ true → then_some (in_domain c && eqb (length f2d) 576) (controlling_of s) ≡ Some (controlling_of s)
 unfolding muf_of_rows_with muf_from_search_with lists_reach
 done-picked s n row f2d clat clck c e =
     let k = controlling_of s in
@@ -212,7 +208,7 @@ same_answer (a_muf es f2d clat clck c) find s t agree g fresh =
 same_answer (a_sheet k nang layers cells) find s t agree g fresh =
     let a = leb k 2 in
     let b = room_for nang cells in
-    let has-picked : a ≡ true → b ≡ true → picked_slot s (a_sheet k nang layers cells) ≡ Some k = λ ha hb. ap (λ (x : Bool). pick_if x k) (sheet-answered a b s k layers ∙ and_from a b ha hb) in
+    let has-picked : a ≡ true → b ≡ true → picked_slot s (a_sheet k nang layers cells) ≡ Some k = λ ha hb. ap (λ (x : Bool). then_some x k) (sheet-answered a b s k layers ∙ and_from a b ha hb) in
     let h = sheet-seen a b find s t k nang layers cells (λ ha hb. agree k (has-picked ha hb)) g (λ ha hb. fresh k (has-picked ha hb)) in
     rw (h.0, h.1)
 same_answer (a_nominal points f2m3 es km gcd gcdkm) find s t agree g fresh = refl
@@ -237,8 +233,8 @@ after-with c find t agree = same_left c find t t agree (common-self t) (λ k e. 
 pub picks-own : (c : Call) (s : IonoState) → prepares s c ≡ true → picked_slot s c ≡ Some (slot_of s c)
 unfolding picked_slot prepares
 picks-own (a_muf es f2d clat clck c) s e = muf-picked es s f2d clat clck c e
-picks-own (a_sheet k nang layers cells) s e = ap (λ (x : Bool). pick_if x k) e
-picks-own (a_nominal points f2m3 es km gcd gcdkm) s e = absurd (not-both e)
+picks-own (a_sheet k nang layers cells) s e = ap (λ (x : Bool). then_some x k) e
+picks-own (a_nominal points f2m3 es km gcd gcdkm) s e = absurd (false≢true e)
 
 below-three : (k : ℕ) → k ≤ 2 → k < 3
 below-three k h = omega arith
@@ -248,7 +244,7 @@ unfolding prepares answered answer_with slot_sheet_with
 slot_small (a_muf es f2d clat clck c) s e = controlling-small s
 slot_small (a_sheet k nang layers cells) s e =
     below-three k (leb-true k 2 (and_parts (leb k 2) (room_for nang cells) (sym (sheet-answered (leb k 2) (room_for nang cells) s k layers) ∙ e)).0)
-slot_small (a_nominal points f2m3 es km gcd gcdkm) s e = absurd (not-both e)
+slot_small (a_nominal points f2m3 es km gcd gcdkm) s e = absurd (false≢true e)
 
 -- what a list's proof needs of a call on t
 pub record Stepped (s t : IonoState) (c : Call) : Type 0 where
@@ -259,13 +255,6 @@ pub record Stepped (s t : IonoState) (c : Call) : Type 0 where
   pub profile-answered : prepares s c ≡ true → SameProfile (after_of t c) (after_of s c)
   pub state-refused : prepares s c ≡ false → after_of t c ≡ t
 
-abbrev number_in : Option ℕ → ℕ
-number_in None = 0
-number_in (Some n) = n
-
-pub some_same : (j k : ℕ) → Some j ≡ Some k → j ≡ k
-some_same j k e = ap number_in e
-
 stepped_by : (b : Bool) (s t : IonoState) (c : Call) (j : ℕ) → prepares s c ≡ b → after_of t c ≡ prepared_if b t j → after_of s c ≡ prepared_if b s j → (b ≡ true → picked_slot s c ≡ Some j) → (b ≡ true → j < 3) → answer_of t c ≡ answer_of s c → Common s t → FreshFor s t c → Stepped s t c
 stepped_by true s t c j eb et es picks small same g fresh =
     let p = picks refl in
@@ -274,10 +263,10 @@ stepped_by true s t c j eb et es picks small same g fresh =
       answer-same = same;
       still-common = subst (λ (w : IonoState). Common s w) (sym et) (lecden-common s t j (small refl) g);
       own-slot =
-          λ k e. ap (λ (w : IonoState). slot_at w k) et ∙ subst (λ (i : ℕ). slot_at (lecden_of t j) i ≡ slot_at (lecden_of s j) i) (some_same j k (sym p ∙ e)) a.slot_same ∙ sym (ap (λ (w : IonoState). slot_at w k) es);
+          λ k e. ap (λ (w : IonoState). slot_at w k) et ∙ subst (λ (i : ℕ). slot_at (lecden_of t j) i ≡ slot_at (lecden_of s j) i) (same_Some j k (sym p ∙ e)) a.slot_same ∙ sym (ap (λ (w : IonoState). slot_at w k) es);
       other-slot = λ k h. ap (λ (w : IonoState). slot_at w k) et ∙ lecden-others t j k (λ e. h (p ∙ ap Some (sym e)));
       profile-answered = λ e. subst (λ (w : IonoState). SameProfile w (after_of s c)) (sym et) (subst (λ (w : IonoState). SameProfile (lecden_of t j) w) (sym es) (a.htr-same, a.fnsq-same, a.mark-same, a.owner-same));
-      state-refused = λ e. absurd (not-both (sym e ∙ eb));
+      state-refused = λ e. absurd (false≢true (sym e ∙ eb));
     }
 stepped_by false s t c j eb et es picks small same g fresh =
     record {
@@ -285,7 +274,7 @@ stepped_by false s t c j eb et es picks small same g fresh =
       still-common = subst (λ (w : IonoState). Common s w) (sym et) g;
       own-slot = λ k e. ap (λ (w : IonoState). slot_at w k) et ∙ fresh k e ∙ sym (ap (λ (w : IonoState). slot_at w k) es);
       other-slot = λ k h. ap (λ (w : IonoState). slot_at w k) et;
-      profile-answered = λ e. absurd (not-both (sym eb ∙ e));
+      profile-answered = λ e. absurd (false≢true (sym eb ∙ e));
       state-refused = λ e. et;
     }
 

@@ -2,6 +2,9 @@
 use mathlib.Core.Bool.{Bool, true, false}
 use mathlib.Core.List.{List, [], ◌∷◌, map}
 use Rattle.std.specs.Prelude.{Option, Some, None, Ok, IsOkAnd}
+use Rattle.std.specs.Bool.{then_some}
+use Rattle.std.proofs.lemmas.Bool.{false≢true}
+use Rattle.std.proofs.lemmas.Option.{none-some, same_Some}
 use mathlib.Core.Path.{◌≡◌, refl, sym, ap, ◌∙◌, subst}
 use Prim.Native.Nat.{ℕ}
 use borrow.Author.Tests.{eqb-true, eqb-false}
@@ -17,22 +20,22 @@ use Rattle.heights.specs.Walk.{gethp_walk_of}
 use Rattle.heights.proofs.Whole.{forty-reads}
 use Rattle.heights.proofs.Finders.{Agree, walks-agree, scans-agree}
 use Rattle.call_lists.specs.Calls.{Call, Answer, answer_of, after_of, after_with, prepares, picked_slot}
-use Rattle.call_lists.specs.Lists.{run_of, answers_of, run_with, answers_with, with_picked, states_read, Every, Together, Allowed, picks, or_else, own, later_or, only_if, last_preparing, alone, SameProfile, owner_picked, last_owner, ReadsWell, Numbers, ListOfCalls, ListsOfCalls, ReadAll, HeldState}
+use Rattle.call_lists.specs.Lists.{run_of, answers_of, run_with, answers_with, with_picked, states_read, Every, Together, Allowed, picks, or_else, own, later_or, last_preparing, alone, SameProfile, owner_picked, last_owner, ReadsWell, Numbers, ListOfCalls, ListsOfCalls, ReadAll, HeldState}
 use Rattle.call_lists.proofs.Prepared.{Common, common-self}
 use Rattle.call_lists.proofs.Numbers.{lecden-numbers, ionset-numbers}
-use Rattle.call_lists.proofs.Frames.{not-both, none-some, FreshFor, prepared_if, AgreesAt, slot_of, call-leaves, answer-with, after-with, picks-own, some_same, one-step}
+use Rattle.call_lists.proofs.Frames.{FreshFor, prepared_if, AgreesAt, slot_of, call-leaves, answer-with, after-with, picks-own, one-step}
 
 -- ---- who picks a slot
 
 picks-true : (o : Option ℕ) (k : ℕ) → picks o k ≡ true → o ≡ Some k
-picks-true None k e = absurd (not-both e)
+picks-true None k e = absurd (false≢true e)
 picks-true (Some j) k e = ap Some (eqb-true j k e)
 
 picks-false : (o : Option ℕ) (k : ℕ) → picks o k ≡ false → o ≡ Some k → ⊥
 picks-false None k e h = none-some k h
-picks-false (Some j) k e h = eqb-false j k e (some_same j k h)
+picks-false (Some j) k e h = eqb-false j k e (same_Some j k h)
 
-every-both : {A : Type 0} (P Q R : A → Type 0) (xs : List A) → Every P xs → Every Q xs → ((x : A) → P x → Q x → R x) → Every R xs
+pub every-both : {A : Type 0} (P Q R : A → Type 0) (xs : List A) → Every P xs → Every Q xs → ((x : A) → P x → Q x → R x) → Every R xs
 every-both P Q R [] p q f = tt
 every-both P Q R (x ∷ xs) p q f = (f x p.0 q.0, every-both P Q R xs p.1 q.1 f)
 
@@ -68,7 +71,7 @@ slot_step s t t₁ r c k None false p alone-here own-slot other-slot ih = ih ∙
 slot_step s t t₁ r c k (Some d) false p alone-here own-slot other-slot ih = ih
 
 -- the profile after one call more
-profile-step : (s t t₁ r : IonoState) (c : Call) (o : Option Call) (b : Bool) → (b ≡ true → SameProfile t₁ (after_of s c)) → (b ≡ false → t₁ ≡ t) → SameProfile r (left o s t₁) → SameProfile r (left (later_or o (only_if b c)) s t)
+profile-step : (s t t₁ r : IonoState) (c : Call) (o : Option Call) (b : Bool) → (b ≡ true → SameProfile t₁ (after_of s c)) → (b ≡ false → t₁ ≡ t) → SameProfile r (left o s t₁) → SameProfile r (left (later_or o (then_some b c)) s t)
 profile-step s t t₁ r c (Some d) b h g ih = ih
 profile-step s t t₁ r c None true h g ih = let p = h refl in (ih.0 ∙ p.0, ih.1 ∙ p.1, ih.2 ∙ p.2, ih.3 ∙ p.3)
 profile-step s t t₁ r c None false h g ih = subst (λ (w : IonoState). SameProfile r w) (g refl) ih
@@ -105,7 +108,7 @@ AgreesAll find us = Every (λ u. Agree find gethp_of u) us
 
 picked-agree : (o : Option ℕ) (find : Finder) (t : IonoState) (rest : List IonoState) → AgreesAll find (with_picked o t rest) → ((k : ℕ) → o ≡ Some k → AgreesAt find t k) × AgreesAll find rest
 picked-agree None find t rest h = (λ k e. absurd (none-some k e), h)
-picked-agree (Some j) find t rest h = (λ k e. subst (λ (i : ℕ). AgreesAt find t i) (some_same j k e) h.0, h.1)
+picked-agree (Some j) find t rest h = (λ k e. subst (λ (i : ℕ). AgreesAt find t i) (same_Some j k e) h.0, h.1)
 
 run-with : (find : Finder) (cs : List Call) (t : IonoState) → AgreesAll find (states_read t cs) → run_with find t cs ≡ run_of t cs
 unfolding run_with states_read
@@ -174,7 +177,7 @@ prepared-owner c s e =
     ap owner_of (call-leaves c s) ∙ ap (λ (b : Bool). owner_of (prepared_if b s (slot_of s c))) e ∙ lecden-owner s (slot_of s c) ∙ ap (owner_picked s.ielect) (sym (picks-own c s e))
 
 -- the last call that prepares a slot does prepare one
-later-owner : (s : IonoState) (o : Option Call) (b : Bool) (c : Call) → prepares s c ≡ b → owner_of (alone s o) ≡ last_owner s o → owner_of (alone s (later_or o (only_if b c))) ≡ last_owner s (later_or o (only_if b c))
+later-owner : (s : IonoState) (o : Option Call) (b : Bool) (c : Call) → prepares s c ≡ b → owner_of (alone s o) ≡ last_owner s o → owner_of (alone s (later_or o (then_some b c))) ≡ last_owner s (later_or o (then_some b c))
 later-owner s (Some d) b c e h = h
 later-owner s None true c e h = prepared-owner c s e
 later-owner s None false c e h = refl

@@ -5,7 +5,7 @@ use mathlib.Core.Path.{◌≡◌, sym, subst}
 use Rattle.std.specs.Prelude.{Result, Ok, IfOk}
 use Rattle.refusal.specs.declared.Refusal.{Refusal}
 use Prim.Native.Nat.{ℕ, zero, suc, ◌+◌, ◌*◌}
-use lib.Dec.{T, leb}
+use lib.Dec.{leb}
 use lib.ListN.{set, replicate}
 use lib.Ieee.{Float, binary32, of_bits, fits, is_nan}
 use lib.Ieee.Fits.{nan-fits, add-fits, sub-fits, mul-fits, div-fits}
@@ -13,6 +13,7 @@ use Rattle.scalar.specs.F32.{◌+f◌, ◌-f◌, ◌*f◌, ◌/f◌, ◌<f◌, �
 use Rattle.scalar.specs.Literals.{f0, f0_001, f0_17, f0_25, f0_5, f0_85, f1, f2, f6, f10, f22, f32, f70}
 use Rattle.scalar.specs.Scalar.{or_second, min_of, max_of}
 use Rattle.scalar.specs.Root.{sqrt_of}
+use Rattle.same.specs.Same.{F32}
 use Rattle.layers.specs.State.{with_kfx}
 use Rattle.layers.specs.Owners.{disowned}
 use Rattle.slots.proofs.OwnersLeft.{disowned-only}
@@ -30,36 +31,33 @@ use Rattle.slot_curves.specs.declared.F1Shape.{F1Shape}
 use Rattle.walk.specs.Walk.{EachF32}
 use Rattle.call_lists.specs.Lists.{Numbers}
 
-abbrev F : Float → Type 0
-F x = T (fits binary32 x)
-
-constants : F f0 × F f1 × F f70
+constants : F32 f0 × F32 f1 × F32 f70
 unfolding of_bits fits
 constants = (tt, tt, tt)
 
 -- ---- one of two, and lists
 
-one_of : (b : Bool) (x y : Float) → F x → F y → F (or_second b x y)
+one_of : (b : Bool) (x y : Float) → F32 x → F32 y → F32 (or_second b x y)
 unfolding or_second
 one_of true x y p q = q
 one_of false x y p q = p
 
-min-fits : (x y : Float) → F x → F y → F (min_of x y)
+min-fits : (x y : Float) → F32 x → F32 y → F32 (min_of x y)
 unfolding min_of
 min-fits x y p q = one_of (is_nan x || (y <f x)) x y p q
 
-max-fits : (x y : Float) → F x → F y → F (max_of x y)
+max-fits : (x y : Float) → F32 x → F32 y → F32 (max_of x y)
 unfolding max_of
 max-fits x y p q = one_of (is_nan x || (y >f x)) x y p q
 
-set-held : (l : List Float) (n : ℕ) (x : Float) → EachF32 l → F x → EachF32 (set l n x)
+set-held : (l : List Float) (n : ℕ) (x : Float) → EachF32 l → F32 x → EachF32 (set l n x)
 set-held [] n x h p i = h i
 set-held (y ∷ l) zero x h p zero = p
 set-held (y ∷ l) zero x h p (suc i) = h (suc i)
 set-held (y ∷ l) (suc n) x h p zero = h zero
 set-held (y ∷ l) (suc n) x h p (suc i) = set-held l n x (λ j. h (suc j)) p i
 
-all_alike : (n : ℕ) (x : Float) → F x → EachF32 (replicate n x)
+all_alike : (n : ℕ) (x : Float) → F32 x → EachF32 (replicate n x)
 all_alike zero x p i = nan-fits binary32
 all_alike (suc n) x p zero = p
 all_alike (suc n) x p (suc i) = all_alike n x p i
@@ -71,7 +69,7 @@ unfolding filled
 filled-held l from d zero h = h
 filled-held l from d (suc n) h = let k = filled l from d n in set-held k (from + n + 1) (at k (from + n) +f d) (filled-held l from d n h) (add-fits binary32 (at k (from + n)) d)
 
-lower-held : (l : List Float) (s : Slot) (hex : Float) → EachF32 l → F hex → F s.hi0 → EachF32 (lower_of l s hex)
+lower-held : (l : List Float) (s : Slot) (hex : Float) → EachF32 l → F32 hex → F32 s.hi0 → EachF32 (lower_of l s hex)
 unfolding lower_of
 lower-held l s hex h ph p0 =
     let a0 = set l 0 f70 in
@@ -94,7 +92,7 @@ lower-held l s hex h ph p0 =
     let hi = filled-held m 10 ((at m 16 -f at m 10) /f f6) 5 hm in
     set-held i 10 (f0_5 *f (at i 9 +f at i 11)) hi (mul-fits binary32 f0_5 (at i 9 +f at i 11))
 
-upper_by_lem : (b : Bool) (l : List Float) (s : Slot) → EachF32 l → F s.hi1 → EachF32 (upper_by b l s)
+upper_by_lem : (b : Bool) (l : List Float) (s : Slot) → EachF32 l → F32 s.hi1 → EachF32 (upper_by b l s)
 upper_by_lem true l s h p1 =
     let a = set l 17 (s.hi2 -f s.yi2) in
     filled-held a 17 ((at a 49 -f at a 17) /f f32) 31 (set-held l 17 (s.hi2 -f s.yi2) h (sub-fits binary32 s.hi2 s.yi2))
@@ -106,7 +104,7 @@ upper_by_lem false l s h p1 =
     let ha = set-held l 17 x h (max-fits (s.hi1 -f s.yi1) (at l 16 +f f1) (sub-fits binary32 s.hi1 s.yi1) (add-fits binary32 (at l 16) f1)) in
     filled-held c 27 ((at c 49 -f at c 27) /f f22) 21 (filled-held b 17 ((at b 27 -f at b 17) /f f10) 9 (set-held a 27 s.hi1 ha p1))
 
-heights-held : (s : Slot) (hex : Float) → F hex → F s.hi0 → F s.hi1 → F s.hi2 → EachF32 (heights_of s hex)
+heights-held : (s : Slot) (hex : Float) → F32 hex → F32 s.hi0 → F32 s.hi1 → F32 s.hi2 → EachF32 (heights_of s hex)
 unfolding heights_of upper_of
 heights-held s hex ph p0 p1 p2 =
     let l = lower_of (replicate 50 f0) s hex in
@@ -116,14 +114,14 @@ heights-held s hex ph p0 p1 p2 =
 -- ---- the F1 layer reshaped
 
 abbrev Reshaped : F1Shape → Type 0
-Reshaped f = F f.hi1 × F f.yi1
+Reshaped f = F32 f.hi1 × F32 f.yi1
 
 -- whichever of two shapes a test takes
 either_held : (b : Bool) (f g : F1Shape) → Reshaped f → Reshaped g → Reshaped (cond b f g)
 either_held true f g p q = p
 either_held false f g p q = q
 
-f1-held : (s : Slot) (v : Valley) → F s.hi1 → F s.yi1 → Reshaped (f1_of s v)
+f1-held : (s : Slot) (v : Valley) → F32 s.hi1 → F32 s.yi1 → Reshaped (f1_of s v)
 unfolding f1_of
 f1-held s v p q =
     let fc1 = s.fi1 *f s.fi1 in

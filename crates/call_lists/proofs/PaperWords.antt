@@ -2,6 +2,9 @@
 use mathlib.Core.Bool.{Bool, true, false, ◌&&◌}
 use mathlib.Core.List.{List, [], ◌∷◌}
 use Rattle.std.specs.Prelude.{Some}
+use Rattle.std.specs.Bool.{then_some}
+use Rattle.std.proofs.lemmas.Bool.{false≢true}
+use Rattle.std.proofs.lemmas.Option.{none-some, same_Some}
 use mathlib.Core.Path.{◌≡◌, refl, sym, ap, ◌∙◌}
 use Prim.Native.Nat.{ℕ, ◌+◌, ◌≤◌}
 use native.Mathlib.Omega.{arith}
@@ -13,36 +16,29 @@ use Rattle.heights.specs.Gethp.{gethp_of}
 use Rattle.reflectrix.specs.Fobby.{room_for}
 use Rattle.readings.specs.Cursor.{one_if}
 use Rattle.slot_sheet.specs.Sheet.{sheet_by, slot_sheet_with}
-use Rattle.call_lists.specs.Calls.{Call, a_muf, a_sheet, a_nominal, muf_with, es_after, answer_with, after_with, answered, pick_if, picked_slot}
+use Rattle.call_lists.specs.Calls.{Call, a_muf, a_sheet, a_nominal, muf_with, es_after, answer_with, after_with, answered, picked_slot}
 use Rattle.call_lists.specs.Lists.{Every, Together, Allowed}
 use Rattle.call_lists.specs.PaperWords.{is_muf, is_sheet_of, mufs_in, sheets_in, InWords, PaperWords, outcome_of, RefusalByArguments, WithContracts}
-use Rattle.call_lists.proofs.Frames.{not-both, none-some, some_same}
-use Rattle.call_lists.proofs.Lists.{any-list, if-set}
+use Rattle.call_lists.proofs.Lists.{every-both, any-list, if-set}
 
 -- ---- a sheet that picks k is counted among the answered sheets of k
 
-picked-by : (b : Bool) (j k : ℕ) → pick_if b j ≡ Some k → one_if (eqb j k && b) ≡ 1
-picked-by true j k e = ap (λ (b : Bool). one_if (b && true)) (eq-eqb j k (some_same j k e))
+picked-by : (b : Bool) (j k : ℕ) → then_some b j ≡ Some k → one_if (eqb j k && b) ≡ 1
+picked-by true j k e = ap (λ (b : Bool). one_if (b && true)) (eq-eqb j k (same_Some j k e))
 picked-by false j k e = absurd (none-some k e)
 
 counted : (s : IonoState) (d : Call) (k : ℕ) → is_muf d ≡ false → picked_slot s d ≡ Some k → one_if (is_sheet_of s k d) ≡ 1
 unfolding picked_slot
-counted s (a_muf es f2d clat clck c) k m e = absurd (not-both (sym m))
+counted s (a_muf es f2d clat clck c) k m e = absurd (false≢true (sym m))
 counted s (a_sheet j nang layers cells) k m e = picked-by (answered s (a_sheet j nang layers cells)) j k e
 counted s (a_nominal points f2m3 es km gcd gcdkm) k m e = absurd (none-some k e)
 
 -- ---- c and each of the calls ds after it
 
-one_more : (a n : ℕ) → a ≡ 1 → a + n ≡ 0 → ⊥
-one_more a n h e = omega arith
-
-rest : (a n : ℕ) → a + n ≡ 0 → n ≡ 0
-rest a n e = omega arith
-
 -- by whether d is a MUF, and c
 not-together : (b a : Bool) (s : IonoState) (c d : Call) (k m n : ℕ) → is_muf d ≡ b → is_muf c ≡ a → (is_muf c ≡ true → one_if (is_muf d) + m ≡ 0) → one_if (is_sheet_of s k d) + n ≡ 0 → (is_muf d ≡ true → one_if (is_sheet_of s k c) ≡ 0) → picked_slot s c ≡ Some k → picked_slot s d ≡ Some k → ⊥
-not-together false a s c d k m n eb ea one none_left none_before p q = one_more (one_if (is_sheet_of s k d)) n (counted s d k eb q) none_left
-not-together true true s c d k m n eb ea one none_left none_before p q = one_more (one_if (is_muf d)) m (ap one_if eb) (one ea)
+not-together false a s c d k m n eb ea one none_left none_before p q = omega (arith, counted s d k eb q)
+not-together true true s c d k m n eb ea one none_left none_before p q = omega (arith, one ea, ap one_if eb)
 not-together true false s c d k m n eb ea one none_left none_before p q = let x = counted s c k ea p in let y = none_before eb in let z : ◌≡◌ {A = ℕ} 0 1 = sym y ∙ x in omega arith
 
 apart : (s : IonoState) (c : Call) (ds : List Call) → (is_muf c ≡ true → mufs_in ds ≡ 0) → ((k : ℕ) → picked_slot s c ≡ Some k → sheets_in s k ds ≡ 0) → Every (λ d. is_muf d ≡ true → (k : ℕ) → picked_slot s d ≡ Some k → one_if (is_sheet_of s k c) ≡ 0) ds → Every (Together s c) ds
@@ -50,40 +46,30 @@ unfolding mufs_in sheets_in
 apart s c [] one none_left none_before = tt
 apart s c (d ∷ ds) one none_left none_before = (
   λ k p q. not-together (is_muf d) (is_muf c) s c d k (mufs_in ds) (sheets_in s k ds) refl refl one (none_left k p) (λ m. none_before.0 m k q) p q,
-  apart s c ds (λ m. rest (one_if (is_muf d)) (mufs_in ds) (one m)) (λ k p. rest (one_if (is_sheet_of s k d)) (sheets_in s k ds) (none_left k p)) none_before.1,
+  apart s c ds (λ m. omega (arith, one m)) (λ k p. omega (arith, none_left k p)) none_before.1,
 )
 
 -- what follows from P at each entry is so of every entry
 pub every-so : {A : Type 0} (P Q : A → Type 0) (xs : List A) → Every P xs → ((x : A) → P x → Q x) → Every Q xs
-every-so P Q [] p f = tt
-every-so P Q (x ∷ xs) p f = (f x p.0, every-so P Q xs p.1 f)
-
-first-zero : (a n : ℕ) → a + n ≡ 0 → a ≡ 0
-first-zero a n e = omega arith
-
-at_most_one : (a n : ℕ) → a ≡ 1 → a + n ≤ 1 → n ≡ 0
-at_most_one a n h e = omega arith
-
-fewer : (a n : ℕ) → a + n ≤ 1 → n ≤ 1
-fewer a n e = omega arith
+every-so P Q xs p f = every-both P P Q xs p p (λ x h _. f x h)
 
 -- no answered sheet of what c picks is left
 left_by : (b : Bool) (s : IonoState) (c : Call) (k n : ℕ) → is_muf c ≡ b → one_if (is_sheet_of s k c) + n ≤ 1 → (is_muf c ≡ true → one_if (is_sheet_of s k c) + n ≡ 0) → picked_slot s c ≡ Some k → n ≡ 0
-left_by true s c k n e one none_of p = rest (one_if (is_sheet_of s k c)) n (none_of e)
-left_by false s c k n e one none_of p = at_most_one (one_if (is_sheet_of s k c)) n (counted s c k e p) one
+left_by true s c k n e one none_of p = omega (arith, none_of e)
+left_by false s c k n e one none_of p = omega (arith, counted s c k e p)
 
 pub words-allowed : (s : IonoState) (calls : List Call) → InWords s calls → Allowed s calls
 unfolding mufs_in sheets_in
 words-allowed s [] w = tt
 words-allowed s (c ∷ cs) w = (
   apart s c cs
-      (λ m. at_most_one (one_if (is_muf c)) (mufs_in cs) (ap one_if m) w.one-muf)
+      (λ m. omega (arith, ap one_if m))
       (λ k p. left_by (is_muf c) s c k (sheets_in s k cs) refl (w.one-sheet k) (λ m. w.none-of-its-pick.0 m k p) p)
-      (every-so _ _ cs w.none-of-its-pick.1 (λ d h m k q. first-zero (one_if (is_sheet_of s k c)) (sheets_in s k cs) (h m k q))),
+      (every-so _ _ cs w.none-of-its-pick.1 (λ d h m k q. omega (arith, h m k q))),
   words-allowed s cs (record {
-    one-muf = fewer (one_if (is_muf c)) (mufs_in cs) w.one-muf;
-    one-sheet = λ k. fewer (one_if (is_sheet_of s k c)) (sheets_in s k cs) (w.one-sheet k);
-    none-of-its-pick = every-so _ _ cs w.none-of-its-pick.1 (λ d h m k q. rest (one_if (is_sheet_of s k c)) (sheets_in s k cs) (h m k q));
+    one-muf = omega arith;
+    one-sheet = λ k. omega (arith, w.one-sheet k);
+    none-of-its-pick = every-so _ _ cs w.none-of-its-pick.1 (λ d h m k q. omega (arith, h m k q));
   }),
 )
 

@@ -15,7 +15,7 @@ use Rattle.slot_curves.specs.F1.{valley_of, f1_of, reshaped_of}
 use Rattle.profile.specs.LecdenKept.{LecdenKept}
 use Rattle.slot_curves.specs.declared.Slot.{Slot}
 use Rattle.profile.proofs.Keeps.{lecden-keeps, lecden-supplied}
-use Rattle.call_lists.proofs.Alike.{Alike, yi0-same, yi1-same, yi2-same, hi0-same, hi1-same, hi2-same, fsec-same}
+use Rattle.call_lists.proofs.Alike.{Alike, slot-alike}
 
 -- what no call of a list changes; s is the first state, t a later one
 pub record Common (s t : IonoState) : Type 0 where
@@ -69,7 +69,8 @@ unfolding slot_at slot_written
 slot-written s t k q c e =
     let y : (i : ℕ) → at t.yi i ≡ at s.yi i → at (set t.yi (3 * k + 1) q.yi1) i ≡ at (set s.yi (3 * k + 1) q.yi1) i = λ i h. set_agrees t.yi s.yi (3 * k + 1) q.yi1 i c.yi-long h in
     let z : (i : ℕ) → at t.hi i ≡ at s.hi i → at (set t.hi (3 * k + 1) q.hi1) i ≡ at (set s.hi (3 * k + 1) q.hi1) i = λ i h. set_agrees t.hi s.hi (3 * k + 1) q.hi1 i c.hi-long h in
-    rw (c.fi-common, y (3 * k) (yi0-same t s k e), y (3 * k + 1) (yi1-same t s k e), y (3 * k + 2) (yi2-same t s k e), z (3 * k) (hi0-same t s k e), z (3 * k + 1) (hi1-same t s k e), z (3 * k + 2) (hi2-same t s k e), set_agrees t.fsecv s.fsecv k q.fsec k c.fsecv-long (fsec-same t s k e))
+    let p = slot-alike t s k e in
+    rw (c.fi-common, y (3 * k) p.yi0-same, y (3 * k + 1) p.yi1-same, y (3 * k + 2) p.yi2-same, z (3 * k) p.hi0-same, z (3 * k + 1) p.hi1-same, z (3 * k + 2) p.hi2-same, set_agrees t.fsecv s.fsecv k q.fsec k c.fsecv-long p.fsec-same)
 
 -- ---- `lecden` of a slot that stands as it first did
 

@@ -1,5 +1,6 @@
 -- Calls on one state: circuit MUFs, slot sheets and nominal MUFs, each with its own arguments and lent cells. With `gethp_of` for the way of finding heights, `find`, what a call answers and what it leaves are the very definitions that the contracts of the three functions are equated with.
-use Rattle.std.specs.Prelude.{Bool, true, false, ◌&&◌, List, ℕ, eqb, ℤ, length, Float, Option, Some, None, Result, Ok, Err, is_ok}
+use Rattle.std.specs.Prelude.{Bool, false, ◌&&◌, List, ℕ, eqb, ℤ, length, Float, Option, None, Result, Ok, Err, is_ok}
+use Rattle.std.specs.Bool.{then_some}
 use Rattle.refusal.specs.declared.Refusal.{Refusal}
 use Rattle.layers.specs.declared.IonoState.{IonoState}
 use Rattle.layers.specs.declared.LayerMuf.{LayerMuf}
@@ -100,12 +101,8 @@ prepares s (a_muf es f2d clat clck c) = answered s (a_muf es f2d clat clck c)
 prepares s (a_sheet k nang layers cells) = answered s (a_sheet k nang layers cells)
 prepares s (a_nominal points f2m3 es km gcd gcdkm) = false
 
-abbrev pub pick_if : Bool → ℕ → Option ℕ
-pick_if true k = Some k
-pick_if false k = None
-
 -- An answered sheet has its slot, a refused one none. A MUF has the controlling slot, whether it is answered or not; none where it is refused 9, or 10 for its deciles. A nominal MUF has none.
 unfoldable pub picked_slot : IonoState → Call → Option ℕ
-picked_slot s (a_muf es f2d clat clck c) = pick_if (in_domain c && eqb (length f2d) 576) (controlling_of s)
-picked_slot s (a_sheet k nang layers cells) = pick_if (answered s (a_sheet k nang layers cells)) k
+picked_slot s (a_muf es f2d clat clck c) = then_some (in_domain c && eqb (length f2d) 576) (controlling_of s)
+picked_slot s (a_sheet k nang layers cells) = then_some (answered s (a_sheet k nang layers cells)) k
 picked_slot s (a_nominal points f2m3 es km gcd gcdkm) = None

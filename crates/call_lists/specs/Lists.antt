@@ -1,6 +1,7 @@
 -- The theorem on lists of calls, as one claim about a whole list of any length. Nothing is asked of the state's switch of the exact height rule: all of it holds for both settings.
 -- The first call gets the state s that `ionset` answered, each later one the state that the one before returned. "Alone" is on s, with the same arguments and cells.
 use Rattle.std.specs.Prelude.{Bool, true, false, List, [], ◌∷◌, map, ◌≡◌, ℕ, ◌<◌, ◌≤◌, T, eqb, length, Float, Option, Some, None, IsOkAnd}
+use Rattle.std.specs.Bool.{then_some}
 use Rattle.scalar.specs.F32.{at}
 use Rattle.layers.specs.Owners.{owner_by, owner_of}
 use Rattle.slots.specs.Ionset.{ionset_of}
@@ -89,13 +90,9 @@ abbrev pub later_or : Option Call → Option Call → Option Call
 later_or None c = c
 later_or (Some d) c = Some d
 
-abbrev pub only_if : Bool → Call → Option Call
-only_if true c = Some c
-only_if false c = None
-
 unfoldable pub last_preparing : IonoState → List Call → Option Call
 last_preparing s [] = None
-last_preparing s (c ∷ cs) = later_or (last_preparing s cs) (only_if (prepares s c) c)
+last_preparing s (c ∷ cs) = later_or (last_preparing s cs) (then_some (prepares s c) c)
 
 -- what a call alone leaves of s; s where there is none
 abbrev pub alone : IonoState → Option Call → IonoState

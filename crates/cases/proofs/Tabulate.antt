@@ -26,3 +26,9 @@ module _ {A B : Type 0} (f : A → B) (d : A) where
   mapped-all [] (y ∷ l) e = absurd (omega arith)
   mapped-all (x ∷ hs) [] e = absurd (omega arith)
   mapped-all (x ∷ hs) (y ∷ l) e = ap (λ (t : List B). f x ∷ t) (mapped-all hs l (omega arith))
+
+-- a list of which the places before i are changed is at i as it was
+pub untouched : {A : Type 0} (f : A → A) (d : A) (l : List A) (i : ℕ) → get_or (mapped f d l l i) i d ≡ get_or l i d
+untouched f d l zero = refl
+untouched f d [] (suc i) = refl
+untouched f d (x ∷ l) (suc i) = untouched f d l i

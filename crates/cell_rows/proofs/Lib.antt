@@ -1,4 +1,4 @@
--- The turns of the loop over an angle's cells, the cells that are written, and an array's `map`.
-mod Turns
+-- The bounds of a row's test, the cells that are written, and a list of thirty-two numbers as a `map`.
+mod Bounds
 mod Writes
 pub mod Maps

@@ -1,13 +1,16 @@
 -- The cells keep their number, and an angle's cells are written in its part of them.
-use mathlib.Core.Path.{◌≡◌, refl, sym, ap, ◌∙◌}
+use mathlib.Core.Path.{◌≡◌, refl, sym, ap, ◌∙◌, subst}
+use mathlib.Core.Logic.{inl, inr}
 use mathlib.Core.List.{List, ◌++◌}
 use Prim.Native.Nat.{ℕ, zero, suc, ◌+◌, ◌-◌, ◌≤◌, ◌<◌}
+use native.Mathlib.Nat.{le_of_suc-le-suc, eq-or-lt_of_le}
 use native.Mathlib.Omega.{arith}
-use lib.IntN.{ℤ}
+use lib.IntN.{ℤ, pos}
 use lib.Ieee.{Float}
-use lib.ListN.{length, set, take, length-set}
+use lib.ListN.{length, set, take, get_or, length-set}
+use lib.Seq.{get_or-set_same, get_or-set_other}
 use borrow.Rule.Slice.PartMut.{mid_of, post_of, put_mid, put_same}
-use Rattle.std.proofs.lemmas.List.{set-append_left, set-append_right, length-take-le}
+use Rattle.std.proofs.lemmas.List.{set-append_left, set-append_right, length-take-le, ext_get_or}
 use Rattle.scalar.specs.F32.{◌/f◌, at}
 use Rattle.cell_test.specs.Cell.{khz_of, sqcos_of}
 use Rattle.cell_rows.specs.Row.{angle_cells_of}
@@ -33,3 +36,26 @@ row_in fv radii rcosd a k cells (suc n) h l =
     let m = length-row fv radii rcosd 0 (mid_of a k cells) n in
     let z : 0 + n ≡ n = omega arith in
     rw z (set_in a k n cells (angle_cells_of fv radii rcosd 0 (mid_of a k cells) n) v h (omega (arith, m))) ∙ ap (λ (x : List ℤ). set x (a + n) v) (row_in fv radii rcosd a k cells n h (omega arith))
+
+-- the cell at a place that is written
+at_row : (fv radii : List Float) (rcosd : Float) (cells : List ℤ) (n i : ℕ) → n ≤ length cells → i < n → get_or (angle_cells_of fv radii rcosd 0 cells n) i (pos 0) ≡ khz_of (at fv i) (sqcos_of (rcosd /f at radii i))
+unfolding angle_cells_of
+at_row fv radii rcosd cells zero i h l = elim l [ ]
+at_row fv radii rcosd cells (suc n) i h l =
+    let row = angle_cells_of fv radii rcosd 0 cells n in
+    let v = λ (k : ℕ). khz_of (at fv k) (sqcos_of (rcosd /f at radii k)) in
+    let m : n < length row = omega (arith, length-row fv radii rcosd 0 cells n) in
+    let z : 0 + n ≡ n = omega arith in
+    rw z (elim (eq-or-lt_of_le (le_of_suc-le-suc l)) [
+      | inl e ↦ subst (λ (k : ℕ). get_or (set row n (v n)) k (pos 0) ≡ v k) (sym e) (get_or-set_same row n (v n) (pos 0) m)
+      | inr k ↦ get_or-set_other row n i (v n) (pos 0) (λ e. apart i n k e) ∙ at_row fv radii rcosd cells n i (omega arith) k
+    ])
+  where
+    apart : (j k : ℕ) → j < k → j ≡ k → ⊥
+    apart j k l e = omega arith
+
+-- thirty cells, each as it is at its place, are a row of thirty, whatever was there
+pub row_made : (fv radii : List Float) (rcosd : Float) (cells made : List ℤ) → length cells ≡ 30 → length made ≡ 30 → ((i : ℕ) → i < 30 → get_or made i (pos 0) ≡ khz_of (at fv i) (sqcos_of (rcosd /f at radii i)))
+    → made ≡ angle_cells_of fv radii rcosd 0 cells 30
+row_made fv radii rcosd cells made l m each =
+    ext_get_or (pos 0) made (angle_cells_of fv radii rcosd 0 cells 30) (m ∙ sym l ∙ sym (length-row fv radii rcosd 0 cells 30)) (λ i k. let h : i < 30 = rw (sym m) k in each i h ∙ sym (at_row fv radii rcosd cells 30 i (omega (arith, l)) h))

@@ -1,12 +1,11 @@
 -- The cells of one angle, guessed together: thirty rows and two to spare. Definitions only.
-use Rattle.std.specs.Prelude.{◌≡◌, List, ℕ, zero, suc, ◌+◌, ◌*◌, ◌<◌, ℤ, get_or, set, Float}
+use Rattle.std.specs.Prelude.{List, ℕ, zero, suc, ◌+◌, ◌*◌, ◌<◌, ℤ, get_or, set, Float}
 use Rattle.scalar.specs.F32.{◌/f◌, at}
-use Rattle.cell_test.specs.Cell.{khz_of, sqcos_of, in_doubt, Told}
+use Rattle.cell_test.specs.Cell.{khz_of, sqcos_of, Told}
 
--- What is told for the frequencies fv and the radii at their heights: each cell or that it is in doubt, and how many are.
-pub record RowTold (fv radii : List Float) (rcosd : Float) (told : List ℕ) (doubts : ℕ) : Type 0 where
-  pub each : (i : ℕ) → i < 32 → Told (at fv i) (sqcos_of (rcosd /f at radii i)) (get_or told i 0)
-  pub sure : doubts ≡ 0 → (i : ℕ) → i < 32 → get_or told i 0 < in_doubt
+-- What is told for the frequencies fv and the radii at their heights: each cell or that it is in doubt.
+abbrev pub RowTold : List Float → List Float → Float → List ℕ → Type 0
+RowTold fv radii rcosd told = (i : ℕ) → i < 32 → Told (at fv i) (sqcos_of (rcosd /f at radii i)) (get_or told i 0)
 
 -- n cells of an angle, from the cell `from` on
 unfoldable pub angle_cells_of : List Float → List Float → Float → ℕ → List ℤ → ℕ → List ℤ

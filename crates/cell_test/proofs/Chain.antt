@@ -1,7 +1,7 @@
 -- The test of a cell in whole numbers.
-use Prim.Native.Nat.{ℕ, suc, ◌*◌, ◌≤◌, ◌<◌}
-use Rattle.scalar.proofs.WholeRoot.{square}
-use native.Mathlib.Nat.{mul_assoc, mul_comm, mul_left_comm, le_trans, not-le_of_lt, lt_of_mul-lt-mul_right, mul-lt-mul_of_pos_left, mul-le-mul_left, le_of_suc-le-suc, lt_of_not-le, le_of_mul-le-mul_right, mul-le-mul_right, mul-le-mul, mul-pos}
+use Prim.Native.Nat.{ℕ, ◌*◌, ◌≤◌, ◌<◌}
+use Rattle.scalar.proofs.WholeRoot.{square-back}
+use native.Mathlib.Nat.{mul_assoc, mul_comm, mul_left_comm, le_trans, not-le_of_lt, lt_of_mul-lt-mul_right, mul-lt-mul_of_pos_left, mul-le-mul_left, lt_of_not-le, le_of_mul-le-mul_right, mul-le-mul_right, mul-le-mul, mul-pos}
 use native.Mathlib.Omega.{arith}
 
 -- X is at most b / a of Y, and Y at most d / c of Z
@@ -11,16 +11,9 @@ chain X Y Z a b c d h k =
     let q = mul-le-mul_right b k in
     omega arith
 
+-- the product of two of them (series, on which this crate does not stand, has it as `pair`)
 pub times : (X Y x y a b c d : ℕ) → X * a ≤ Y * b → x * c ≤ y * d → X * x * (a * c) ≤ Y * y * (b * d)
-times X Y x y a b c d h k =
-    let p = mul-le-mul h k in
-    omega arith
-
-square_le : (x y : ℕ) → x * x ≤ y * y → x ≤ y
-square_le x y h = le_of_suc-le-suc (lt_of_not-le (λ (g : suc y ≤ x). strict y (le_trans (mul-le-mul g g) h)))
-  where
-    strict : (y : ℕ) → suc y * suc y ≤ y * y → ⊥
-    strict y h = let e = square y in omega arith
+times X Y x y a b c d h k = omega (arith, mul-le-mul h k)
 
 -- what the chains below come to: the factors sorted, and e * e * (e * e) taken off both sides
 sorted-low : (X Y L C e d u : ℕ) → 0 < e → X * (e * e * e * (d * d * (e * e)) * (L * (d * d * (d * d)))) ≤ Y * (u * u * u * (C * (u * u * (u * u))) * (e * e * (e * e)))
@@ -78,7 +71,7 @@ module _ (L e d u C n S F W K G A B T R Q P : ℕ) (E : 0 < e) where
     pub not-above : 0 < R → 0 < L * (e * (d * d * d * d * d * d)) → C * (u * u * u * u * u * u * u) ≤ L * (e * (d * d * d * d * d * d)) → n * L ≤ P
     not-above r k num =
         le_of_mul-le-mul_right {k = R}
-        (square_le (n * L * R) (P * R) (le_of_mul-le-mul_right {k = L * (e * (d * d * d * d * d * d))} (le_trans low-squares (mul-le-mul_left (P * R * (P * R)) num)) k))
+        (square-back (n * L * R) (P * R) (le_of_mul-le-mul_right {k = L * (e * (d * d * d * d * d * d))} (le_trans low-squares (mul-le-mul_left (P * R * (P * R)) num)) k))
         r
 
   -- ---- P is below n, if G is at most B

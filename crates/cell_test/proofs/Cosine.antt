@@ -2,21 +2,22 @@
 use mathlib.Core.Path.{◌≡◌, refl, sym, subst}
 use mathlib.Core.Bool.{Bool, true, false, not, ◌||◌}
 use Prim.Native.Nat.{ℕ, ◌+◌, ◌-◌, ◌*◌, ◌≤◌}
-use native.Mathlib.Nat.{le_trans, le_of_eq}
+use native.Mathlib.Nat.{le_trans, le_of_eq, le_refl, le-add_right, add-le-add}
 use native.Mathlib.Omega.{arith}
-use lib.Dec.{T}
+use lib.Dec.{T, not_T}
 use lib.Ieee.{Float, nan, inf, fin, binary32, up, down, neg, add, sub, mul, lt, le, is_nan, of_bits, fits, size}
 use lib.Ieee.Bits.{is_true, is_false, of_bits-fits}
 use lib.Ieee.Fits.{sub-fits, mul-fits}
 use lib.Ieee.Scale.{overflow, finite}
+use Rattle.std.proofs.lemmas.Bool.{or_right}
 use Rattle.scalar.specs.F32.{◌-f◌, ◌*f◌, ◌≤f◌}
 use Rattle.scalar.specs.Literals.{f0_000001, f1}
 use Rattle.scalar.specs.Scalar.{or_second, max_of}
 use Rattle.order.specs.Units.{real, sgn, mag, key, total}
 use Rattle.order.proofs.Keys.{mag-le}
 use Rattle.order.proofs.Sums.{round-as, total_mono, sub-key}
-use Rattle.order.proofs.Tests.{keys→le, le-real}
-use Rattle.order.proofs.Chains.{lt_not_le, not-le-lt}
+use Rattle.order.proofs.Tests.{keys→le, le-real, not-le-lt}
+use Rattle.std.proofs.lemmas.Float.{lt_irrefl, lt_of_lt_of_le}
 use Rattle.cell_test.specs.Cell.{sqcos_of}
 
 -- ---- a square has no sign
@@ -57,13 +58,7 @@ from_one (fin false m d) e f r =
     keys→le binary32 (sub binary32 f1 y) f1 (sub-fits binary32 f1 y) one-fits r one-real
     (le_trans (le_of_eq (sub-key binary32 f1 y one-fits f one-finite tt))
     (le_trans (total_mono binary32 (key binary32 f1 + (overflow binary32 + overflow binary32 - key binary32 y)) (key binary32 f1 + overflow binary32)
-    (less-nothing (key binary32 f1) (key binary32 y) (overflow binary32) (no_less (overflow binary32) (mag binary32 y)) (no_more (overflow binary32) (mag binary32 y) (mag-le binary32 y f)))) (le_of_eq one_kept)))
-  where
-    no_less : (C u : ℕ) → C ≤ C + u
-    no_less C u = omega arith
-
-    no_more : (C u : ℕ) → u ≤ C → C + u ≤ C + C
-    no_more C u h = omega arith
+    (less-nothing (key binary32 f1) (key binary32 y) (overflow binary32) (le-add_right (overflow binary32) (mag binary32 y)) (add-le-add (le_refl (overflow binary32)) (mag-le binary32 y f)))) (le_of_eq one_kept)))
 
 -- ---- the maximum with a millionth, by one test
 small-fits : T (fits binary32 f0_000001)
@@ -81,16 +76,8 @@ second d f h = go d refl
 
     go : (z : Float) → d ≡ z → (is_nan d || lt d f0_000001) ≡ true
     go nan e = rw e (unfold is_nan in refl)
-    go (inf s) e = later (is_nan d) (less (subst (λ (z : Float). T (real z)) (sym e) tt))
-      where
-        later : (b : Bool) → lt d f0_000001 ≡ true → (b || lt d f0_000001) ≡ true
-        later true t = refl
-        later false t = t
-    go (fin s m x) e = later (is_nan d) (less (subst (λ (z : Float). T (real z)) (sym e) tt))
-      where
-        later : (b : Bool) → lt d f0_000001 ≡ true → (b || lt d f0_000001) ≡ true
-        later true t = refl
-        later false t = t
+    go (inf s) e = or_right (is_nan d) (lt d f0_000001) (less (subst (λ (z : Float). T (real z)) (sym e) tt))
+    go (fin s m x) e = or_right (is_nan d) (lt d f0_000001) (less (subst (λ (z : Float). T (real z)) (sym e) tt))
 
 first : (d : Float) → T (fits binary32 d) → le f0_000001 d ≡ true → (is_nan d || lt d f0_000001) ≡ false
 first d f h = go d refl (le-real f0_000001 d t).1
@@ -99,16 +86,20 @@ first d f h = go d refl (le-real f0_000001 d t).1
     t = subst T (sym h) tt
 
     less : lt d f0_000001 ≡ false
-    less = is_false (lt d f0_000001) (refuted (lt d f0_000001) (λ l. lt_not_le binary32 d f0_000001 f small-fits l t))
-      where
-        refuted : (b : Bool) → (T b → ⊥) → T (not b)
-        refuted true k = absurd (k tt)
-        refuted false k = tt
+    less = is_false (lt d f0_000001) (not_T (lt d f0_000001) (λ l. lt_irrefl d (lt_of_lt_of_le d f0_000001 d l t)))
 
     go : (z : Float) → d ≡ z → T (real d) → (is_nan d || lt d f0_000001) ≡ false
     go nan e r = absurd (subst (λ (z : Float). T (real z)) e r)
     go (inf s) e r = rw (e) (unfold is_nan in subst (λ (z : Float). lt z f0_000001 ≡ false) e less)
     go (fin s m x) e r = rw (e) (unfold is_nan in subst (λ (z : Float). lt z f0_000001 ≡ false) e less)
+
+pub above : (d : Float) → T (fits binary32 d) → (f0_000001 ≤f d) ≡ true → d ≡ max_of d f0_000001
+unfolding max_of or_second
+above d f h = rw (first d f h) refl
+
+pub below : (d : Float) → T (fits binary32 d) → (f0_000001 ≤f d) ≡ false → f0_000001 ≡ max_of d f0_000001
+unfolding max_of or_second
+below d f h = rw (second d f h) refl
 
 abbrev pub Cosine : Float → Float → Type 0
 Cosine sphe r = (r ≡ sqcos_of sphe) × T (f0_000001 ≤f r) × T (r ≤f f1)

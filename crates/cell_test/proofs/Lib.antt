@@ -4,5 +4,5 @@ mod Chain
 mod Steps
 mod Zero
 pub mod Test
-mod Cosine
+pub mod Cosine
 mod Numbers

@@ -18,7 +18,7 @@ use lib.Ieee.Positive.{positive, between, value_pos, positive_of_value}
 use Rattle.rounding.specs.TiesToEven.{limit}
 use Rattle.rounding.proofs.Units.{on-grid}
 use Rattle.scalar.specs.F32.{◌*f◌, ◌/f◌, ◌≤f◌}
-use Rattle.order.proofs.Keys.{or_split}
+use mir.Facts.{or_yes}
 use Rattle.scalar.specs.Literals.{f0, f0_000001, f1, f1000}
 use Rattle.scalar.specs.Root.{sqrt_of}
 use Rattle.scalar.specs.Scalar.{trunc_of}
@@ -246,7 +246,7 @@ unfolding tame
 tame-size fvv f t =
     let a = of_bits binary32 0x3a800000 in
     let b = of_bits binary32 0x44800000 in
-    elim (or_split (eq fvv f0) (le a fvv && le fvv b) t) [
+    elim (or_yes (eq fvv f0) (le a fvv && le fvv b) t) [
       | inl z ↦ inl (eq-zero fvv f z)
       | inr k ↦ inr (sized a fvv b (2 ^ 139) (2 ^ 159) f least-mhz most-mhz (pow_pos 139) (pow_pos 159) (and_l (le a fvv) (le fvv b) k) (and_r (le a fvv) (le fvv b) k))
     ]

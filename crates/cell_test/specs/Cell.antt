@@ -1,6 +1,6 @@
 -- A cell of the reflectrix from the row's frequency and the square of the cosine at the layer, and the bounds of the test that a guess at it has to pass. Definitions only.
 -- A number n is the cell where n * n * sqcos is at most the lower bound and (n + 1) * (n + 1) * sqcos at least the upper one, each product rounded; Laws.antt says so.
-use Rattle.std.specs.Prelude.{◌≡◌, Bool, ◌&&◌, ◌||◌, cond, ℕ, ◌^◌, ◌<◌, ℤ, pos, Float}
+use Rattle.std.specs.Prelude.{◌≡◌, Bool, ◌&&◌, ◌||◌, cond, ℕ, ◌^◌, ◌<◌, ℤ, pos, T, Float}
 use Rattle.std.specs.Float.{nan, binary32}
 use Rattle.std.specs.Float.Ieee.{of_bits}
 use Rattle.scalar.specs.F32.{◌-f◌, ◌*f◌, ◌/f◌, ◌≤f◌, ◌==f◌}
@@ -41,6 +41,14 @@ high_of fvv = khz_square_of fvv *f over_one
 -- from this number on an answer says that the cell is in doubt
 abbrev pub in_doubt : ℕ
 in_doubt = 2 ^ 31
+
+-- what a guess n is tested with: the row's frequency, the square of the cosine, cut, and the two bounds
+pub record Tested (n : ℕ) (fvv sqcos low high : Float) : Type 0 where
+  pub guessed : n < 2 ^ 22
+  pub least : T (f0_000001 ≤f sqcos)
+  pub most : T (sqcos ≤f f1)
+  pub lower : low ≡ low_of fvv
+  pub upper : high ≡ high_of fvv
 
 -- What is answered for a cell: a number below that one, and then it is the cell, or one from there on, which says nothing.
 pub record Told (fvv sqcos : Float) (r : ℕ) : Type 0 where

@@ -2,21 +2,36 @@
 // says whether it is the cell.
 #![tactic(auto)]
 
-ghost use Rattle.std.specs.Prelude.{◌≡◌, ◌^◌, ◌≤◌, ◌<◌, T};
+ghost use Rattle.std.specs.Prelude.{◌≡◌, ◌^◌, ◌<◌, T};
 ghost use Rattle.order.specs.Units.{real};
-ghost use Rattle.scalar.specs.F32.{◌≤f◌};
+ghost use Rattle.scalar.specs.F32.{◌-f◌, ◌*f◌, ◌≤f◌};
 ghost use Rattle.scalar.specs.Literals.{f0_000001, f1};
-ghost use Rattle.cell_test.specs.Cell.{khz_of, sqcos_of, tame, low_of, high_of, in_doubt, Told};
+ghost use Rattle.scalar.specs.Scalar.{max_of};
+ghost use Rattle.cell_test.specs.Cell.{khz_of, sqcos_of, tame, low_of, high_of, Tested, Told};
+
+// The square of the cosine before it is cut.
+pub fn uncut(sphe: f32) -> f32
+    ensures { result ≡ f1 -f sphe *f sphe }
+{
+    1.0 - sphe * sphe
+}
+
+// Cut at a millionth. Stays: one test where `scalar::max` has two, by which a scan takes 1.04 of the time.
+pub fn cut(square: f32) -> f32
+    ensures { result ≡ max_of square f0_000001 }
+{
+    if square >= 0.000001 { square } else { 0.000001 }
+}
 
 // The square of the cosine at the layer, from the sine there.
 pub fn squared_cosine(sphe: f32) -> f32
     ensures { (result ≡ sqcos_of sphe) × T (f0_000001 ≤f result) × T (result ≤f f1) }
 {
-    scalar::max(1.0 - sphe * sphe, 0.000001)
+    cut(uncut(sphe))
 }
 
 // The cell itself, with a root and a division.
-// Stays: a row's frequency and the square of an angle's cosine, here and below, meet in one cell and are no pair that is kept.
+// Stays: a row's fvv and an angle's sqcos, here and below, meet in one cell and are no pair that is kept.
 pub fn khz(fvv: f32, sqcos: f32) -> i32
     ensures { result ≡ khz_of fvv sqcos }
 {
@@ -60,46 +75,29 @@ fn from_zero(v: f32) -> f32
 }
 
 // The nearest whole number, as the last 22 digits of a sum's pattern.
-fn digits(v: f32) -> u32
+pub fn digits(v: f32) -> u32
     ensures { result < 2 ^ 22 }
 {
     f32::to_bits(from_zero(v) + 12582912.0) % 0x40_0000
 }
 
-// A guess at the cell: the whole part of its kHz, with the root as the machine takes it. No proof rests on that: the test refuses a
-// wrong guess.
-fn guess(sqcos: f32, fvv: f32) -> u32
-    ensures { result < 2 ^ 22 }
-{
-    digits(1000.0 * (fvv / sqcos.sqrt()) - 0.5)
-}
-
 // From this number on an answer says that the cell is in doubt.
-// Stays: the doubt is a bit of the guess's own word, added to it with no branch; an Option for each of the thirty-two places of a row
+// Stays: the doubt is a number that no cell has, in the guess's own word; an Option for each of the thirty-two places of a row
 // would take twice the room and a test at each.
 pub const IN_DOUBT: u32 = 0x8000_0000;
 
-// 0 where the test is passed, else `IN_DOUBT`.
-fn doubt(under: f32, low: f32, high: f32, over: f32) -> u32
-    ensures { (result ≤ in_doubt) × (result < in_doubt → (result ≡ 0) × T (under ≤f low) × T (high ≤f over)) }
+// The number n where it passes the test, which says that it is the cell, else `IN_DOUBT`. Both products are
+// tested, with no branch. Nothing is asked: a caller has the five by place, and says of each place what they
+// are. Of a guess no digit is cut.
+pub fn tested(n: u32, fvv: f32, sqcos: f32, low: f32, high: f32) -> u32
+    ensures { Tested n fvv sqcos low high → Told fvv sqcos result }
 {
-    if under <= low {
-        if high <= over {
-            return 0;
-        }
+    let x = (n % 0x40_0000) as f32;
+    let m = (n % 0x40_0000 + 1) as f32;
+    let kept = if x * x * sqcos <= low { n } else { IN_DOUBT };
+    if high <= m * m * sqcos {
+        kept
+    } else {
+        IN_DOUBT
     }
-    IN_DOUBT
-}
-
-// The cell of a row's frequency where a guess at it passes the test, else a number from `IN_DOUBT` on.
-pub fn cell(fvv: f32, sqcos: f32, low: f32, high: f32) -> u32
-    requires { T (f0_000001 ≤f sqcos) × T (sqcos ≤f f1) × (low ≡ low_of fvv) × (high ≡ high_of fvv) }
-    ensures { Told fvv sqcos result }
-{
-    let n = guess(sqcos, fvv);
-    let x = n as f32;
-    let m = (n + 1) as f32;
-    let under = x * x * sqcos;
-    let over = m * m * sqcos;
-    n + doubt(under, low, high, over)
 }

@@ -1,5 +1,5 @@
 -- Along an accepted chain no step is astray, so each next index is below the count of the shorter file, and below that of the longer one.
-use mathlib.Core.Bool.{Bool, true, false, ◌&&◌, not, true≢false}
+use mathlib.Core.Bool.{Bool, true, false, cond, ◌&&◌, not, true≢false}
 use mathlib.Core.List.{List, [], ◌∷◌, ◌++◌}
 use mathlib.Core.Path.{◌≡◌, refl, sym, ap, ◌∙◌, subst}
 use Prim.Native.Nat.{ℕ, zero, suc, ◌+◌, ◌*◌, ◌/◌, ◌%◌, ◌<◌, ◌≤◌}
@@ -14,7 +14,7 @@ use Rattle.std.specs.Prelude.{Option, Some, Result, Ok, Err, IsOk}
 use Rattle.records.specs.declared.Form.{Form}
 use Rattle.records.specs.Record.{Fit, record_at, next_of}
 use Rattle.record_chain.specs.declared.Chain.{Chain}
-use Rattle.record_chain.specs.Chain.{length_good, head_good, record_count, km_of, member, step_by, step_of, pick_chain, ended, answered_chain, by_step, sound_by, walk, chain_of}
+use Rattle.record_chain.specs.Chain.{length_good, head_good, record_count, km_of, member, step_by, step_of, ended, answered_chain, by_step, sound_by, walk, chain_of}
 use Rattle.circuit_laws.specs.OnChain.{OnChain}
 use Rattle.circuit_laws.specs.OnChain.OnChain.{first, after}
 use Rattle.circuit_laws.proofs.Off.{by-same, reached, read-so, beside-so}
@@ -38,7 +38,7 @@ went s e on h = (
   λ n t. subst (λ (x : Result (Option ℕ) Refusal). IsOk (by_step x e on)) t h,
 )
 
-pick-so : (b : Bool) (x y r : Result Chain Refusal) → (IsOk x → x ≡ y) → IsOk (pick_chain b x r) → pick_chain b x r ≡ pick_chain b y r
+pick-so : (b : Bool) (x y r : Result Chain Refusal) → (IsOk x → x ≡ y) → IsOk (cond b x r) → cond b x r ≡ cond b y r
 pick-so true x y r h e = h e
 pick-so false x y r h e = refl
 
@@ -58,18 +58,18 @@ module _ (o : Form) (f g : List ℕ) (more : record_count o f ≤ record_count o
       let x = went (step_of o f order at) (ended zero (answered_chain order)) (λ n. Err Refusal.ChainRecord) h in
       by-same (step_of o f order at) (step_of o g order at) _ _ _ (next-step order at on x.0) (λ n e. refl)
   next-walk (suc left) order at on h =
-      let turn : List ℕ → ℕ → Result Chain Refusal = λ k n. pick_chain (sound_by o (leb 48 left) (record_at o k n)) (walk o k left (order ++ (n ∷ [])) n) (Err Refusal.ChainRecord) in
+      let turn : List ℕ → ℕ → Result Chain Refusal = λ k n. cond (sound_by o (leb 48 left) (record_at o k n)) (walk o k left (order ++ (n ∷ [])) n) (Err Refusal.ChainRecord) in
       let x = went (step_of o f order at) (ended (suc left) (answered_chain order)) (turn f) h in
       by-same (step_of o f order at) (step_of o g order at) _ (turn f) (turn g) (next-step order at on x.0)
       (λ n e.
       let r = reached o f g same order at n on e in
       pick-so (sound_by o (leb 48 left) (record_at o f n)) (walk o f left (order ++ (n ∷ [])) n) (walk o g left (order ++ (n ∷ [])) n) (Err Refusal.ChainRecord) (next-walk left (order ++ (n ∷ [])) n r) (x.1 n e)
-      ∙ ap (λ (b : List ℕ). pick_chain (sound_by o (leb 48 left) b) (walk o g left (order ++ (n ∷ [])) n) (Err Refusal.ChainRecord)) (same n r))
+      ∙ ap (λ (b : List ℕ). cond (sound_by o (leb 48 left) b) (walk o g left (order ++ (n ∷ [])) n) (Err Refusal.ChainRecord)) (same n r))
 
   headed : List ℕ → Result Chain Refusal
-  headed k = pick_chain (head_good o (record_at o f 0)) (walk o k (km_of (record_at o f 0) + 48) (0 ∷ []) 0) (Err Refusal.RecordZero)
+  headed k = cond (head_good o (record_at o f 0)) (walk o k (km_of (record_at o f 0) + 48) (0 ∷ []) 0) (Err Refusal.RecordZero)
 
-  next-chain-by : (b : Bool) → IsOk (pick_chain b (headed f) (Err Refusal.Length)) → pick_chain b (headed f) (Err Refusal.Length) ≡ headed g
+  next-chain-by : (b : Bool) → IsOk (cond b (headed f) (Err Refusal.Length)) → cond b (headed f) (Err Refusal.Length) ≡ headed g
   unfolding headed
   next-chain-by true e = pick-so (head_good o (record_at o f 0)) (walk o f (km_of (record_at o f 0) + 48) (0 ∷ []) 0) (walk o g (km_of (record_at o f 0) + 48) (0 ∷ []) 0) (Err Refusal.RecordZero) (next-walk (km_of (record_at o f 0) + 48) (0 ∷ []) 0 first) e
   next-chain-by false e = absurd (never Refusal.Length e)
@@ -78,8 +78,8 @@ module _ (o : Form) (f g : List ℕ) (more : record_count o f ≤ record_count o
   unfolding chain_of headed
   next-chain e good =
       next-chain-by (length_good o f) e
-      ∙ ap (λ (r : List ℕ). pick_chain (head_good o r) (walk o g (km_of r + 48) (0 ∷ []) 0) (Err Refusal.RecordZero)) (same 0 first)
-      ∙ ap (λ (b : Bool). pick_chain b (pick_chain (head_good o (record_at o g 0)) (walk o g (km_of (record_at o g 0) + 48) (0 ∷ []) 0) (Err Refusal.RecordZero)) (Err Refusal.Length)) (sym good)
+      ∙ ap (λ (r : List ℕ). cond (head_good o r) (walk o g (km_of r + 48) (0 ∷ []) 0) (Err Refusal.RecordZero)) (same 0 first)
+      ∙ ap (λ (b : Bool). cond b (cond (head_good o (record_at o g 0)) (walk o g (km_of (record_at o g 0) + 48) (0 ∷ []) 0) (Err Refusal.RecordZero)) (Err Refusal.Length)) (sym good)
 
 pub longer-file : LongerFile
 longer-file o f g e good more same =
@@ -105,7 +105,7 @@ long-enough : (o : Form) (f : List ℕ) → IsOk (chain_of o f) → 2 * o.size �
 unfolding chain_of
 long-enough o f e = by (length_good o f) refl e
   where
-    by : (b : Bool) → length_good o f ≡ b → IsOk (pick_chain b (pick_chain (head_good o (record_at o f 0)) (walk o f (km_of (record_at o f 0) + 48) (0 ∷ []) 0) (Err Refusal.RecordZero)) (Err Refusal.Length)) → 2 * o.size ≤ length f
+    by : (b : Bool) → length_good o f ≡ b → IsOk (cond b (cond (head_good o (record_at o f 0)) (walk o f (km_of (record_at o f 0) + 48) (0 ∷ []) 0) (Err Refusal.RecordZero)) (Err Refusal.Length)) → 2 * o.size ≤ length f
     by true g e = leb-true (2 * o.size) (length f) (and_parts (leb (2 * o.size) (length f)) (leb (length f) (64 * o.size)) (and_parts (eqb (length f % o.size) 0) (leb (2 * o.size) (length f) && leb (length f) (64 * o.size)) g).1).0
     by false g e = absurd (never Refusal.Length e)
 

@@ -12,7 +12,9 @@ use Rattle.record_chain.specs.declared.Chain.{Chain}
 use Rattle.record_chain.specs.Chain.{order_in, chain_of}
 use Rattle.circuit_laws.specs.OnChain.{OnChain}
 use Rattle.circuit_laws.specs.OnChain.OnChain.{first}
-use Rattle.circuit_laws.proofs.Off.{All, all-at, reached-all, same-chain}
+use Rattle.std.specs.List.{All}
+use Rattle.record_chain.proofs.Followed.{all-at}
+use Rattle.circuit_laws.proofs.Off.{reached-all, same-chain}
 use Rattle.chain_text.specs.ChainText.{step_line, step_line_at, end_line, followed_text, chain_text_by, chain_text}
 use Rattle.chain_laws.specs.Laws.{AlikeOnChain, PrintedAlike, PrintedAppended}
 use Rattle.chain_laws.proofs.Longer.{alike-appended, records-appended}

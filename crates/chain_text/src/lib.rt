@@ -42,6 +42,7 @@ fn put_chain<const N: usize>(page: &mut Page<N>, file: &[u8], chain: &Chain)
 // The bytes of a page: the text of 64 steps has room.
 pub const ROOM: usize = 4096;
 
+// Stays: a page of either case, as in crate circuit_turn, where the one function for them is written down.
 pub fn chain_text(file: &[u8]) -> Page<ROOM>
     ensures { result ≡ chain_text file.now }
 {

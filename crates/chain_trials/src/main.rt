@@ -3,9 +3,7 @@
 // Stays: a trial's `name` and its `file` are two texts, each of its own length.
 #![tactic(auto)]
 
-use trial_files::{
-    Form, first, first_bytes, permuted, points, record, smallest, steps, with_deciles,
-};
+use trial_files::{File, Form, first_bytes, permuted, points, steps};
 
 // The text of a file, after its name.
 fn print(name: &[u8], file: &[u8]) {
@@ -14,7 +12,7 @@ fn print(name: &[u8], file: &[u8]) {
 }
 
 fn lengths() {
-    let f = smallest(Form::Old);
+    let f = File::smallest(Form::Old);
     print(b"64 bytes\n", &f.bytes[..64]);
     print(b"127 bytes\n", &f.bytes[..127]);
     print(b"128 bytes\n", &f.bytes[..128]);
@@ -25,61 +23,55 @@ fn lengths() {
 }
 
 fn first_record() {
-    let mut kind = smallest(Form::Old);
+    let mut kind = File::smallest(Form::Old);
     kind.bytes[0] = 4;
-    print(b"kind 4\n", first(&kind, 2));
+    print(b"kind 4\n", kind.first(2));
     first_bytes(Form::Old, print);
 }
 
 fn records() {
     points(Form::Old, print);
-    let mut padded = with_deciles(Form::Old, 48);
+    let mut padded = File::with_deciles(Form::Old, 48);
     padded.bytes[64 * 2 + 52] = 1;
-    print(b"byte 52 of a decile record\n", first(&padded, 50));
+    print(b"byte 52 of a decile record\n", padded.first(50));
 }
 
 fn chains() {
-    let mut aside = smallest(Form::Old);
+    let mut aside = File::smallest(Form::Old);
     aside.bytes[128] = 9;
     aside.bytes[190] = 7;
-    print(b"a record off the chain\n", first(&aside, 3));
+    print(b"a record off the chain\n", aside.first(3));
     permuted(Form::Old, print);
-    let few = with_deciles(Form::Old, 47);
-    print(b"47 decile records\n", first(&few, 49));
-    let all = with_deciles(Form::Old, 48);
-    print(b"48 decile records\n", first(&all, 50));
-    let more = with_deciles(Form::Old, 49);
-    print(b"49 decile records\n", first(&more, 51));
+    let few = File::with_deciles(Form::Old, 47);
+    print(b"47 decile records\n", few.first(49));
+    let all = File::with_deciles(Form::Old, 48);
+    print(b"48 decile records\n", all.first(50));
+    let more = File::with_deciles(Form::Old, 49);
+    print(b"49 decile records\n", more.first(51));
 }
 
 // Where a step and the record that it starts from, or the length of the chain, are wrong at once: a step is looked at before
 // what it leads to, a record before its own step.
 fn collisions() {
-    let mut short = record(smallest(Form::Old), 1, 2, 2);
+    let mut short = File::smallest(Form::Old).record(1, 2, 2);
     short.bytes[4] = 2;
     print(
         b"a point too few, and past the last record\n",
-        first(&short, 2),
+        short.first(2),
     );
-    let kind = record(smallest(Form::Old), 1, 3, 9);
-    print(
-        b"no point, and then past the last record\n",
-        first(&kind, 2),
-    );
-    let past = record(with_deciles(Form::Old, 48), 49, 3, 60);
+    let kind = File::smallest(Form::Old).record(1, 3, 9);
+    print(b"no point, and then past the last record\n", kind.first(2));
+    let past = File::with_deciles(Form::Old, 48).record(49, 3, 60);
     print(
         b"after 48 decile records past the last record\n",
-        first(&past, 50),
+        past.first(50),
     );
-    let again = record(with_deciles(Form::Old, 48), 49, 3, 2);
-    print(
-        b"after 48 decile records one met again\n",
-        first(&again, 50),
-    );
-    let back = record(with_deciles(Form::Old, 48), 5, 2, 1);
+    let again = File::with_deciles(Form::Old, 48).record(49, 3, 2);
+    print(b"after 48 decile records one met again\n", again.first(50));
+    let back = File::with_deciles(Form::Old, 48).record(5, 2, 1);
     print(
         b"a decile record of kind 2 that leads back\n",
-        first(&back, 50),
+        back.first(50),
     );
 }
 

@@ -56,7 +56,8 @@ pub fn has_deciles(c: Circuit) -> bool
 }
 
 // Word j of point i, as the number whose bits it is.
-// Stays: i and j are the definition's two numbers; a record of them, made for one call, is no plainer.
+// Stays: i and j are the definition's two numbers; a record of them, made for one call, is no plainer. That i is below 5 and j below 15
+// is asked, since `circuit_numbers` names them as literals or makes them of the index of `from_fn`.
 pub fn point_number(points: &[u32; 75], i: usize, j: usize) -> f32
     requires { (i < 5) × (j < 15) }
     ensures { result ≡ point_number points.now i j }

@@ -12,7 +12,9 @@ use Rattle.records.specs.Record.{record_at}
 use Rattle.record_chain.specs.Chain.{length_good, head_good, km_of, step_of, by_step, walk, chain_of, order_in}
 use Rattle.circuit.specs.Read.{numbers_of, circuit_of, read_by, read_of, beside_by, beside_of}
 use Rattle.record_chain.proofs.Steps.{step-to, step-next}
-use Rattle.record_chain.proofs.Followed.{walk-ind, by-pick}
+use Rattle.record_chain.proofs.Followed.{walk-ind, by-pick, all-at}
+use Rattle.std.specs.List.{All}
+use Rattle.std.proofs.lemmas.List.Elements.{All-replicate, All-append, All-push}
 use Rattle.circuit_laws.specs.Laws.{OffChain}
 use Rattle.circuit_laws.specs.OnChain.{OnChain}
 use Rattle.circuit_laws.specs.OnChain.OnChain.{first, after}
@@ -26,23 +28,6 @@ by-same s t e on on' p h = by_one s h ∙ ap (λ (x : Result (Option ℕ) Refusa
     by_one (Ok (Some n)) h = h n refl
     by_one (Err r) h = refl
 
-abbrev pub All : (ℕ → Type 0) → List ℕ → Type 0
-All P [] = Unit
-All P (x ∷ xs) = P x × All P xs
-
-all_append : (P : ℕ → Type 0) (a b : List ℕ) → All P a → All P b → All P (a ++ b)
-all_append P [] b p q = q
-all_append P (x ∷ a) b p q = (p.0, all_append P a b p.1 q)
-
-all-zeros : (P : ℕ → Type 0) (k : ℕ) → P 0 → All P (replicate k 0)
-all-zeros P zero z = tt
-all-zeros P (suc k) z = (z, all-zeros P k z)
-
-pub all-at : (P : ℕ → Type 0) (l : List ℕ) → P 0 → All P l → (i : ℕ) → P (get_or l i 0)
-all-at P [] z p i = z
-all-at P (x ∷ l) z p zero = p.0
-all-at P (x ∷ l) z p (suc i) = all-at P l z p.1 i
-
 -- what follows of files that agree on the first one's chain, whatever their lengths
 module _ (o : Form) (f g : List ℕ) (same : (n : ℕ) → OnChain o f n → record_at o f n ≡ record_at o g n) where
   pub reached : (order : List ℕ) (at n : ℕ) → OnChain o f at → step_of o f order at ≡ Ok (Some n) → OnChain o f n
@@ -53,7 +38,7 @@ module _ (o : Form) (f g : List ℕ) (same : (n : ℕ) → OnChain o f n → rec
   unfolding chain_of
   reached-all =
       let Q : Result Chain Refusal → Type 0 = λ c. All (OnChain o f) (order_in c) in
-      let z = all-zeros (OnChain o f) 64 first in
+      let z = All-replicate (OnChain o f) 64 0 first in
       by-pick Q (length_good o f) _ _
       (λ e.
       by-pick Q (head_good o (record_at o f 0)) _ _
@@ -61,9 +46,9 @@ module _ (o : Form) (f g : List ℕ) (same : (n : ℕ) → OnChain o f n → rec
       walk-ind o f (λ k l a. All (OnChain o f) l × OnChain o f a) Q
       (λ k l a n p e t.
       let r = reached l a n p.1 e in
-      (all_append (OnChain o f) l (n ∷ []) p.0 (r, tt), r))
-      (λ k l a p e t. all_append (OnChain o f) l (replicate (64 - length l) 0) p.0 (all-zeros (OnChain o f) (64 - length l) first))
-      (λ r. z) (km_of (record_at o f 0) + 48) (0 ∷ []) 0 ((first, tt), first))
+      (All-push (OnChain o f) l n p.0 r, r))
+      (λ k l a p e t. All-append (OnChain o f) l (replicate (64 - length l) 0) p.0 (All-replicate (OnChain o f) (64 - length l) 0 first))
+      (λ r. z) (km_of (record_at o f 0) + 48) (0 ∷ []) 0 (All-replicate (OnChain o f) 1 0 first, first))
       z)
       z
 

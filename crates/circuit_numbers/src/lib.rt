@@ -1,6 +1,4 @@
 // The numbers that the words of a circuit stand for.
-// Stays: in `three_at`, `params` and `column` the calls written out. An array's `map` over the numbers was tried in `params`: it
-// asks that a point's number is below five at each of its calls, and the closure would have to carry what each number is asked to be.
 #![tactic(auto)]
 
 ghost use Rattle.std.specs.Prelude.{◌≡◌, ◌+◌, ◌<◌};
@@ -12,11 +10,7 @@ fn three_at(words: &[u32; 75], i: usize, j: usize) -> [f32; 3]
     requires { (i < 5) × (j + 2 < 15) }
     ensures { result ≡ three_at words.now i j }
 {
-    [
-        circuit::point_number(words, i, j),
-        circuit::point_number(words, i, j + 1),
-        circuit::point_number(words, i, j + 2),
-    ]
+    std::array::from_fn(|n| circuit::point_number(words, i, j + n))
 }
 
 fn layers_at(words: &[u32; 75], i: usize) -> LayerParams
@@ -33,24 +27,14 @@ fn layers_at(words: &[u32; 75], i: usize) -> LayerParams
 pub fn params(words: &[u32; 75]) -> [LayerParams; 5]
     ensures { result ≡ params_of words.now }
 {
-    [
-        layers_at(words, 0),
-        layers_at(words, 1),
-        layers_at(words, 2),
-        layers_at(words, 3),
-        layers_at(words, 4),
-    ]
+    std::array::from_fn(|i| layers_at(words, i))
 }
 
 // Of each point Es fs and hs.
 pub fn es_rows(words: &[u32; 75]) -> [f32; 20]
     ensures { result ≡ es_of words.now }
 {
-    let mut es = [0.0; 20];
-    for (n, e) in es.iter_mut().enumerate() {
-        *e = circuit::point_number(words, n / 4, 9 + n % 4);
-    }
-    es
+    std::array::from_fn(|n| circuit::point_number(words, n / 4, 9 + n % 4))
 }
 
 // Word j of each point.
@@ -58,13 +42,7 @@ pub fn column(words: &[u32; 75], j: usize) -> [f32; 5]
     requires { j < 15 }
     ensures { result ≡ column_of words.now j }
 {
-    [
-        circuit::point_number(words, 0, j),
-        circuit::point_number(words, 1, j),
-        circuit::point_number(words, 2, j),
-        circuit::point_number(words, 3, j),
-        circuit::point_number(words, 4, j),
-    ]
+    std::array::from_fn(|i| circuit::point_number(words, i, j))
 }
 
 pub fn shaped(s: IonoState, shape: usize) -> IonoState

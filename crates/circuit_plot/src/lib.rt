@@ -33,15 +33,10 @@ fn profile_at(s: IonoState, k: usize) -> Profile
     Profile { htr, fnsq }
 }
 
-// Stays: the calls written out. An array's `map` over the numbers asks at each of its calls that the slot's is below three, and the
-// closure would have to carry what each number is asked to be.
 fn profiles(s: IonoState) -> [Profile; 3]
     ensures { result ≡ profiles_of s }
 {
-    let p0 = profile_at(s, 0);
-    let p1 = profile_at(s, 1);
-    let p2 = profile_at(s, 2);
-    [p0, p1, p2]
+    std::array::from_fn(|k| profile_at(s, k))
 }
 
 // What is drawn of a file, or where it is turned away.

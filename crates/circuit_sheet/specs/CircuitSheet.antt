@@ -48,6 +48,10 @@ muf_of c s =
 abbrev pub no_slot : SlotRows
 no_slot = record { ion = no_rows; marks = unmarked }
 
+-- past the end of a sheet's rows, where no code reads
+abbrev pub no_slot_rows : SlotRows
+no_slot_rows = record { ion = record { fvert = []; hprim = []; htrue = []; afac = []; segment = [] }; marks = [] }
+
 -- The rows and marks of a slot below kfx; each sheet has its own cells, thirty for each of 40 angles, so that none is refused.
 abbrev pub rows_in : Result SlotSheet Refusal → SlotRows
 rows_in (Ok a) = record { ion = a.ion; marks = a.marks }

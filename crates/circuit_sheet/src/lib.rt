@@ -84,17 +84,11 @@ fn slot_rows(s: IonoState, k: usize, nang: usize, lines: [LayerMuf; 4]) -> SlotR
     no_slot()
 }
 
-// Stays: the calls written out. `map` over the three numbers was tried, and the goal did not close: the lemma on a `map` is of closures
-// that hold nothing, and this one holds s, nang and lines.
 fn answered(s: IonoState, nang: usize, hour: MufHour) -> Sheet
     ensures { result ≡ answered_of s nang hour }
 {
     let lines = hour.layers;
-    let rows = [
-        slot_rows(s, 0, nang, lines),
-        slot_rows(s, 1, nang, lines),
-        slot_rows(s, 2, nang, lines),
-    ];
+    let rows = std::array::from_fn(|k| slot_rows(s, k, nang, lines));
     Sheet {
         hour,
         slots: s.kfx,

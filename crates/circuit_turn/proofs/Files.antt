@@ -3,7 +3,7 @@
 use Prim.Native.Nat.{ℕ, ◌*◌, ◌≤◌}
 use mathlib.Core.Path.{◌≡◌, refl}
 use mathlib.Core.List.{List, ◌++◌}
-use mathlib.Core.Bool.{Bool, true, false, ◌&&◌}
+use mathlib.Core.Bool.{true, ◌&&◌}
 use native.Mathlib.Omega.{arith}
 use native.Mathlib.Nat.{mul-le-mul_left}
 use lib.ListN.{length, take, drop, length-append}
@@ -15,21 +15,14 @@ use Rattle.std.specs.Result.{result_unwrap_or}
 use Rattle.refusal.specs.declared.Refusal.{Refusal}
 use Rattle.circuit.specs.declared.Circuit.{Circuit}
 use Rattle.records.specs.declared.Form.{Form}
-use Rattle.records.specs.Record.{Fit, all_zero}
+use Rattle.records.specs.Record.{Fit}
 use Rattle.circuit.specs.Read.{read_of, circuit_of, circuit_in}
 use Rattle.std.proofs.lemmas.Bool.{and_parts}
 use Rattle.record_chain.proofs.Followed.{followed}
 use Rattle.circuit.proofs.Answers.{read-answered}
-use Rattle.circuit_write.specs.Written.{decile_records, records_of, file_of, good_of, write_answer_of, left_of}
-use Rattle.circuit_write.proofs.Cells.{write-good, length-file, good-is}
+use Rattle.circuit_write.specs.Written.{records_of, file_of, good_of, write_answer_of, left_of}
+use Rattle.circuit_write.proofs.Cells.{records_most, write-good, length-file, good-is}
 use Rattle.circuit_laws.proofs.WrittenRead.{chain-answered}
-
-few : (b : Bool) → decile_records b ≤ 48
-few true = omega arith
-few false = omega arith
-
-records-most : (c : Circuit) → c.km ≤ 5 → records_of c ≤ 54
-records-most c h = omega (arith, few (all_zero c.deciles))
 
 good-most : (c : Circuit) → good_of c ≡ true → c.km ≤ 5
 good-most c g =
@@ -54,7 +47,7 @@ good_read o fit f c e = rw e at (read-good o fit f (rw e refl))
 
 module _ (o : Form) (fit : Fit o) (c : Circuit) (g : good_of c ≡ true) where
   pub size-most : o.size * records_of c ≤ o.size * 54
-  size-most = mul-le-mul_left o.size (records-most c (good-most c g))
+  size-most = mul-le-mul_left o.size (omega (arith, records_most c, good-most c g))
 
   pub file-most : (beside : List ℕ) → length (file_of o c beside) ≤ o.size * 54
   file-most beside = rw (length-file o fit c beside) size-most

@@ -3,7 +3,7 @@
 use Prim.Native.Nat.{ℕ, zero, suc, ◌+◌, ◌-◌, ◌%◌, ◌≤◌, ◌<◌}
 use mathlib.Core.Path.{◌≡◌, refl, ap, sym, ◌∙◌}
 use mathlib.Core.List.{List, [], ◌∷◌, ◌++◌}
-use mathlib.Core.Bool.{Bool, true, false, ◌&&◌, ◌||◌}
+use mathlib.Core.Bool.{Bool, true, false, cond, ◌&&◌, ◌||◌}
 use mathlib.Core.Logic.{◌⊎◌, inl, inr}
 use native.Mathlib.Omega.{arith}
 use lib.ListN.{length, take, replicate}
@@ -20,7 +20,7 @@ use Rattle.lines.specs.Text.{refused_text}
 use Rattle.record_chain.specs.declared.Chain.{Chain}
 use Rattle.records.specs.declared.Form.{Form}
 use Rattle.records.specs.Record.{form64, record_at, half_at, kind_of, record_words, all_zero}
-use Rattle.record_chain.specs.Chain.{length_good, head_good, km_of, sound_by, step_of, ended, answered_chain, padded, order_in, pick_chain, walk, chain_of}
+use Rattle.record_chain.specs.Chain.{length_good, head_good, km_of, sound_by, step_of, ended, answered_chain, padded, order_in, walk, chain_of}
 use Rattle.circuit.specs.Read.{numbers_of, circuit_of, read_of, read_by, beside_of}
 use Rattle.record_chain.proofs.Followed.{by-step, by-pick, followed}
 use Rattle.circuit_laws.proofs.Back.{all-zeros}
@@ -51,7 +51,7 @@ walk-few o f zero order at =
 walk-few o f (suc left) order at =
     by-step Few (step_of o f order at) (ended (suc left) (answered_chain order))
     (λ n.
-    pick_chain (sound_by o (leb 48 left) (record_at o f n)) (walk o f left (order ++ (n ∷ [])) n) (Err Refusal.ChainRecord))
+    cond (sound_by o (leb 48 left) (record_at o f n)) (walk o f left (order ++ (n ∷ [])) n) (Err Refusal.ChainRecord))
     (λ e. end-few (suc left) order)
     (λ n e.
     by-pick Few (sound_by o (leb 48 left) (record_at o f n)) (walk o f left (order ++ (n ∷ [])) n)
@@ -62,7 +62,7 @@ chain-few : (o : Form) (f : List ℕ) → Few (chain_of o f)
 unfolding chain_of
 chain-few o f =
     let walked = walk o f (km_of (record_at o f 0) + 48) (0 ∷ []) 0 in
-    by-pick Few (length_good o f) (pick_chain (head_good o (record_at o f 0)) walked (Err Refusal.RecordZero)) (Err Refusal.Length)
+    by-pick Few (length_good o f) (cond (head_good o (record_at o f 0)) walked (Err Refusal.RecordZero)) (Err Refusal.Length)
     (λ e.
     by-pick Few (head_good o (record_at o f 0)) walked (Err Refusal.RecordZero)
     (λ h. walk-few o f (km_of (record_at o f 0) + 48) (0 ∷ []) 0) (omega arith))

@@ -58,6 +58,9 @@ fn old_circuit(file: &[u8]) -> Result<Circuit, Refusal>
 }
 
 // What `widen` writes of a file: the wide file, or the line of a refusal.
+// Stays: a page of either case, here, in `narrow`, in `chain_text` and in `composing`. One function over the answer, called as
+// `of(circuit::read(file), put_wide)`, would have to ask `F.pre` at each circuit that may be answered, since `put_wide` and `put_old`
+// ask that it is good, and to promise by `F.post` what is put: more than these five lines.
 pub fn widen(file: &[u8]) -> Page<NEW_ROOM>
     ensures { result ≡ widened file.now }
 {

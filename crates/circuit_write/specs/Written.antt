@@ -1,5 +1,6 @@
 -- The file that holds a circuit, and what the writer answers and leaves (the paper, "Circuit file").
 use Rattle.std.specs.Prelude.{ℕ, zero, suc, ◌+◌, ◌*◌, ◌-◌, List, [], ◌++◌, Bool, true, false, ◌&&◌, length, take, drop, eqb, leb, Result, Ok, Err}
+use Rattle.std.specs.Result.{result_unwrap_or}
 use Rattle.refusal.specs.declared.Refusal.{Refusal}
 use Rattle.circuit.specs.declared.Circuit.{Circuit}
 use Rattle.records.specs.declared.Form.{Form}
@@ -66,12 +67,7 @@ write_answer_by true true n = Ok n
 unfoldable pub write_answer_of : Form → Circuit → List ℕ → Result ℕ Refusal
 write_answer_of o c out = write_answer_by (good_of c) (leb (size_of o c) (length out)) (size_of o c)
 
--- the bytes written, for every case of the answer
-abbrev pub length_in : Result ℕ Refusal → ℕ
-length_in (Ok n) = n
-length_in (Err r) = 0
-
 -- the cells lent, afterwards: as many as were written hold the file, those past its end, and all of them at a refusal, are as
 -- they were
 unfoldable pub left_of : Form → Circuit → List ℕ → List ℕ → List ℕ
-left_of o c beside out = let n = length_in (write_answer_of o c out) in take n (file_of o c beside) ++ drop n out
+left_of o c beside out = let n = result_unwrap_or (write_answer_of o c out) 0 in take n (file_of o c beside) ++ drop n out

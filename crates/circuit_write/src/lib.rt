@@ -75,7 +75,8 @@ impl<'a> Draft<'a> {
         ensures { out.new ≡ file_of self.now.form self.now.circuit.now self.now.beside.now ++ drop (self.now.form.size * self.now.count) out.old }
     {
         let size = self.form.size;
-        // Stays: i is the record's number, and no list is read.
+        // Stays: i is the record's number, and `out` is written by parts: of what `chunks_exact_mut` leaves under `enumerate` a proof
+        // knows the lengths alone, as in crate `cell_rows`.
         for i in 0..self.count {
             self.entry(i, &mut out[size * i..size * i + size]);
         }
@@ -89,7 +90,7 @@ pub fn write_form(o: Form, c: Circuit, beside: &[u32], out: &mut [u8]) -> Result
     ensures value { result ≡ write_answer_of o c out.old }
     ensures out_after { out.new ≡ left_of o c beside.now out.old }
 {
-    if c.km < 1 || c.km > 5 || c.shape > 1 {
+    if !(1..=5).contains(&c.km) || c.shape > 1 {
         return Err(Refusal::RecordZero);
     }
     let n = records(&c);

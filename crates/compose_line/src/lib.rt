@@ -15,8 +15,8 @@ pub use names::LineKind;
 
 // A line that has its first word. `missing` has a true for each number that is still to come; the next `left` numbers go to the
 // places from `at` on.
-// Stays: `missing` beside `values`, since a number that a line of the kind does not have is neither missing nor given; and `left`
-// counts numbers that a field still awaits, and no cells of an array, so that a list with its length would say nothing of it.
+// Stays: `missing` beside `values`, which `compose_text` takes whole, as fifteen words: of a list of cases (no number of this line,
+// awaited, given) they would be copied out there. And `left` counts numbers that a field still awaits, and no cells of an array.
 #[derive(Clone, Copy, Debug, PartialEq, Eq)]
 pub struct Row {
     pub kind: LineKind,
@@ -33,9 +33,9 @@ fn begin(kind: LineKind) -> Row
     Row {
         kind,
         values: [0; 15],
-        missing: names::wanted(kind),
+        missing: kind.wanted(),
         at: 0,
-        left: names::at_once(kind),
+        left: kind.at_once(),
     }
 }
 
@@ -71,11 +71,11 @@ fn first_word(w: &[u8]) -> Result<Row, Fault>
 fn field_word(r: Row, w: &[u8]) -> Result<Row, Fault>
     ensures { result ≡ field_word r (field_place_of r.kind w.now) }
 {
-    let place = names::place(r.kind, w).ok_or(Fault::UnknownField)?;
+    let place = r.kind.place(w).ok_or(Fault::UnknownField)?;
     if !r.missing[place] {
         return Err(Fault::FieldTwice);
     }
-    Ok(name(r, place, names::width(r.kind, place)))
+    Ok(name(r, place, r.kind.width(place)))
 }
 
 fn number_word(r: Row, w: &[u8]) -> Result<Row, Fault>

@@ -55,55 +55,50 @@ fn point_place(w: &[u8]) -> Option<usize>
     }
 }
 
-#[tactic(auto, unfolding(crate::specs::Names::field_place_of))]
-pub fn place(kind: LineKind, w: &[u8]) -> Option<usize>
-    ensures value { result ≡ field_place_of kind w.now }
-    ensures below { IfSome result (λ p. p < 15) }
-{
-    match kind {
-        LineKind::Path => path_place(w),
-        LineKind::Point => point_place(w),
-        LineKind::Deciles => None,
-    }
-}
-
-#[tactic(auto, unfolding(crate::specs::Names::width_of))]
-pub fn width(kind: LineKind, place: usize) -> usize
-    ensures { result ≡ width_of kind place }
-{
-    match kind {
-        LineKind::Point => {
-            if place < 12 {
-                return 3;
-            }
-            1
+impl LineKind {
+    #[tactic(auto, unfolding(crate::specs::Names::field_place_of))]
+    pub fn place(self, w: &[u8]) -> Option<usize>
+        ensures value { result ≡ field_place_of self w.now }
+        ensures below { IfSome result (λ p. p < 15) }
+    {
+        match self {
+            LineKind::Path => path_place(w),
+            LineKind::Point => point_place(w),
+            LineKind::Deciles => None,
         }
-        LineKind::Path | LineKind::Deciles => 1,
     }
-}
 
-#[tactic(auto, unfolding(crate::specs::Names::wanted_of))]
-pub fn wanted(kind: LineKind) -> [bool; 15]
-    ensures { result ≡ wanted_of kind }
-{
-    match kind {
-        LineKind::Path => [
-            true, true, true, true, true, false, false, false, false, false, false, false, false,
-            false, false,
-        ],
-        LineKind::Point => [true; 15],
-        LineKind::Deciles => [
-            true, true, true, true, true, true, true, true, true, true, true, true, false, false,
-            false,
-        ],
+    #[tactic(auto, unfolding(crate::specs::Names::width_of))]
+    pub fn width(self, place: usize) -> usize
+        ensures { result ≡ width_of self place }
+    {
+        match self {
+            LineKind::Point => {
+                if place < 12 {
+                    return 3;
+                }
+                1
+            }
+            LineKind::Path | LineKind::Deciles => 1,
+        }
     }
-}
 
-#[tactic(auto, unfolding(crate::specs::Names::at_once))]
-pub fn at_once(kind: LineKind) -> usize
-    ensures { result ≡ at_once kind }
-{
-    if kind == LineKind::Deciles { 12 } else { 0 }
+    pub fn wanted(self) -> [bool; 15]
+        ensures { result ≡ wanted_of self }
+    {
+        match self {
+            LineKind::Path => std::array::from_fn(|i| i < 5),
+            LineKind::Point => [true; 15],
+            LineKind::Deciles => std::array::from_fn(|i| i < 12),
+        }
+    }
+
+    #[tactic(auto, unfolding(crate::specs::Names::at_once))]
+    pub fn at_once(self) -> usize
+        ensures { result ≡ at_once self }
+    {
+        if self == LineKind::Deciles { 12 } else { 0 }
+    }
 }
 
 // Whether some number is still to come.

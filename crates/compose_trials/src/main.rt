@@ -61,18 +61,12 @@ fn late_point() {
     print(page.text());
 }
 
-// 49 lines of deciles, and 7.
-fn deciles() {
+fn deciles(lines: usize) {
     let mut page: Page<2048> = Page::new();
     put_start(&mut page);
-    put_deciles(&mut page, 49);
+    put_deciles(&mut page, lines);
     aligned::put_repeated(&mut page, b' ', 2048);
     print(page.text());
-    let mut few: Page<2048> = Page::new();
-    put_start(&mut few);
-    put_deciles(&mut few, 7);
-    aligned::put_repeated(&mut few, b' ', 2048);
-    print(few.text());
 }
 
 // One comment as long as a text may be, and one byte longer.
@@ -86,6 +80,7 @@ fn main() {
     order();
     six_points();
     late_point();
-    deciles();
+    deciles(49);
+    deciles(7);
     longest();
 }

@@ -1,8 +1,9 @@
 // A computed ionogram's rows as a trace.
 #![tactic(auto)]
 
-ghost use Rattle.std.specs.Prelude.{◌≡◌};
-ghost use Rattle.computed_trace.specs.Computed.{scaled_of, trace_of};
+ghost use Rattle.std.specs.Prelude.{◌≡◌, cond, Ok, Err};
+ghost use Rattle.figures.specs.Nearest.{times_of};
+ghost use Rattle.computed_trace.specs.Computed.{fit_number, trace_of};
 
 use refusal::Refusal;
 
@@ -15,30 +16,26 @@ pub struct ComputedTrace {
     pub height: [u32; 30],
 }
 
-// k times each number, rounded; refused where one is below zero or its multiple not a u32.
-fn scaled(x: &[f32; 30], k: u32) -> Result<[u32; 30], Refusal>
-    ensures { result ≡ scaled_of k x.now }
+// k times a number, rounded; refused where it is below zero or its multiple not a u32.
+fn number(v: f32, k: u32) -> Result<u32, Refusal>
+    ensures { result ≡ cond (fit_number k v) (Ok (times_of k v)) (Err Refusal.Traces) }
 {
-    let mut out = [0u32; 30];
-    for (i, v) in x.iter().enumerate() {
-        if *v < 0.0 {
-            return Err(Refusal::Traces);
-        }
-        let n = figures::times(*v, k);
-        if n >= 0x1_0000_0000 {
-            return Err(Refusal::Traces);
-        }
-        out[i] = n as u32;
+    if v < 0.0 {
+        return Err(Refusal::Traces);
     }
-    Ok(out)
+    let n = figures::times(v, k);
+    if n >= 0x1_0000_0000 {
+        return Err(Refusal::Traces);
+    }
+    Ok(n as u32)
 }
 
 // A computed ionogram's thirty frequencies in MHz and virtual heights in km, as a trace.
 pub fn trace_of(fvert: [f32; 30], hprim: [f32; 30]) -> Result<ComputedTrace, Refusal>
     ensures { result ≡ trace_of fvert hprim }
 {
-    let khz = scaled(&fvert, 1000)?;
-    let height = scaled(&hprim, 10)?;
+    let khz = fvert.try_map(|v| number(v, 1000))?;
+    let height = hprim.try_map(|v| number(v, 10))?;
     if !traces::rises(&khz) {
         return Err(Refusal::Traces);
     }

@@ -6,7 +6,7 @@ ghost use Rattle.deciles.specs.F2dis.{sunspot_row_of, j_of, i_of, icl_of, icc_of
 
 use refusal::Refusal;
 
-// Stays: the next three are sums of yes-or-no numbers: no jump hangs on a test that can't be foreseen.
+// The next three are sums of yes-or-no numbers: no jump hangs on a test that can't be foreseen.
 
 // 1 up to a sunspot number of 50, 3 above 100, 2 between and for NaN. A NaN is not at most 50, but
 // not above it either: `ssn > 50.0` would give it the first row.
@@ -100,9 +100,7 @@ pub fn f2dis(
     if f2d[0] <= 0.0 {
         return Ok(classical(fmuf));
     }
-    let Some(icc) = time_block(abb) else {
-        return Err(Refusal::TimeBlock);
-    };
+    let icc = time_block(abb).ok_or(Refusal::TimeBlock)?;
     let cl = clat * 57.29577;
     let iz = band(cl) + half(fmuf, freq);
     let j = row(ssn, cl);

@@ -21,6 +21,8 @@ pub enum Kind {
     Minus,
 }
 
+// Stays: that k is 9 at most is asked, here and of the two that count digits, since 10 ^ 10 is past a `u32`. A type of such numbers
+// would ask the same where it is made, at each call of `put_number`.
 fn ten_power(k: usize) -> u32
     requires { k ≤ 9 }
     ensures { result ≡ 10 ^ k }
@@ -80,7 +82,13 @@ fn kind_of(v: f32) -> Kind
 // n units after their sign, if they have one, at the right of so many characters.
 // Stays: width and places, here and in `put_number`, are as in Rust's `{:10.3}`: each call says both, and a struct of the two would
 // be made at each and taken apart here.
-fn put_units<const N: usize>(page: &mut Page<N>, width: usize, sign: &[u8], places: usize, n: u64)
+pub fn put_units<const N: usize>(
+    page: &mut Page<N>,
+    width: usize,
+    sign: &[u8],
+    places: usize,
+    n: u64,
+)
     requires { (length sign.now ≤ 1) × (places ≤ 9) }
     ensures { page.new ≡ with_text N page.old (right width (sign.now ++ placed_text places n)) }
 {

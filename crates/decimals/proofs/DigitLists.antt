@@ -3,10 +3,11 @@ use mathlib.Core.Path.{◌≡◌, refl, sym, ap, ◌∙◌}
 use mathlib.Core.Bool.{Bool, true, false, ◌&&◌}
 use mathlib.Core.List.{List, [], ◌∷◌}
 use Prim.Native.Nat.{ℕ, suc, ◌+◌, ◌-◌, ◌*◌, ◌^◌, ◌≤◌, ◌<◌, min}
-use native.Mathlib.Nat.{le_trans, le_of_eq, mul-le-mul_right, pow-succ', pow-le-pow_right, zero-add}
+use native.Mathlib.Nat.{le_trans, le_of_eq, mul-le-mul_right, pow-succ', pow-le-pow_right}
 use native.Mathlib.Numerals.{add-one}
 use native.Mathlib.Omega.{arith}
 use borrow.Author.Tests.{leb-true, leb-false}
+use Rattle.std.proofs.lemmas.Bool.{and_parts}
 use lib.Dec.{leb}
 use lib.Pow.{pow-add}
 use lib.ListN.{length, get_or, take, drop, drop_of_length-le, length-drop}
@@ -14,13 +15,6 @@ use lib.Seq.{drop-cons, drop-length, take_all}
 use Rattle.std.specs.List.{list_all}
 use Rattle.decimals.specs.Decimal.{is_digit, all_digits, value_from, fine_of, parts_of, unsigned_of}
 use Rattle.words.specs.Words.{run, other}
-
-both : (a b : Bool) → a && b ≡ true → (a ≡ true) × (b ≡ true)
-both true b e = (refl, e)
-both false b e = absurd (no e)
-  where
-    no : false ≡ true → ⊥
-    no e = let z : ◌≡◌ {A = ℕ} 0 1 = cc in omega arith
 
 -- ---- the test
 pub all_listed : (t : List ℕ) → all_digits t ≡ list_all is_digit t
@@ -38,8 +32,8 @@ pub next : (t : List ℕ) (i : ℕ) → i < length t → all_digits (drop i t) �
 unfolding all_digits
 next t i h e =
     let f : is_digit (get_or t i 0) && all_digits (drop (suc i) t) ≡ true = rw (drop-cons t i 0 h) at e in
-    let p = both _ _ f in
-    let q = both _ _ p.0 in
+    let p = and_parts _ _ f in
+    let q = and_parts _ _ p.0 in
     record { least = leb-true _ _ q.0; most = leb-true _ _ q.1; rest = rw (add-one i) p.1 }
 
 pub value_on : (t : List ℕ) (v i : ℕ) → i < length t → value_from v (drop i t) ≡ value_from (10 * v + (get_or t i 0 - 48)) (drop (i + 1) t)
@@ -82,9 +76,9 @@ pub fine-says : (whole rest : List ℕ) → fine_of whole rest ≡ true → Fine
 unfolding fine_of
 fine-says whole rest e =
     let n = length whole + length rest in
-    let p = both (all_digits whole) (all_digits rest && (leb 1 n && leb n 9)) e in
-    let q = both (all_digits rest) (leb 1 n && leb n 9) p.1 in
-    let r = both (leb 1 n) (leb n 9) q.1 in
+    let p = and_parts (all_digits whole) (all_digits rest && (leb 1 n && leb n 9)) e in
+    let q = and_parts (all_digits rest) (leb 1 n && leb n 9) p.1 in
+    let r = and_parts (leb 1 n) (leb n 9) q.1 in
     record { whole-digits = p.0; rest-digits = q.0; most = leb-true n 9 r.1 }
 
 pub first-room : (n m : ℕ) → n + m ≤ 9 → (0 + 1) * 10 ^ n ≤ 10 ^ 9

@@ -5,7 +5,7 @@ use Prim.Native.Nat.{ℕ, suc, ◌+◌, ◌-◌, ◌*◌, ◌/◌, ◌%◌, ◌^
 use native.Mathlib.Nat.{le_trans, le_of_eq, lt_of_lt_of_le, lt_of_le_of_lt, mul_assoc, mul-pos, mul-le-mul_right, mul-lt-mul_of_pos_right, le_of_mul-le-mul_right, lt_of_mul-lt-mul_right, le-div_iff_mul-le, div-lt_iff_lt-mul}
 use native.Mathlib.Omega.{arith}
 use lib.Pow.{pow-add, pow_pos, pow-lt}
-use lib.Ieee.{Float, fin, binary32, size, nearest, odd, units, round, to_bits}
+use lib.Ieee.{Float, binary32, size, nearest, odd, units, round, to_bits}
 use lib.Ieee.Exact.{HasValue, units_val}
 use lib.Ieee.Fits.{core, round_is, nearest-le}
 use lib.Ieee.Nearest.{closest, closest_same, nearest-ge}
@@ -14,7 +14,7 @@ use lib.Dec.{ltb}
 use borrow.Author.Tests.{lt-ltb, le-ltb}
 use Rattle.figures.specs.Nearest.{nearest as whole_nearest}
 use Rattle.rounding.proofs.Cells.{Cmp, cmp}
-use Rattle.rounding.proofs.Units.{pattern_of, bits_of}
+use Rattle.rounding.proofs.Units.{pattern_of, value-bits}
 use Rattle.rounding.proofs.LastDigit.{size_exact}
 use Rattle.scalar.proofs.RootPattern.{pattern-at}
 
@@ -28,12 +28,7 @@ pub closest-is : (a c : ℕ) → closest a c ≡ whole_nearest a c
 unfolding whole_nearest
 closest-is a c = by (a / c) (a % c) c (compare (a % c * 2) c) (cmp (a % c * 2) c)
 
--- ---- the pattern of a value in units
-value-bits : (v : Float) (s : Bool) (N : ℕ) → HasValue v s N (2 ^ 149) → to_bits binary32 v ≡ pattern_of binary32 s N
-value-bits (fin t m e) s N h = bits_of binary32 t m e N h.1 ∙ ap (λ (b : Bool). pattern_of binary32 b N) h.0
-value-bits lib.Ieee.nan s N h = elim h [ ]
-value-bits (lib.Ieee.inf _) s N h = elim h [ ]
-
+-- ---- the pattern of a value with its sign
 signed : (s : Bool) (N p : ℕ) → pattern_of binary32 false N ≡ p → pattern_of binary32 s N ≡ cond s (2 ^ 31) 0 + p
 signed true N p e = omega (arith, e)
 signed false N p e = omega (arith, e)
@@ -121,7 +116,7 @@ module _ (s : Bool) (n d i j k : ℕ) (D : 0 < d) (e : 149 + j ≡ i + k) (lo : 
       record {
         low = low;
         high = high;
-        bits = ap (λ (x : Float). to_bits binary32 x) rounded ∙ value-bits (units binary32 s q k) s (q * 2 ^ k) value ∙ signed s (q * 2 ^ k) (k * 2 ^ 23 + q) (pattern-at q k low high);
+        bits = ap (λ (x : Float). to_bits binary32 x) rounded ∙ value-bits binary32 (units binary32 s q k) s (q * 2 ^ k) value ∙ signed s (q * 2 ^ k) (k * 2 ^ 23 + q) (pattern-at q k low high);
       }
 
 -- ---- a zero keeps its sign

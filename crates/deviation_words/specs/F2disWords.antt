@@ -5,7 +5,7 @@ use Rattle.std.specs.Prelude.{Bool, true, false, List, ℕ, ltb, length, Float, 
 use Rattle.port_state.specs.Ports.{Ported, refused_with}
 use Rattle.answer_words.specs.Words.{float_left}
 use Rattle.deciles.specs.F2dis.{f2dis_of}
-use Rattle.deviation_words.specs.Floats.{number}
+use Rattle.port_state.specs.Words.{number}
 
 -- too few numbers, no room for the answer
 abbrev pub f2dis_by : Bool → Bool → List ℕ → Result Float Refusal → Ported

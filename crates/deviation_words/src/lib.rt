@@ -16,11 +16,7 @@ pub fn f2dis(deciles: &[f32], numbers: &[u32], out: &mut [u32]) -> Result<(), Re
     if numbers.len() < 5 || out.is_empty() {
         return Err(Refusal::Length);
     }
-    let fmuf = scalar::number(numbers[0]);
-    let ssn = scalar::number(numbers[1]);
-    let clat = scalar::number(numbers[2]);
-    let freq = scalar::number(numbers[3]);
-    let abb = scalar::number(numbers[4]);
+    let [fmuf, ssn, clat, freq, abb] = port_state::floats::<5>(numbers, 0);
     let d = deciles::f2dis(deciles, fmuf, ssn, clat, freq, abb);
     answer_words::float_into(d, out)
 }

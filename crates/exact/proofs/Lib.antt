@@ -1,3 +1,2 @@
--- Laws of the unit in the last place and of enclosures.
-pub mod Unit
+-- Laws of enclosures.
 pub mod Enclosure

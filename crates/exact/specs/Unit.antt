@@ -1,13 +1,7 @@
--- The size of a finite float and the unit of its last place, both as whole numbers of 2 ^ -149. Definitions only.
-use Rattle.std.specs.Prelude.{ℕ, ◌-◌, ◌*◌, ◌/◌, ◌^◌, Float}
-use Rattle.std.specs.Float.{nan, inf, fin}
-use Rattle.std.specs.Float.Ieee.{up, down, size}
-
--- |x| in units of 2 ^ -149, which for an f32 is a whole number
-abbrev pub steps : Float → ℕ
-steps nan = 0
-steps (inf s) = 0
-steps (fin s m e) = m * up e * 2 ^ 149 / down e
+-- The unit of the last place of a finite float, as a whole number of units of 2 ^ -149. Definitions only.
+use Rattle.std.specs.Prelude.{ℕ, ◌-◌, ◌*◌, ◌^◌, Float}
+use Rattle.std.specs.Float.Ieee.{size}
+use Rattle.scalar.specs.Root.{steps}
 
 -- one unit in the last place of x, in units of 2 ^ -149: 24 significant bits, and at least 1
 abbrev pub ulp : Float → ℕ

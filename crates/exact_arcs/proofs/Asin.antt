@@ -13,19 +13,20 @@ use lib.Ieee.Fits.{down_pos}
 use lib.Ieee.Bits.{of_bits-to_bits, to_bits-lt}
 use lib.Ieee.Exact.{HasValue}
 use Rattle.series.specs.Series.{full, num, class, SinLe, SinGe, SineAtMost, SineAtLeast, CosineNotNegative, CosineNotPositive}
+use Rattle.scalar.proofs.Nan.{the-nan}
 use Rattle.cases.proofs.Cases.{split}
 use Rattle.series.proofs.Waves.{Enc4}
 use Rattle.series.proofs.Bounds.{cos-plus, cos-minus, sine-le, sine-ge, enc-scaled}
 use Rattle.fixed.specs.Fixed.{mant, pattern, digits}
-use Rattle.fixed.proofs.Round.{place, pattern_lt}
+use Rattle.fixed.proofs.Round.{place, pattern_lt, grain}
 use Rattle.fixed.proofs.Values.{value, v-small, ulps, bits-255, packed-value, normal-value, sign-plus}
 use Rattle.fixed.proofs.Sizes.{finite-value, size-lt}
-use Rattle.exact.specs.Unit.{steps}
+use Rattle.scalar.specs.Root.{steps}
 use Rattle.exact_arcs.specs.Asin.{NearAsin, AsinNear}
-use Rattle.exact.proofs.Unit.{steps-is}
+use Rattle.scalar.proofs.Patterns.{steps-is}
 use Rattle.arcs.specs.Asin.{sixth_of, arc_of, asin_mag, asin_bits, asin_of}
 use Rattle.arcs.proofs.Cosine.{Cosine}
-use Rattle.arcs.proofs.Angle.{Sizes, sizes, o, v, low-is, high_is}
+use Rattle.arcs.proofs.Angle.{Sizes, sizes, v, low-is, high_is}
 use Rattle.arcs.proofs.AsinBits.{mag-fits, small-bits, mid-bits, one-bits, outside-bits}
 use Rattle.arc_bounds.proofs.Ends.{small-cos, small-sine-le, small-sine-ge, half-plus, half-minus, half-sine}
 use Rattle.arc_bounds.proofs.Fine.{fine, enc}
@@ -75,7 +76,7 @@ near-at s z n c k v C K e f W (inf a) r h g = absurd h
 near-at s z n c k v C K e f W (fin a m i) nan h g = absurd g
 near-at s z n c k v C K e f W (fin a m i) (inf b) h g = absurd g
 near-at s z n c k v C K e f W (fin a m i) (fin b l j) h g =
-    let st : v ≡ steps (fin b l j) = sym (steps-is s b l v j g) in
+    let st : v ≡ steps (fin b l j) = sym (steps-is (fin b l j) s v g) in
     let x : m * up i * c ≡ n * down i = eq_of_mul-eq-mul_right k K (m * up i * c) (n * down i) (mul_assoc (m * up i) c k ∙ ap (λ (y : ℕ). m * up i * y) e ∙ h.1 ∙ ap (λ (y : ℕ). y * down i) f ∙ mul_right_comm n k (down i)) in
     let W' : Within (m * up i) (down i) v = same n c (m * up i) (down i) v C x W in (
       h.0 ∙ sym g.0,
@@ -92,7 +93,7 @@ module _ (X r A s : ℕ) (T : Turned X r A s) (C : Cosine X r) (X-lt : X < 2 ^ 3
   S = arc_of A s
 
   abbrev O : ℕ
-  O = o S
+  O = grain S
 
   abbrev u : ℕ
   u = v S
@@ -243,10 +244,6 @@ near-small b l =
     (same (16 * w.0) (16 * 2 ^ 149) w.0 (2 ^ 149) w.0 (pow_pos 153) (sixteenth w.0 (2 ^ 149)) (small-within w.0 w.2)) (of_bits binary32 b) (of_bits binary32 b) w.1 w.1)
 
 -- ---- outside -1 to 1, and at NaN
-nan_pattern : of_bits binary32 0x7fc0_0000 ≡ nan
-unfolding of_bits
-nan_pattern = refl
-
 near-outside : (b : ℕ) → 0x3f80_0000 < b % 2 ^ 31 → NearAsin (of_bits binary32 b) nan
 near-outside b h =
     split (b % 2 ^ 31) 0x7f80_0000
@@ -269,7 +266,7 @@ near-bits : (b : ℕ) → b < 2 ^ 32 → NearAsin (of_bits binary32 b) (of_bits 
 near-bits b B =
     split (b % 2 ^ 31) 0x3980_0000 (λ l. near-small b l) (λ l.
     split (b % 2 ^ 31) 0x3f80_0000 (λ h. near-mid b l h) (λ h.
-    split 0x3f80_0000 (b % 2 ^ 31) (λ g. subst (λ (r : Float). NearAsin (of_bits binary32 b) r) (sym (ap (of_bits binary32) (outside-bits b g) ∙ nan_pattern)) (near-outside b g)) (λ g. near-one b (meet (b % 2 ^ 31) h g))))
+    split 0x3f80_0000 (b % 2 ^ 31) (λ g. subst (λ (r : Float). NearAsin (of_bits binary32 b) r) (sym (ap (of_bits binary32) (outside-bits b g) ∙ the-nan)) (near-outside b g)) (λ g. near-one b (meet (b % 2 ^ 31) h g))))
   where
     meet : (a : ℕ) → 0x3f80_0000 ≤ a → a ≤ 0x3f80_0000 → a ≡ 0x3f80_0000
     meet a l h = omega arith

@@ -1,10 +1,10 @@
 -- `atan_of x` is less than one unit of its last place from the arc tangent of x, for every f32.
 use mathlib.Core.Path.{◌≡◌, refl, sym, ap, ◌∙◌, subst, subst₂}
-use mathlib.Core.Bool.{Bool, false, cond}
-use Prim.Native.Nat.{ℕ, zero, suc, ◌+◌, ◌-◌, ◌*◌, ◌/◌, ◌%◌, ◌^◌, ◌≤◌, ◌<◌}
-use native.Mathlib.Nat.{le_trans, le_of_lt, mul_assoc, mul_right_comm, mul-le-mul, mul-le-mul_left, mul-le-mul_right, eq_of_mul-eq-mul_right, mul-one, mul-pos, add-le-add, lt_of_le_of_lt, not-suc-le-zero}
+use mathlib.Core.Bool.{Bool}
+use Prim.Native.Nat.{ℕ, ◌+◌, ◌-◌, ◌*◌, ◌/◌, ◌%◌, ◌^◌, ◌≤◌, ◌<◌}
+use native.Mathlib.Nat.{le_trans, le_of_lt, mul_assoc, mul_right_comm, mul-le-mul, mul-le-mul_left, mul-le-mul_right, eq_of_mul-eq-mul_right, mul-one, mul-pos, add-le-add, lt_of_le_of_lt}
 use native.Mathlib.Omega.{arith}
-use lib.Dec.{leb, eqb, eqb-suc-zero, lit<, lit≤}
+use lib.Dec.{leb, lit<, lit≤}
 use lib.Pow.{pow_pos, pow_mono}
 use lib.Ieee.{Float, nan, inf, fin, binary32, up, down, size, of_bits, to_bits}
 use lib.Ieee.Digits.{size-le}
@@ -12,13 +12,14 @@ use lib.Ieee.Bits.{of_bits-to_bits, to_bits-lt}
 use lib.Ieee.Exact.{HasValue}
 use Rattle.fixed.specs.Fixed.{mant, pattern, digits}
 use Rattle.arcs.specs.Atan.{angle_of, atan_bits, atan_of}
-use Rattle.exact.specs.Unit.{steps}
+use Rattle.scalar.specs.Root.{steps}
 use Rattle.series.specs.Series.{Later, SinLe, SinGe, num, class}
 use Rattle.exact_arcs.specs.Atan.{NearAtan, AtanNear}
 use Rattle.fixed.proofs.Round.{place, pattern_lt}
+use Rattle.scalar.proofs.Nan.{nan_pattern}
 use Rattle.cases.proofs.Cases.{split}
-use Rattle.fixed.proofs.Values.{value, bits-255, v-small, ulps, packed-value, normal-value, sign-plus}
-use Rattle.exact.proofs.Unit.{steps-is}
+use Rattle.fixed.proofs.Values.{value, is-inf, v-small, ulps, packed-value, normal-value, sign-plus}
+use Rattle.scalar.proofs.Patterns.{steps-is}
 use Rattle.series.proofs.Bounds.{le_same, ge-same}
 use Rattle.arcs.proofs.Angle.{angle-le, angle-ge, angle-2}
 use Rattle.arcs.proofs.Reduce.{case}
@@ -38,7 +39,7 @@ near-at s z n c k v C K e f W (inf a) r h g = absurd h
 near-at s z n c k v C K e f W (fin a m i) nan h g = g
 near-at s z n c k v C K e f W (fin a m i) (inf b) h g = g
 near-at s z n c k v C K e f W (fin a m i) (fin b l j) h g =
-    let st : v ≡ steps (fin b l j) = sym (steps-is s b l v j g) in
+    let st : v ≡ steps (fin b l j) = sym (steps-is (fin b l j) s v g) in
     let x : m * up i * c ≡ n * down i = eq_of_mul-eq-mul_right k K (m * up i * c) (n * down i) (mul_assoc (m * up i) c k ∙ ap (λ (y : ℕ). m * up i * y) e ∙ h.1 ∙ ap (λ (y : ℕ). y * down i) f ∙ mul_right_comm n k (down i)) in (
       h.0 ∙ sym g.0,
       subst (λ (y : ℕ). 16 * y + 15 * 2 ^ (size y - 24) ≤ 2 * (16 * 2 ^ 149)) st W.two,
@@ -85,7 +86,7 @@ unfolding size
 near-inf s nan g = g
 near-inf s (inf b) g = g
 near-inf s (fin b l j) g =
-    let st : 13176795 * 2 ^ 126 ≡ steps (fin b l j) = sym (steps-is s b l (13176795 * 2 ^ 126) j g) in
+    let st : 13176795 * 2 ^ 126 ≡ steps (fin b l j) = sym (steps-is (fin b l j) s (13176795 * 2 ^ 126) g) in
     subst (λ (y : ℕ).
     (s ≡ b) × (16 * y + 15 * 2 ^ (size y - 24) ≤ 2 * (16 * 2 ^ 149))
     × Later (λ k. num (class 2) (16 * y - 8 * 2 ^ (size y - 24)) (16 * 2 ^ 149) k ≤ num (class 0) (16 * y - 8 * 2 ^ (size y - 24)) (16 * 2 ^ 149) k)
@@ -118,10 +119,6 @@ halved n c v C W =
     go : (n c : ℕ) → n * (16 * c) ≡ 16 * n * c
     go n c = omega arith
 
-not-zero : (t : ℕ) → 1 ≤ t → eqb t 0 ≡ false
-not-zero zero h = absurd (not-suc-le-zero h)
-not-zero (suc t) h = eqb-suc-zero t
-
 near-bits : (b : ℕ) → b < 2 ^ 32 → NearAtan (of_bits binary32 b) (of_bits binary32 (atan_bits b))
 near-bits b B =
     split (b % 2 ^ 31) 0x3980_0000
@@ -133,15 +130,11 @@ near-bits b B =
   where
     infinite : b % 2 ^ 31 ≡ 0x7f80_0000 → NearAtan (of_bits binary32 b) (of_bits binary32 (atan_bits b))
     infinite e =
-        let is : of_bits binary32 b ≡ inf (leb (2 ^ 31) b) = bits-255 b (omega arith) ∙ ap (λ (y : Bool). cond y (inf (leb (2 ^ 31) b)) nan) (ap (λ (t : ℕ). eqb t 0) (zero e)) in
-        subst (λ (x : Float). NearAtan x (of_bits binary32 (atan_bits b))) (sym is) (near-inf (leb (2 ^ 31) b) (of_bits binary32 (atan_bits b)) (r-half b (big-bits b (omega arith) (omega arith))))
-      where
-        zero : b % 2 ^ 31 ≡ 0x7f80_0000 → b % 2 ^ 23 ≡ 0
-        zero e = omega arith
+        subst (λ (x : Float). NearAtan x (of_bits binary32 (atan_bits b))) (sym (is-inf b e)) (near-inf (leb (2 ^ 31) b) (of_bits binary32 (atan_bits b)) (r-half b (big-bits b (omega arith) (omega arith))))
 
     not-number : 0x7f80_0000 < b % 2 ^ 31 → NearAtan (of_bits binary32 b) (of_bits binary32 (atan_bits b))
     not-number h =
-        let is : of_bits binary32 b ≡ nan = bits-255 b (omega arith) ∙ ap (λ (y : Bool). cond y (inf (leb (2 ^ 31) b)) nan) (not-zero (b % 2 ^ 23) (omega arith)) in
+        let is : of_bits binary32 b ≡ nan = nan_pattern b h in
         subst₂ (λ (x r : Float). NearAtan x r) (sym is) (sym (ap (of_bits binary32) (nan-bits b h) ∙ is)) refl
 
 atan_of-is : (x : Float) → atan_of x ≡ of_bits binary32 (atan_bits (to_bits binary32 x))

@@ -3,7 +3,8 @@ use Rattle.std.specs.Prelude.{◌+◌, ◌-◌, ◌*◌, ◌≤◌, ◌≡◌, T
 use Rattle.std.specs.Float.{nan, inf, fin, binary32}
 use Rattle.std.specs.Float.Ieee.{up, down, fits}
 use Rattle.series.specs.Series.{SinLe, SinGe, CosineNotNegative, CosineNotPositive}
-use Rattle.exact.specs.Unit.{steps, ulp, unity}
+use Rattle.scalar.specs.Root.{steps}
+use Rattle.exact.specs.Unit.{ulp, unity}
 use Rattle.exact_arcs.specs.Ends.{before, behind}
 use Rattle.arcs.specs.Atan.{atan_of}
 

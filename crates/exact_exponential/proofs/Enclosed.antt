@@ -2,7 +2,7 @@
 use mathlib.Core.Path.{◌≡◌, sym, ap, subst, subst₂}
 use mathlib.Core.Bool.{true, false}
 use Prim.Native.Nat.{ℕ, zero, suc, ◌+◌, ◌-◌, ◌*◌, ◌^◌, ◌≤◌, ◌<◌}
-use native.Mathlib.Nat.{le_trans, le_of_eq, le_refl, le_dest, mul_comm, mul-le-mul_left, mul-le-mul_right, mul-pos, pow-suc}
+use native.Mathlib.Nat.{le_trans, le_of_eq, le_refl, le-add_left, le-add_right, add-mul, le_dest, mul_comm, mul-le-mul_left, mul-le-mul_right, mul-pos, pow-suc}
 use native.Mathlib.Omega.{arith}
 use lib.Pow.{pow_pos}
 use lib.Ieee.{Float, nan, inf, fin, up, down, size}
@@ -13,10 +13,12 @@ use Rattle.series.proofs.Weighted.{grows, above}
 use Rattle.series.proofs.Falling.{small}
 use Rattle.cases.proofs.Cases.{split}
 use Rattle.exponential.specs.Exp.{exp_of}
-use Rattle.exact.specs.Unit.{steps, ulp}
+use Rattle.scalar.specs.Root.{steps}
+use Rattle.exact.specs.Unit.{ulp}
 use Rattle.exact_exponential.specs.Exp.{NearExp}
 use Rattle.exact_exponential.specs.Enclosure.{NearerThan, upper_sum, Inside, Enclosed, EnclosedBelow, EnclosedExp, ExpEnclosed, ExpOneNumber, ExpRises, ExpPins}
-use Rattle.exponential_bounds.proofs.Terms.{full-1, num-1}
+use Rattle.series.proofs.Terms.{full-1}
+use Rattle.exponential_bounds.proofs.Terms.{num-1}
 use Rattle.exact_exponential.proofs.ExpTheorem.{exp-near}
 
 -- ---- nested
@@ -97,7 +99,7 @@ module _ (v u a b : ℕ) (U : 0 < u) (B : 0 < b) (c : Close (16 * 2 ^ 149) (16 *
   unit-pos = mul-pos U B
 
   within : NearerThan v u a b
-  within = record { low = low (2 ^ 149 * a) (v * b) (u * b) unit-pos (first (2 ^ 149) c.low); high = high (2 ^ 149 * a) (v * b) (u * b) unit-pos (second (2 ^ 149) c.high) (line v u b) }
+  within = record { low = low (2 ^ 149 * a) (v * b) (u * b) unit-pos (first (2 ^ 149) c.low); high = high (2 ^ 149 * a) (v * b) (u * b) unit-pos (second (2 ^ 149) c.high) (add-mul v u b) }
     where
       first : (P : ℕ) → 16 * v * b + 16 * P * 0 ≤ 16 * P * a + (0 + 15 * u) * b → 16 * (v * b) ≤ 16 * (P * a) + 15 * (u * b)
       first P h = omega (arith, h)
@@ -107,9 +109,6 @@ module _ (v u a b : ℕ) (U : 0 < u) (B : 0 < b) (c : Close (16 * 2 ^ 149) (16 *
 
       low : (x y z : ℕ) → 0 < z → 16 * y ≤ 16 * x + 15 * z → y < x + z
       low x y z p h = omega arith
-
-      line : (v u b : ℕ) → (v + u) * b ≡ v * b + u * b
-      line v u b = omega arith
 
       high : (x y z : ℕ) {t : ℕ} → 0 < z → 16 * x ≤ 16 * y + 15 * z → t ≡ y + z → x < t
       high x y z p h e = omega arith
@@ -147,27 +146,21 @@ module _ (n d v u : ℕ) (D : 0 < d) (U : 0 < u) where
   enclose S =
       let M = 32 * 2 ^ 149 in
       let k = S.0 + (2 * n + M * n ^ (2 * n)) in
-      let small = small n d M D k (later S.0 (2 * n + M * n ^ (2 * n))) in
-      let c = S.1 k (first S.0 (2 * n + M * n ^ (2 * n))) in
+      let small = small n d M D k (le-add_left (2 * n + M * n ^ (2 * n)) S.0) in
+      let c = S.1 k (le-add_right S.0 (2 * n + M * n ^ (2 * n))) in
       record {
         terms = k;
         inside = inside n d k D small.0;
         lower = within v u (num one n d k) (full d k) U (full-pos d k D) c;
         upper = within_more v u (num one n d k) (full d k) U (full-pos d k D) c (n ^ k) small.1;
       }
-    where
-      later : (x y : ℕ) → y ≤ x + y
-      later x y = omega arith
-
-      first : (x y : ℕ) → x ≤ x + y
-      first x y = omega arith
 
   enclose-below : (N : ℕ) × ((k : ℕ) → N ≤ k → Close (16 * 2 ^ 149) (16 * v) 0 (15 * u) (full d k) 0 (num one n d k)) → EnclosedBelow n d v u
   enclose-below S =
       let M = 32 * v in
       let k = S.0 + (2 * n + M * n ^ (2 * n)) in
-      let small = small n d M D k (later S.0 (2 * n + M * n ^ (2 * n))) in
-      let c = S.1 k (first S.0 (2 * n + M * n ^ (2 * n))) in
+      let small = small n d M D k (le-add_left (2 * n + M * n ^ (2 * n)) S.0) in
+      let c = S.1 k (le-add_right S.0 (2 * n + M * n ^ (2 * n))) in
       let P = le_trans (full-pos d k D) (above-one n d k) in
       record {
         terms = k;
@@ -175,12 +168,6 @@ module _ (n d v u : ℕ) (D : 0 < d) (U : 0 < u) where
         upper = within v u (full d k) (num one n d k) U P c;
         lower = within-less v u (full d k) (num one n d k) U P c (n ^ k) (le_trans small.1 (above-one n d k));
       }
-    where
-      later : (x y : ℕ) → y ≤ x + y
-      later x y = omega arith
-
-      first : (x y : ℕ) → x ≤ x + y
-      first x y = omega arith
 
 -- ---- every case
 by-case : (x r : Float) → NearExp x r → EnclosedExp x r

@@ -20,13 +20,15 @@ use Rattle.fixed.proofs.Values.{value, value-normal, normal-value, subnormal, ul
 use Rattle.exponential.specs.Tables.{ln2}
 use Rattle.exponential.specs.Exp.{power_of, rounded_to24, lowered, grown, shrunk, exp_bits, exp_of}
 use Rattle.exponential.proofs.ExpCases.{at-nan, at-tiny, at_top, at-plus, at-bottom, at-minus, lowered-normal, lowered-subnormal, scaled-ge, below-plus, below-minus}
-use Rattle.exact.specs.Unit.{steps}
+use Rattle.scalar.specs.Root.{steps}
 use Rattle.exact_exponential.specs.Exp.{NearExp, ExpNear}
-use Rattle.exact.proofs.Unit.{steps-is}
+use Rattle.scalar.proofs.Nan.{nan_pattern, the-nan}
+use Rattle.scalar.proofs.Sign.{plus-zero}
+use Rattle.scalar.proofs.Patterns.{steps-is}
 use Rattle.exponential_bounds.proofs.ExpPower.{power-ge, power_le, power-under}
 use Rattle.exponential_bounds.proofs.ExpNear.{Sums, Recs, near_up, near_down, near_sub}
 use Rattle.exponential_bounds.proofs.ExpEnds.{past_top, past-bottom, tiny-up, tiny-down, last, last-enc}
-use Rattle.exact_exponential.proofs.Special.{nan-bits, a-nan, an-inf, minus-inf, a-zero}
+use Rattle.exact_exponential.proofs.Special.{an-inf, minus-inf}
 
 -- ---- from values to nearness. x is n / d
 module _ (v w X c : ℕ) (W : w ≤ 2 ^ (size v - 24)) where
@@ -38,7 +40,7 @@ module _ (v w X c : ℕ) (W : w ≤ 2 ^ (size v - 24)) where
   near-plus (fin true m e) (fin b n f) h k S = absurd (true≢false h.0)
   near-plus (fin false m e) (fin true n f) h k S = absurd (true≢false k.0)
   near-plus (fin false m e) (fin false n f) h k S =
-      let st : steps (fin false n f) ≡ v = steps-is false false n v f k in
+      let st : steps (fin false n f) ≡ v = steps-is (fin false n f) false v k in
       let s = S (m * up e) (down e) (down_pos e) h.1 in
       subst (λ (z : ℕ). (N : ℕ) × ((k : ℕ) → N ≤ k → Close (16 * 2 ^ 149) (16 * z) 0 (15 * 2 ^ (size z - 24)) (num one (m * up e) (down e) k) 0 (full (down e) k))) (sym st)
       (s.0, λ k l. wider (16 * 2 ^ 149) (16 * v) 0 (15 * w) (15 * 2 ^ (size v - 24)) (num one (m * up e) (down e) k) 0 (full (down e) k) (mul-le-mul_left 15 W) (s.1 k l))
@@ -51,7 +53,7 @@ module _ (v w X c : ℕ) (W : w ≤ 2 ^ (size v - 24)) where
   near-minus (fin false m e) (fin b n f) h k S = absurd (false≢true h.0)
   near-minus (fin true m e) (fin true n f) h k S = absurd (true≢false k.0)
   near-minus (fin true m e) (fin false n f) h k S =
-      let st : steps (fin false n f) ≡ v = steps-is false false n v f k in
+      let st : steps (fin false n f) ≡ v = steps-is (fin false n f) false v k in
       let s = S (m * up e) (down e) (down_pos e) h.1 in
       subst (λ (z : ℕ). (N : ℕ) × ((k : ℕ) → N ≤ k → Close (16 * 2 ^ 149) (16 * z) 0 (15 * 2 ^ (size z - 24)) (full (down e) k) 0 (num one (m * up e) (down e) k))) (sym st)
       (s.0, λ k l. wider (16 * 2 ^ 149) (16 * v) 0 (15 * w) (15 * 2 ^ (size v - 24)) (full (down e) k) 0 (num one (m * up e) (down e) k) (mul-le-mul_left 15 W) (s.1 k l))
@@ -265,7 +267,7 @@ tiny-near b h =
 near-bits : (b : ℕ) → b < 2 ^ 32 → NearExp (of_bits binary32 b) (of_bits binary32 (exp_bits b))
 near-bits b B =
     split 0x7f80_0000 (b % 2 ^ 31)
-    (λ h. subst₂ (λ (x y : Float). NearExp x y) (sym (nan-bits b h)) (sym (ap (of_bits binary32) (at-nan b h) ∙ a-nan)) refl)
+    (λ h. subst₂ (λ (x y : Float). NearExp x y) (sym (nan_pattern b h)) (sym (ap (of_bits binary32) (at-nan b h) ∙ the-nan)) refl)
     (λ h. split (b % 2 ^ 31) 0x3300_0000
     (λ k. subst (λ (c : ℕ). NearExp (of_bits binary32 b) (of_bits binary32 c)) (sym (at-tiny b k)) (tiny-near b k))
     (λ k. split (b / 2 ^ 31) 1 (λ s. plus h k s) (λ s. minus h k s)))
@@ -287,7 +289,7 @@ near-bits b B =
         (λ l. subst (λ (c : ℕ). NearExp (of_bits binary32 b) (of_bits binary32 c)) (sym (at-minus b s k l)) (shrunk-near b s k l))
         (λ l.
         subst (λ (c : ℕ). NearExp (of_bits binary32 b) (of_bits binary32 c)) (sym (at-bottom b h s l))
-        (split (b % 2 ^ 31) 0x7f80_0000 (λ t. past-minus b s l t) (λ t. subst (λ (y : Float). NearExp y (of_bits binary32 0)) (sym (ap (of_bits binary32) (whole t s h) ∙ minus-inf)) a-zero)))
+        (split (b % 2 ^ 31) 0x7f80_0000 (λ t. past-minus b s l t) (λ t. subst (λ (y : Float). NearExp y (of_bits binary32 0)) (sym (ap (of_bits binary32) (whole t s h) ∙ minus-inf)) plus-zero)))
       where
         whole : 0x7f80_0000 ≤ b % 2 ^ 31 → 1 ≤ b / 2 ^ 31 → b % 2 ^ 31 ≤ 0x7f80_0000 → b ≡ 0xff80_0000
         whole t s h = omega (arith, B)

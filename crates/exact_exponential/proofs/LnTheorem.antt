@@ -4,7 +4,7 @@ use mathlib.Core.Bool.{Bool, true, false, cond, true≢false, false≢true}
 use Prim.Native.Nat.{ℕ, zero, suc, ◌+◌, ◌-◌, ◌*◌, ◌/◌, ◌%◌, ◌^◌, ◌≤◌, ◌<◌}
 use native.Mathlib.Nat.{not-le_of_lt, le_trans, le_of_eq, le_of_lt, le_refl, lt_of_lt_of_le, one-mul, mul_assoc, mul_comm, mul_left_comm, mul-le-mul_right, mul-pos, eq_of_mul-eq-mul_right}
 use native.Mathlib.Omega.{arith}
-use lib.Dec.{leb, lit<, lit≤}
+use lib.Dec.{lit<, lit≤}
 use lib.IntN.{pos, negsuc}
 use lib.Pow.{pow_pos, pow-add}
 use lib.Count.{count_leading_zeros}
@@ -24,8 +24,11 @@ use Rattle.logarithm.specs.Ln.{rest_of, above, below, ln_bits, ln_of}
 use Rattle.logarithm.proofs.LnCases.{ln-zero, ln-none, ln-inf, ln-1, ln-up, ln-down, ln-deep, shifted}
 use Rattle.series.specs.Series.{ExpLe, ExpGe}
 use Rattle.exact_exponential.specs.Ln.{PowLe, PowGe, lower, upper, NearLn, LnNear}
-use Rattle.exact.proofs.Unit.{steps-is}
-use Rattle.exact_exponential.proofs.Special.{nan-bits, a-nan, an-inf, minus-inf, a-zero, minus-zero, one-is}
+use Rattle.std.proofs.lemmas.Float.{one_f32_is}
+use Rattle.scalar.proofs.Nan.{nan_pattern, the-nan}
+use Rattle.scalar.proofs.Sign.{plus-zero}
+use Rattle.scalar.proofs.Patterns.{steps-is}
+use Rattle.exact_exponential.proofs.Special.{an-inf, minus-inf, minus-zero}
 use Rattle.exponential_bounds.proofs.Exponents.{lower-le, upper-ge, same-le, same-ge}
 use Rattle.exponential_bounds.proofs.LnSum.{Good, good-up, good-down}
 
@@ -101,7 +104,7 @@ module _ (S a b W : ℕ) (G : Good S a b) (B : 0 < b) (P : 0 < W) where
       let X = suc m * up e in
       let D = down e in
       let V' = mant S * place S in
-      subst (λ (z : ℕ). PowLe (lower false (16 * z) (15 * 2 ^ (size z - 24))) (16 * 2 ^ 149) X D × PowGe (upper false (16 * z) (15 * 2 ^ (size z - 24))) (16 * 2 ^ 149) X D) (sym (steps-is false false n V' f k)) (
+      subst (λ (z : ℕ). PowLe (lower false (16 * z) (15 * 2 ^ (size z - 24))) (16 * 2 ^ 149) X D × PowGe (upper false (16 * z) (15 * 2 ^ (size z - 24))) (16 * 2 ^ 149) X D) (sym (steps-is (fin false n f) false V' k)) (
         low-plus (16 * V') (15 * 2 ^ (size V' - 24)) (16 * 2 ^ 149) X D (le_of_lt (under S G.from G.fits)) (same-le (16 * V' - 15 * 2 ^ (size V' - 24)) (16 * 2 ^ 149) a b X D B (Q X D h.1) (low-u S G.from G.fits a b G)),
         high-plus (16 * V') (15 * 2 ^ (size V' - 24)) (16 * 2 ^ 149) X D (same-ge (16 * V' + 15 * 2 ^ (size V' - 24)) (16 * 2 ^ 149) a b X D B (Q X D h.1) (high-u S G.from G.fits a b G)),
       )
@@ -118,7 +121,7 @@ module _ (S a b W : ℕ) (G : Good S a b) (B : 0 < b) (P : 0 < W) where
       let X = suc m * up e in
       let D = down e in
       let V' = mant S * place S in
-      subst (λ (z : ℕ). PowLe (lower true (16 * z) (15 * 2 ^ (size z - 24))) (16 * 2 ^ 149) X D × PowGe (upper true (16 * z) (15 * 2 ^ (size z - 24))) (16 * 2 ^ 149) X D) (sym (steps-is true true n V' f k)) (
+      subst (λ (z : ℕ). PowLe (lower true (16 * z) (15 * 2 ^ (size z - 24))) (16 * 2 ^ 149) X D × PowGe (upper true (16 * z) (15 * 2 ^ (size z - 24))) (16 * 2 ^ 149) X D) (sym (steps-is (fin true n f) true V' k)) (
         low-minus (16 * V') (15 * 2 ^ (size V' - 24)) (16 * 2 ^ 149) X D (mul-pos {m = 16} (lit< tt) (v-pos S G.from G.fits)) (same-ge (16 * V' + 15 * 2 ^ (size V' - 24)) (16 * 2 ^ 149) a b D X B (Q X D h.1) (high-u S G.from G.fits a b G)),
         high-minus (16 * V') (15 * 2 ^ (size V' - 24)) (16 * 2 ^ 149) X D (under S G.from G.fits) (same-le (16 * V' - 15 * 2 ^ (size V' - 24)) (16 * 2 ^ 149) a b D X B (Q X D h.1) (low-u S G.from G.fits a b G)),
       )
@@ -176,12 +179,9 @@ module _ (m : ℕ) (l : 2 ^ 23 ≤ m) (h : m < 2 ^ 24) where
       large p = omega arith
 
 -- ---- the values of x
-positive : (b : ℕ) → b < 2 ^ 31 → leb (2 ^ 31) b ≡ false
-positive b h = lt-leb (2 ^ 31) b h
-
 normal : (b : ℕ) → 2 ^ 23 ≤ b → b < 0x7f80_0000 → HasValue (of_bits binary32 b) false ((2 ^ 23 + b % 2 ^ 23) * 2 ^ (b / 2 ^ 23 - 1)) (2 ^ 149)
 normal b l h =
-    subst (λ (y : Bool). HasValue (of_bits binary32 b) y ((2 ^ 23 + b % 2 ^ 23) * 2 ^ (b / 2 ^ 23 - 1)) (2 ^ 149)) (positive b (omega arith))
+    subst (λ (y : Bool). HasValue (of_bits binary32 b) y ((2 ^ 23 + b % 2 ^ 23) * 2 ^ (b / 2 ^ 23 - 1)) (2 ^ 149)) (lt-leb (2 ^ 31) b (omega arith))
     (value-normal b (b / 2 ^ 23 - 1) (2 ^ 23 + b % 2 ^ 23) (omega arith) (omega arith) (omega arith) (omega arith))
 
 ln-near-up : (b : ℕ) → 0x3f80_0000 < b → b < 0x7f80_0000 → NearLn (of_bits binary32 b) (of_bits binary32 (ln_bits b))
@@ -207,7 +207,7 @@ ln-near-deep b l h =
     let s = shifted b l h in
     subst (λ (c : ℕ). NearLn (of_bits binary32 b) (of_bits binary32 c)) (sym (ln-deep b l h))
     (below-near (b * 2 ^ (z - 8)) s.least s.below (118 + z) (b % 2 ^ 23 * 1) (of_bits binary32 b) (omega arith) (omega (arith, s.most))
-    (subst (λ (y : Bool). HasValue (of_bits binary32 b) y (b % 2 ^ 23 * 1) (2 ^ 149)) (positive b (omega arith)) (subnormal b (omega arith))) (omega arith)
+    (subst (λ (y : Bool). HasValue (of_bits binary32 b) y (b % 2 ^ 23 * 1) (2 ^ 149)) (lt-leb (2 ^ 31) b (omega arith)) (subnormal b (omega arith))) (omega arith)
     (ap (λ (x : ℕ). x * 2 ^ (118 + z)) (whole b h) ∙ ap (λ (x : ℕ). b * 2 ^ x) (line z s.zeros) ∙ ap (λ (x : ℕ). b * x) (pow-add 2 (z - 8) 126) ∙ sym (mul_assoc b (2 ^ (z - 8)) (2 ^ 126))))
   where
     whole : (b : ℕ) → b < 2 ^ 23 → b % 2 ^ 23 * 1 ≡ b
@@ -227,7 +227,7 @@ high-1 b d = high-plus 0 b d 1 1 (0, le_refl 1)
 
 ln-near-1 : NearLn (of_bits binary32 0x3f80_0000) (of_bits binary32 0)
 ln-near-1 =
-    subst₂ (λ (x y : Float). NearLn x y) (sym one-is) (sym a-zero)
+    subst₂ (λ (x y : Float). NearLn x y) (sym one_f32_is) (sym plus-zero)
     (low-1 (15 * 2 ^ (size 0 - 24)) (16 * 2 ^ 149) (mul-pos {m = 15} (lit< tt) (pow_pos (size 0 - 24))), high-1 (15 * 2 ^ (size 0 - 24)) (16 * 2 ^ 149))
 
 -- ---- below 0, at 0, and where x is no number
@@ -255,7 +255,7 @@ negative b l h =
 none-near : (b : ℕ) → b < 2 ^ 32 → (b % 2 ^ 31 ≡ 0 → ⊥) → 0x7f80_0000 < b → NearLn (of_bits binary32 b) nan
 none-near b B z h =
     split 0x7f80_0000 (b % 2 ^ 31)
-    (λ k. subst (λ (y : Float). NearLn y nan) (sym (nan-bits b k)) refl)
+    (λ k. subst (λ (y : Float). NearLn y nan) (sym (nan_pattern b k)) refl)
     (λ k. split b 0xff80_0000
     (λ l. split (2 ^ 31) b (λ g. negative b g l) (λ g. absurd (z (omega arith))))
     (λ l. subst (λ (y : Float). NearLn y nan) (sym (ap (of_bits binary32) (last l k) ∙ minus-inf)) refl))
@@ -267,7 +267,7 @@ near-bits : (b : ℕ) → b < 2 ^ 32 → NearLn (of_bits binary32 b) (of_bits bi
 near-bits b B =
     split 0 (b % 2 ^ 31)
     (λ (p : 0 < b % 2 ^ 31). split 0x7f80_0000 b
-    (λ h. subst (λ (y : Float). NearLn (of_bits binary32 b) y) (sym (ap (of_bits binary32) (ln-none b (λ (e : b % 2 ^ 31 ≡ 0). omega arith) h) ∙ a-nan)) (none-near b B (λ (e : b % 2 ^ 31 ≡ 0). omega arith) h))
+    (λ h. subst (λ (y : Float). NearLn (of_bits binary32 b) y) (sym (ap (of_bits binary32) (ln-none b (λ (e : b % 2 ^ 31 ≡ 0). omega arith) h) ∙ the-nan)) (none-near b B (λ (e : b % 2 ^ 31 ≡ 0). omega arith) h))
     (λ h. split b 0x7f80_0000 (λ g. finite p g)
     (λ g. let e : b ≡ 0x7f80_0000 = omega arith in subst₂ (λ (x y : Float). NearLn x y) (sym (ap (of_bits binary32) e ∙ an-inf)) (sym (ap (of_bits binary32) (ln-inf b e) ∙ an-inf)) refl)))
     (λ z. subst (λ (y : Float). NearLn (of_bits binary32 b) y) (sym (ap (of_bits binary32) (ln-zero b (omega arith)) ∙ minus-inf)) (zeros z))
@@ -275,7 +275,7 @@ near-bits b B =
     zeros : b % 2 ^ 31 ≤ 0 → NearLn (of_bits binary32 b) (inf true)
     zeros z =
         split b 1
-        (λ l. subst (λ (y : Float). NearLn y (inf true)) (sym (ap (of_bits binary32) (first l) ∙ a-zero)) refl)
+        (λ l. subst (λ (y : Float). NearLn y (inf true)) (sym (ap (of_bits binary32) (first l) ∙ plus-zero)) refl)
         (λ l. subst (λ (y : Float). NearLn y (inf true)) (sym (ap (of_bits binary32) (second l z) ∙ minus-zero)) refl)
       where
         first : b < 1 → b ≡ 0

@@ -4,7 +4,8 @@ use Rattle.std.specs.Prelude.{ℕ, suc, ◌+◌, ◌*◌, ◌^◌, ◌≤◌, �
 use Rattle.std.specs.Float.{nan, inf, fin, binary32}
 use Rattle.std.specs.Float.Ieee.{up, down, fits}
 use Rattle.series.specs.Series.{full, num, one, ExpLe, ExpGe}
-use Rattle.exact.specs.Unit.{steps, ulp}
+use Rattle.scalar.specs.Root.{steps}
+use Rattle.exact.specs.Unit.{ulp}
 use Rattle.exponential.specs.Exp.{exp_of}
 use Rattle.exact_exponential.specs.Exp.{NearExp}
 

@@ -5,7 +5,8 @@ use Rattle.std.specs.Prelude.{ℕ, ◌*◌, ◌^◌, ◌≤◌, ◌≡◌, true,
 use Rattle.std.specs.Float.{nan, inf, fin, binary32}
 use Rattle.std.specs.Float.Ieee.{up, down, fits}
 use Rattle.series.specs.Series.{Close, full, num, one}
-use Rattle.exact.specs.Unit.{steps, ulp, unity}
+use Rattle.scalar.specs.Root.{steps}
+use Rattle.exact.specs.Unit.{ulp, unity}
 use Rattle.exponential.specs.Exp.{exp_of}
 
 -- ---- exp: from some N on all partial sums at |x|, or their reciprocals where x is negative, are that close

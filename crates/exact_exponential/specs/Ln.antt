@@ -2,7 +2,8 @@
 use Rattle.std.specs.Prelude.{ℕ, zero, suc, ◌+◌, ◌*◌, ◌≡◌, Bool, true, false, T, ℤ, pos, negsuc}
 use lib.Ieee.{Float, nan, inf, fin, binary32, up, down, fits}
 use Rattle.series.specs.Series.{ExpLe, ExpGe}
-use Rattle.exact.specs.Unit.{steps, ulp, unity}
+use Rattle.scalar.specs.Root.{steps}
+use Rattle.exact.specs.Unit.{ulp, unity}
 use Rattle.logarithm.specs.Ln.{ln_of}
 
 -- ---- ln: e ^ (r - u) ≤ x ≤ e ^ (r + u), u = 15/16 ulp

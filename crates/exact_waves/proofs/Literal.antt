@@ -13,9 +13,10 @@ use lib.Ieee.Bits.{of_bits-to_bits}
 use lib.Ieee.Exact.{HasValue}
 use Rattle.series.specs.Series.{sine, cosine}
 use Rattle.series.proofs.Addition.{full-pos}
+use Rattle.scalar.proofs.Nan.{the-nan}
 use Rattle.cases.proofs.Cases.{split}
 use Rattle.fixed.proofs.Sizes.{finite-value, size-le}
-use Rattle.exact.specs.Unit.{steps}
+use Rattle.scalar.specs.Root.{steps}
 use Rattle.exact_waves.specs.Near.{NearSin, NearCos}
 use Rattle.exact_waves.specs.Literal.{LiteralSin, LiteralCos, SinLiteral, CosLiteral}
 use Rattle.exact.proofs.Enclosure.{one-wave, less}
@@ -62,10 +63,6 @@ up_to (fin t m e) s v g k = le_of_mul-le-mul_right {k = 2 ^ 149} (le_trans (le_o
     go : (d F : ℕ) → 4 * F * d ≡ 4 * d * F
     go d F = omega arith
 
-nan_pattern : of_bits binary32 0x7fc0_0000 ≡ nan
-unfolding of_bits
-nan_pattern = refl
-
 bits-up-to : (b : ℕ) → b % 2 ^ 31 ≤ 0x4080_0000 → UpTo4 (of_bits binary32 b)
 bits-up-to b h = let w = finite-value b (lt b h) in up_to (of_bits binary32 b) (leb (2 ^ 31) b) w.0 w.1 (size-le (b % 2 ^ 31) 0x4080_0000 w.0 (2 ^ 151) w.2 (inr (lit≤ tt, refl)) h)
   where
@@ -88,7 +85,7 @@ unfolding sin_of
 sin-literal x F =
     let b = to_bits binary32 x in
     split 0x4080_0000 (b % 2 ^ 31)
-    (λ h. subst (λ (r : Float). LiteralSin x r) (sym (ap (of_bits binary32) (outside-bits sine b h) ∙ nan_pattern)) (sin-nan x))
+    (λ h. subst (λ (r : Float). LiteralSin x r) (sym (ap (of_bits binary32) (outside-bits sine b h) ∙ the-nan)) (sin-nan x))
     (λ h. sin-at x (of_bits binary32 (wave_bits sine b)) (subst UpTo4 (of_bits-to_bits binary32 x F) (bits-up-to b h)) (sin-near x F))
 
 pub cos-literal : CosLiteral
@@ -96,5 +93,5 @@ unfolding cos_of
 cos-literal x F =
     let b = to_bits binary32 x in
     split 0x4080_0000 (b % 2 ^ 31)
-    (λ h. subst (λ (r : Float). LiteralCos x r) (sym (ap (of_bits binary32) (outside-bits cosine b h) ∙ nan_pattern)) (cos-nan x))
+    (λ h. subst (λ (r : Float). LiteralCos x r) (sym (ap (of_bits binary32) (outside-bits cosine b h) ∙ the-nan)) (cos-nan x))
     (λ h. cos-at x (of_bits binary32 (wave_bits cosine b)) (subst UpTo4 (of_bits-to_bits binary32 x F) (bits-up-to b h)) (cos-near x F))

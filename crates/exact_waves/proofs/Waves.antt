@@ -2,11 +2,11 @@
 use mathlib.Core.Path.{◌≡◌, refl, sym, ap, ap₂, ◌∙◌, subst, subst₂}
 use mathlib.Core.Bool.{Bool, true, false, not, cond, beq}
 use Prim.Native.Nat.{ℕ, suc, ◌+◌, ◌-◌, ◌*◌, ◌/◌, ◌%◌, ◌^◌, ◌≤◌, ◌<◌}
-use native.Mathlib.Nat.{lt_of_not-le, not-le_of_lt, le_trans, le_of_eq, le_of_lt, lt_of_lt_of_le, mul_assoc, mul_comm, mul_right_comm, mul-le-mul, mul-le-mul_left, mul-le-mul_right, le-mul_of_pos_right, le_of_mul-le-mul_right, eq_of_mul-eq-mul_right}
+use native.Mathlib.Nat.{add-sub_of_le, lt_of_not-le, not-le_of_lt, le_trans, le_of_eq, le_of_lt, lt_of_lt_of_le, mul_assoc, mul_comm, mul_right_comm, mul-le-mul, mul-le-mul_left, mul-le-mul_right, le-mul_of_pos_right, le_of_mul-le-mul_right, eq_of_mul-eq-mul_right}
 use native.Mathlib.Omega.{arith}
 use mathlib.Core.Logic.{◌⊎◌, inl, inr}
 use lib.Dec.{T, eqb, leb, lit<, lit≤}
-use lib.IntN.{ℤ, pos}
+use lib.IntN.{ℤ}
 use lib.Pow.{pow_pos, pow-add}
 use lib.Count.{count_leading_zeros}
 use borrow.Author.Tests.{le-leb, lt-leb}
@@ -15,14 +15,15 @@ use lib.Ieee.Fits.{down_pos}
 use lib.Ieee.Bits.{of_bits-to_bits, to_bits-lt}
 use lib.Ieee.Exact.{HasValue}
 use Rattle.series.specs.Series.{Kind, sine, cosine}
-use Rattle.series.proofs.Pairs.{sums, Limit, Ksin, Kcos, shift, top, bottom, Kat, den_pos, sin-pos, cos-pos}
+use Rattle.series.proofs.Pairs.{sums, Limit, Ksin, Kcos, shift, start, Kat, den_pos, sin-pos, cos-pos}
 use Rattle.series.proofs.Classes.{sin-later, cos-later}
 use Rattle.waves.specs.SinCos.{ratio_of, sine_at, quarter_turn, half_turn, three_quarters, mag_of, at_small, wave_at, wave_bits, sin_of, cos_of}
 use Rattle.fixed.specs.Fixed.{mant}
-use Rattle.exact.specs.Unit.{steps, ulp}
+use Rattle.scalar.specs.Root.{steps}
+use Rattle.exact.specs.Unit.{ulp}
 use Rattle.exact_waves.specs.Near.{NearSin, NearCos, SinNear, CosNear}
 use Rattle.series.proofs.Alternating.{Low, High, limit}
-use Rattle.fixed.proofs.Round.{rounded}
+use Rattle.fixed.proofs.Round.{rounded, top_of}
 use Rattle.wave_bounds.proofs.Kernel.{kernel}
 use Rattle.wave_bounds.proofs.Turns.{sin-below-half, sin-above-half, cos-below-quarter, cos-above-quarter, cos-below-three}
 use Rattle.wave_bounds.proofs.Folds.{fold-plus, fold-minus}
@@ -30,10 +31,13 @@ use Rattle.wave_bounds.proofs.Rounding.{exponent, rounds}
 use Rattle.series.proofs.WaveFraction.{same-limit, wider-limit, later}
 use Rattle.fixed.proofs.Values.{value, v-small, ulp-ge, ulps, bits-255, sign-plus}
 use Rattle.fixed.proofs.Sizes.{finite-value, size-lt}
-use Rattle.exact.proofs.Unit.{steps-is}
+use Rattle.scalar.proofs.Patterns.{steps-is}
+use Rattle.std.proofs.lemmas.Float.{one_f32_is}
+use Rattle.rounding.proofs.Units.{same_sign}
+use Rattle.scalar.proofs.Nan.{the-nan}
 use Rattle.cases.proofs.Cases.{split}
 use Rattle.waves.proofs.Magnitude.{mag-le, mag-ge, grain}
-use Rattle.waves.proofs.Patterns.{top_of, packed, sine-at-lt, sin-direct, sin-below, sin-above, cos-below, cos-above, cos-beyond, small-bits, large-bits, outside-bits}
+use Rattle.waves.proofs.Patterns.{packed, sine-at-lt, sin-direct, sin-below, sin-above, cos-below, cos-above, cos-beyond, small-bits, large-bits, outside-bits}
 
 -- ---- one statement for both: the sign of r (t) is taken as it stands, or turned where x's sign s turns a sine
 abbrev agrees : Kind → Bool → Bool → Bool
@@ -46,7 +50,7 @@ NearWave w (inf s) r = r ≡ nan
 NearWave w (fin s m e) nan = 4 * down e < m * up e
 NearWave w (fin s m e) (inf t) = ⊥
 NearWave w (fin s m e) (fin t n f) =
-    Limit (Kat (shift w)) (m * up e) (down e) (top w (m * up e)) (bottom w (down e)) 9 (16 * 2 ^ 149)
+    Limit (Kat (shift w)) (m * up e) (down e) (start w (m * up e)) (start w (down e)) 9 (16 * 2 ^ 149)
     (16 * cond (agrees w s t) (steps (fin t n f)) 0)
     (16 * cond (agrees w s t) 0 (steps (fin t n f)))
     (15 * ulp (fin t n f))
@@ -73,23 +77,19 @@ cross m X e h =
 
 module _ (w : Kind) (s t g : Bool) (G : agrees w s t ≡ g) (X v u : ℕ) (U : u ≤ 2 ^ (size v - 24)) where
   near-at : (x r : Float) → HasValue x s (X * 2 ^ 88) (2 ^ 149) → HasValue r t v (2 ^ 149)
-      → Limit (Kat (shift w)) X (2 ^ 61) (top w X) (bottom w (2 ^ 61)) 9 (16 * 2 ^ 149) (16 * cond g v 0) (16 * cond g 0 v) (15 * u) → NearWave w x r
+      → Limit (Kat (shift w)) X (2 ^ 61) (start w X) (start w (2 ^ 61)) 9 (16 * 2 ^ 149) (16 * cond g v 0) (16 * cond g 0 v) (15 * u) → NearWave w x r
   near-at nan r h k L = absurd h
   near-at (inf a) r h k L = absurd h
   near-at (fin a m e) nan h k L = absurd k
   near-at (fin a m e) (inf b) h k L = k
   near-at (fin a m e) (fin b n f) h k L =
-      let st : steps (fin b n f) ≡ v = steps-is t b n v f k in
+      let st : steps (fin b n f) ≡ v = steps-is (fin b n f) t v k in
       let q : agrees w a b ≡ g = ap₂ (λ (y z : Bool). agrees w y z) h.0 k.0 ∙ G in
-      subst₂ (λ (y : Bool) (z : ℕ). Limit (Kat (shift w)) (m * up e) (down e) (top w (m * up e)) (bottom w (down e)) 9 (16 * 2 ^ 149) (16 * cond y z 0) (16 * cond y 0 z) (15 * 2 ^ (size z - 24))) (sym q) (sym st)
-      (wider-limit (Kat (shift w)) (m * up e) (down e) (top w (m * up e)) (bottom w (down e)) 9 (16 * 2 ^ 149) (16 * cond g v 0) (16 * cond g 0 v) (15 * u) (15 * 2 ^ (size v - 24)) (mul-le-mul_left 15 U)
+      subst₂ (λ (y : Bool) (z : ℕ). Limit (Kat (shift w)) (m * up e) (down e) (start w (m * up e)) (start w (down e)) 9 (16 * 2 ^ 149) (16 * cond y z 0) (16 * cond y 0 z) (15 * 2 ^ (size z - 24))) (sym q) (sym st)
+      (wider-limit (Kat (shift w)) (m * up e) (down e) (start w (m * up e)) (start w (down e)) 9 (16 * 2 ^ 149) (16 * cond g v 0) (16 * cond g 0 v) (15 * u) (15 * 2 ^ (size v - 24)) (mul-le-mul_left 15 U)
       (same-limit w (Kat (shift w)) X (2 ^ 61) (m * up e) (down e) (pow_pos 61) (cross m X e h.1) 9 (16 * 2 ^ 149) (16 * cond g v 0) (16 * cond g 0 v) (15 * u) L))
 
 -- ---- from 2 ^ -12 to 4
-beq_same : (s : Bool) → beq s s ≡ true
-beq_same true = refl
-beq_same false = refl
-
 beq-not : (s : Bool) → beq s (not s) ≡ false
 beq-not true = refl
 beq-not false = refl
@@ -107,7 +107,7 @@ sign-minus : (b p : ℕ) → b < 2 ^ 32 → p < 255 * 2 ^ 23 → leb (2 ^ 31) ((
 sign-minus b p B h = split b (2 ^ 31) (λ l. le-leb (2 ^ 31) ((1 - b / 2 ^ 31) * 2 ^ 31 + p) (omega arith) ∙ sym (ap not (lt-leb (2 ^ 31) b l))) (λ l. lt-leb (2 ^ 31) ((1 - b / 2 ^ 31) * 2 ^ 31 + p) (omega arith) ∙ sym (ap not (le-leb (2 ^ 31) b l)))
 
 sign-agrees : (w : Kind) (g : Bool) (b p : ℕ) → b < 2 ^ 32 → p < 255 * 2 ^ 23 → agrees w (leb (2 ^ 31) b) (leb (2 ^ 31) (sign_at g (sign_of w b) * 2 ^ 31 + p)) ≡ g
-sign-agrees sine true b p B h = ap (λ (y : Bool). beq (leb (2 ^ 31) b) y) (sign-plus b p h) ∙ beq_same (leb (2 ^ 31) b)
+sign-agrees sine true b p B h = ap (λ (y : Bool). beq (leb (2 ^ 31) b) y) (sign-plus b p h) ∙ same_sign (leb (2 ^ 31) b)
 sign-agrees cosine true b p B h = ap not (lt-leb (2 ^ 31) (0 * 2 ^ 31 + p) (omega arith))
 sign-agrees sine false b p B h = ap (λ (y : Bool). beq (leb (2 ^ 31) b) y) (sign-minus b p B h) ∙ beq-not (leb (2 ^ 31) b)
 sign-agrees cosine false b p B h = ap not (le-leb (2 ^ 31) ((1 - 0) * 2 ^ 31 + p) (omega arith))
@@ -126,7 +126,7 @@ pub record Folded (w : Kind) (b : ℕ) (g : Bool) : Type 0 where
   pub least : 2 ^ 36 ≤ r
   pub most : r < 2 ^ 62
   pub bits : wave_at w (b / 2 ^ 31) (mag_of (b % 2 ^ 31)) ≡ sign_at g (sign_of w b) * 2 ^ 31 + sine_at r
-  pub near : Limit (Kat (shift w)) (mag_of (b % 2 ^ 31)) (2 ^ 61) (top w (mag_of (b % 2 ^ 31))) (bottom w (2 ^ 61)) 9 (2 ^ 93) (cond g (ratio_of r * r) 0) (cond g 0 (ratio_of r * r)) (20 * r + 2 ^ 37 + 2 ^ 30)
+  pub near : Limit (Kat (shift w)) (mag_of (b % 2 ^ 31)) (2 ^ 61) (start w (mag_of (b % 2 ^ 31))) (start w (2 ^ 61)) 9 (2 ^ 93) (cond g (ratio_of r * r) 0) (cond g 0 (ratio_of r * r)) (20 * r + 2 ^ 37 + 2 ^ 30)
 
 abbrev Grain : ℕ → Type 0
 Grain X = (X < 2 ^ 61) ⊎ ((k : ℕ) × (X ≡ k * 2 ^ 38))
@@ -161,12 +161,6 @@ module _ (b : ℕ) (h : b % 2 ^ 31 ≤ 0x4080_0000) where
   X-grain : Grain (mag_of (b % 2 ^ 31))
   X-grain = grain (b % 2 ^ 31)
 
-  rest_of : (X T : ℕ) → X ≤ T → X + (T - X) ≡ T
-  rest_of X T l = omega arith
-
-  past_of : (X T : ℕ) → T < X → T + (X - T) ≡ X
-  past_of X T l = omega arith
-
   direct : X ≤ quarter_turn → Folded sine b true
   direct l =
       let m : X < 2 ^ 62 = le_trans (lt-suc X quarter_turn l) (lit≤ tt) in
@@ -192,7 +186,7 @@ module _ (b : ℕ) (h : b % 2 ^ 31 ≤ 0x4080_0000) where
         least = below_half X X-grain l;
         most = m;
         bits = sin-below X (b / 2 ^ 31) k l;
-        near = fold-plus sine X (half_turn - X) X-le m (sin-below-half X (half_turn - X) X-five (le_of_lt m) (rest_of X half_turn l));
+        near = fold-plus sine X (half_turn - X) X-le m (sin-below-half X (half_turn - X) X-five (le_of_lt m) (add-sub_of_le l));
       }
     where
       go : (X : ℕ) → quarter_turn < X → half_turn - X < 2 ^ 62
@@ -206,7 +200,7 @@ module _ (b : ℕ) (h : b % 2 ^ 31 ≤ 0x4080_0000) where
         least = above_half X X-grain k;
         most = m;
         bits = sin-above X (b / 2 ^ 31) k;
-        near = fold-minus sine X (X - half_turn) X-le m (sin-above-half X (X - half_turn) X-five (le_of_lt m) (past_of X half_turn k));
+        near = fold-minus sine X (X - half_turn) X-le m (sin-above-half X (X - half_turn) X-five (le_of_lt m) (add-sub_of_le (le_of_lt k)));
       }
     where
       go : (X : ℕ) → X ≤ 2 ^ 63 → X - half_turn < 2 ^ 62
@@ -220,7 +214,7 @@ module _ (b : ℕ) (h : b % 2 ^ 31 ≤ 0x4080_0000) where
         least = below-quarter X X-grain l;
         most = m;
         bits = cos-below X (b / 2 ^ 31) l;
-        near = fold-plus cosine X (quarter_turn - X) X-le m (cos-below-quarter X (quarter_turn - X) X-five (le_of_lt m) (rest_of X quarter_turn l));
+        near = fold-plus cosine X (quarter_turn - X) X-le m (cos-below-quarter X (quarter_turn - X) X-five (le_of_lt m) (add-sub_of_le l));
       }
     where
       go : (X : ℕ) → quarter_turn - X < 2 ^ 62
@@ -234,7 +228,7 @@ module _ (b : ℕ) (h : b % 2 ^ 31 ≤ 0x4080_0000) where
         least = above-quarter X X-grain k;
         most = m;
         bits = cos-above X (b / 2 ^ 31) k l;
-        near = fold-minus cosine X (X - quarter_turn) X-le m (cos-above-quarter X (X - quarter_turn) X-five (le_of_lt m) (past_of X quarter_turn k));
+        near = fold-minus cosine X (X - quarter_turn) X-le m (cos-above-quarter X (X - quarter_turn) X-five (le_of_lt m) (add-sub_of_le (le_of_lt k)));
       }
     where
       go : (X : ℕ) → X ≤ half_turn → X - quarter_turn < 2 ^ 62
@@ -248,7 +242,7 @@ module _ (b : ℕ) (h : b % 2 ^ 31 ≤ 0x4080_0000) where
         least = away X X-le;
         most = m;
         bits = cos-beyond X (b / 2 ^ 31) k;
-        near = fold-minus cosine X (three_quarters - X) X-le m (cos-below-three X (three_quarters - X) X-five (le_of_lt m) (rest_of X three_quarters (le_trans X-le (lit≤ tt))));
+        near = fold-minus cosine X (three_quarters - X) X-le m (cos-below-three X (three_quarters - X) X-five (le_of_lt m) (add-sub_of_le (le_trans X-le (lit≤ tt))));
       }
     where
       go : (X : ℕ) → half_turn < X → three_quarters - X < 2 ^ 62
@@ -281,7 +275,7 @@ near-folded w b g B l h F =
     let c = sign_at g (sign_of w b) in
     near-at w (leb (2 ^ 31) b) (leb (2 ^ 31) (c * 2 ^ 31 + sine_at r)) g (sign-agrees w g b (sine_at r) B (sine-at-lt r (lt_of_lt_of_le (lit< tt) F.least) F.most)) (mag_of (b % 2 ^ 31)) (mant p * 2 ^ exponent r F.least F.most) (2 ^ exponent r F.least F.most) (ulp-ge (mant p) (exponent r F.least F.most) (rounded p z.big z.fits).least)
     (of_bits binary32 b) (of_bits binary32 (wave_bits w b)) (x-value b l h) (sine-value (wave_bits w b) c r (large-bits w b l h ∙ F.bits) F.least F.most)
-    (rounds r F.least F.most g (Kat (shift w)) (mag_of (b % 2 ^ 31)) (2 ^ 61) (top w (mag_of (b % 2 ^ 31))) (bottom w (2 ^ 61)) 9 F.near)
+    (rounds r F.least F.most g (Kat (shift w)) (mag_of (b % 2 ^ 31)) (2 ^ 61) (start w (mag_of (b % 2 ^ 31))) (start w (2 ^ 61)) 9 F.near)
 
 near-large : (w : Kind) (b : ℕ) → b < 2 ^ 32 → 0x3980_0000 ≤ b % 2 ^ 31 → b % 2 ^ 31 ≤ 0x4080_0000 → NearWave w (of_bits binary32 b) (of_bits binary32 (wave_bits w b))
 near-large sine b B l h =
@@ -339,20 +333,16 @@ module _ (n d : ℕ) (small : n * 2 ^ 12 ≤ d) where
   cos-limit : Limit Kcos n d 1 1 9 (16 * 2 ^ 149) (16 * 2 ^ 149) 0 (15 * 2 ^ 126)
   cos-limit = later Kcos n d 1 1 1 9 (16 * 2 ^ 149) (16 * 2 ^ 149) 0 (15 * 2 ^ 126) (lit≤ tt) (limit Kcos n d (16 * 2 ^ 149) (16 * 2 ^ 149) 0 (15 * 2 ^ 126) 1 1 1 (falls-small n d small cosine) (cos-low (2 ^ 126)) (cos-high (2 ^ 126)))
 
-one-is : of_bits binary32 0x3f80_0000 ≡ fin false 1 (pos 0)
-unfolding of_bits
-one-is = refl
-
 small_at : (w : Kind) (b : ℕ) (s : Bool) (v m : ℕ) (a : Bool) (e : ℤ) → of_bits binary32 b ≡ fin a m e → HasValue (fin a m e) s v (2 ^ 149) → m * up e * 2 ^ 12 ≤ down e → NearWave w (fin a m e) (of_bits binary32 (at_small w b))
 unfolding size
 small_at sine b s v m a e E h sm =
     let n = m * up e in
     let d = down e in
-    let st : steps (fin a m e) ≡ v = steps-is s a m v e h in
+    let st : steps (fin a m e) ≡ v = steps-is (fin a m e) s v h in
     subst (λ (r : Float). NearWave sine (fin a m e) r) (sym E)
-    (subst₂ (λ (y : Bool) (z : ℕ). Limit Ksin n d n d 9 (16 * 2 ^ 149) (16 * cond y z 0) (16 * cond y 0 z) (15 * 2 ^ (size z - 24))) (sym (beq_same a)) (sym st)
+    (subst₂ (λ (y : Bool) (z : ℕ). Limit Ksin n d n d 9 (16 * 2 ^ 149) (16 * cond y z 0) (16 * cond y 0 z) (15 * 2 ^ (size z - 24))) (sym (same_sign a)) (sym st)
     (limit₁ n d v (2 ^ (size v - 24)) (2 ^ 149) (down_pos e) h.1 sm (ulps v)))
-small_at cosine b s v m a e E h sm = subst (λ (r : Float). NearWave cosine (fin a m e) r) (sym one-is) (cos-limit (m * up e) (down e) sm)
+small_at cosine b s v m a e E h sm = subst (λ (r : Float). NearWave cosine (fin a m e) r) (sym one_f32_is) (cos-limit (m * up e) (down e) sm)
 
 near-small : (w : Kind) (b : ℕ) (s : Bool) (v : ℕ) (x : Float) → of_bits binary32 b ≡ x → HasValue x s v (2 ^ 149) → v ≤ 2 ^ 137 → NearWave w x (of_bits binary32 (at_small w b))
 near-small w b s v nan E h k = absurd h
@@ -363,10 +353,6 @@ near-small w b s v (fin a m e) E h k =
     small_at w b s v m a e E h (le_of_mul-le-mul_right {k = 2 ^ 137} (le_trans (le_of_eq (mul_assoc n (2 ^ 12) (2 ^ 137) ∙ h.1)) (le_trans (mul-le-mul_right d k) (le_of_eq (mul_comm (2 ^ 137) d)))) (pow_pos 137))
 
 -- ---- outside -4 to 4, and at NaN
-nan_pattern : of_bits binary32 0x7fc0_0000 ≡ nan
-unfolding of_bits
-nan_pattern = refl
-
 near-outside : (w : Kind) (b : ℕ) → 0x4080_0000 < b % 2 ^ 31 → NearWave w (of_bits binary32 b) nan
 near-outside w b h =
     split (b % 2 ^ 31) 0x7f80_0000
@@ -397,7 +383,7 @@ near-bits w b B =
     (λ l.
     let v = v-small b l in
     subst (λ (c : ℕ). NearWave w (of_bits binary32 b) (of_bits binary32 c)) (sym (small-bits w b l)) (near-small w b (leb (2 ^ 31) b) v.0 (of_bits binary32 b) refl v.1 v.2))
-    (λ l. split 0x4080_0000 (b % 2 ^ 31) (λ h. subst (λ (r : Float). NearWave w (of_bits binary32 b) r) (sym (ap (of_bits binary32) (outside-bits w b h) ∙ nan_pattern)) (near-outside w b h)) (λ h. near-large w b B l h))
+    (λ l. split 0x4080_0000 (b % 2 ^ 31) (λ h. subst (λ (r : Float). NearWave w (of_bits binary32 b) r) (sym (ap (of_bits binary32) (outside-bits w b h) ∙ the-nan)) (near-outside w b h)) (λ h. near-large w b B l h))
 
 near-wave : (w : Kind) (x : Float) → T (fits binary32 x) → NearWave w x (of_bits binary32 (wave_bits w (to_bits binary32 x)))
 near-wave w x F = subst (λ (y : Float). NearWave w y (of_bits binary32 (wave_bits w (to_bits binary32 x)))) (of_bits-to_bits binary32 x F) (near-bits w (to_bits binary32 x) (to_bits-lt binary32 x F))

@@ -3,7 +3,8 @@ use Rattle.std.specs.Prelude.{◌*◌, cond, T, Float}
 use Rattle.std.specs.Bool.{beq}
 use Rattle.std.specs.Float.{nan, inf, fin, binary32}
 use Rattle.std.specs.Float.Ieee.{up, down, fits}
-use Rattle.exact.specs.Unit.{steps, ulp}
+use Rattle.scalar.specs.Root.{steps}
+use Rattle.exact.specs.Unit.{ulp}
 use Rattle.exact.specs.Enclosure.{TwoFractions}
 use Rattle.waves.specs.SinCos.{sin_of, cos_of}
 

@@ -6,7 +6,8 @@ use Rattle.std.specs.Bool.{beq}
 use Rattle.std.specs.Float.{nan, inf, fin, binary32}
 use Rattle.std.specs.Float.Ieee.{up, down, fits}
 use Rattle.series.specs.Series.{Close, full, num, class}
-use Rattle.exact.specs.Unit.{steps, ulp, unity}
+use Rattle.scalar.specs.Root.{steps}
+use Rattle.exact.specs.Unit.{ulp, unity}
 use Rattle.waves.specs.SinCos.{sin_of, cos_of}
 
 -- ---- sin

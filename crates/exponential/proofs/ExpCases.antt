@@ -2,7 +2,7 @@
 use mathlib.Core.Path.{◌≡◌, sym, ap, ◌∙◌}
 use mathlib.Core.Bool.{Bool}
 use Prim.Native.Nat.{ℕ, ◌+◌, ◌-◌, ◌*◌, ◌/◌, ◌%◌, ◌^◌, ◌≤◌, ◌<◌}
-use native.Mathlib.Nat.{le_trans, le_of_eq, le_of_lt, mul-le-mul, mul-le-mul_right}
+use native.Mathlib.Nat.{le_trans, le_of_eq, le_of_lt, mul-le-mul, mul-le-mul_right, lt_of_lt_of_le}
 use native.Mathlib.Omega.{arith}
 use lib.Dec.{ltb, lit≤, lit<}
 use lib.Pow.{pow_mono}
@@ -92,11 +92,8 @@ module _ (b v : ℕ) (e : v ≡ pick (ltb (b / 2 ^ 31) 1) 0x42b1_7218 0x42d0_000
   pub at-signed : (w : ℕ) → 0x3300_0000 ≤ b % 2 ^ 31 → b % 2 ^ 31 < v → w ≡ pick (ltb (b / 2 ^ 31) 1) (grown (scaled_of (b % 2 ^ 31) 94)) (shrunk (scaled_of (b % 2 ^ 31) 94)) → w ≡ exp_bits b
   at-signed w l k f =
       split (b / 2 ^ 31) 1
-      (λ s. if-plus s (grown (scaled_of (b % 2 ^ 31) 94)) (shrunk (scaled_of (b % 2 ^ 31) 94)) f ∙ sym (at-plus b s l (less (if-plus s 0x42b1_7218 0x42d0_0000 e) k)))
-      (λ s. if-minus s (grown (scaled_of (b % 2 ^ 31) 94)) (shrunk (scaled_of (b % 2 ^ 31) 94)) f ∙ sym (at-minus b s l (less (if-minus s 0x42b1_7218 0x42d0_0000 e) k)))
-    where
-      less : {a x y : ℕ} → x ≡ y → a < x → a < y
-      less p q = omega arith
+      (λ s. if-plus s (grown (scaled_of (b % 2 ^ 31) 94)) (shrunk (scaled_of (b % 2 ^ 31) 94)) f ∙ sym (at-plus b s l (lt_of_lt_of_le k (le_of_eq (if-plus s 0x42b1_7218 0x42d0_0000 e)))))
+      (λ s. if-minus s (grown (scaled_of (b % 2 ^ 31) 94)) (shrunk (scaled_of (b % 2 ^ 31) 94)) f ∙ sym (at-minus b s l (lt_of_lt_of_le k (le_of_eq (if-minus s 0x42b1_7218 0x42d0_0000 e)))))
 
   pub limit-le : v ≤ 0x42d0_0000
   limit-le = split (b / 2 ^ 31) 1 (λ s. le_trans (le_of_eq (if-plus s 0x42b1_7218 0x42d0_0000 e)) (lit≤ tt)) (λ s. le_of_eq (if-minus s 0x42b1_7218 0x42d0_0000 e))
@@ -104,12 +101,9 @@ module _ (b v : ℕ) (e : v ≡ pick (ltb (b / 2 ^ 31) 1) 0x42b1_7218 0x42d0_000
   pub in-range : b % 2 ^ 31 < v → scaled_of (b % 2 ^ 31) 94 + (1 - b / 2 ^ 31) * (0x1e_8de9 * 2 ^ 39) ≤ 104 * 2 ^ 56
   in-range k =
       split (b / 2 ^ 31) 1
-      (λ s. plus' (scaled_of (b % 2 ^ 31) 94) (b / 2 ^ 31) (below-plus (b % 2 ^ 31) (less (if-plus s 0x42b1_7218 0x42d0_0000 e) k)))
-      (λ s. minus' (scaled_of (b % 2 ^ 31) 94) (b / 2 ^ 31) s (below-minus (b % 2 ^ 31) (less (if-minus s 0x42b1_7218 0x42d0_0000 e) k)))
+      (λ s. plus' (scaled_of (b % 2 ^ 31) 94) (b / 2 ^ 31) (below-plus (b % 2 ^ 31) (lt_of_lt_of_le k (le_of_eq (if-plus s 0x42b1_7218 0x42d0_0000 e)))))
+      (λ s. minus' (scaled_of (b % 2 ^ 31) 94) (b / 2 ^ 31) s (below-minus (b % 2 ^ 31) (lt_of_lt_of_le k (le_of_eq (if-minus s 0x42b1_7218 0x42d0_0000 e)))))
     where
-      less : {a x y : ℕ} → x ≡ y → a < x → a < y
-      less p q = omega arith
-
       plus' : (x s : ℕ) → x ≤ 0xb1_7217 * 2 ^ 39 → x + (1 - s) * (0x1e_8de9 * 2 ^ 39) ≤ 104 * 2 ^ 56
       plus' x s h = omega arith
 

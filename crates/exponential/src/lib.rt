@@ -95,7 +95,8 @@ fn either(s: u32, plus: u32, minus: u32) -> u32
 }
 
 // the pattern of h * 2^(e - 62), or of h * 2^-(e + 63)
-// Stays: a shift that rounds is one expression, written out here twice and once in `fixed`.
+// Stays: a shift that rounds is one expression, written out here twice and once in `fixed`; a function of it would take the number
+// of places, ask that they are below 64, and be cast as these are.
 fn packed(s: u32, e: u64, h: u64) -> u32
     requires { (s < 2) × (e ≤ 127 + s * 23) }
     ensures { result ≡ pick (ltb s 1) ((126 + e) * 2 ^ 23 + rounded_to24 h) (lowered e h) }
@@ -133,6 +134,7 @@ fn exp_bits(b: u32) -> u32
     signed(s, scaled(a, 94))
 }
 
+// Stays: as `ln`, `sin` and the others, each one line; one function for them would be handed `exp_bits`, and a call of it as long.
 pub fn exp(x: f32) -> f32
     ensures { result ≡ exp_of x }
 {

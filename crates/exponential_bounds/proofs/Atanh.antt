@@ -1,20 +1,18 @@
 -- ln ((1 + s) / (1 - s)) is 2 (s + s³ / 3 + s⁵ / 5) but for 2 ^ -27 of it, for s up to 1/32.
 -- With s = n / D the bounds hold at n = 0, and one step of n multiplies (D + n) / (D - n) by 1 + 2 D / ((D - n - 1) (D + n)), and e to the bounds' growth is on the right side of that: 1 + w ≤ e ^ w ≤ 1 + w + w².
-use mathlib.Core.Path.{◌≡◌, sym, ap, ◌∙◌, subst, subst₂}
+use mathlib.Core.Path.{◌≡◌, sym, ap, subst, subst₂}
 use Prim.Native.Nat.{ℕ, zero, suc, ◌+◌, ◌-◌, ◌*◌, ◌^◌, ◌≤◌, ◌<◌}
-use native.Mathlib.Nat.{le_trans, le_of_eq, le_refl, mul-le-mul, mul-le-mul_left, mul-le-mul_right, mul-pos, pow-suc}
+use native.Mathlib.Nat.{le_trans, le_of_eq, le_refl, mul-le-mul, mul-le-mul_left, mul-le-mul_right, mul-pos, le_intro}
 use native.Mathlib.Omega.{arith}
 use lib.Dec.{lit<}
 use Rattle.series.specs.Series.{full, num, one, ExpLe, ExpGe}
 use Rattle.series.proofs.Exponential.{enclosed}
 use Rattle.exponential_bounds.specs.OwnSeries.{three_terms, LnOwnSeries}
-use Rattle.exponential_bounds.proofs.Terms.{pow-1, full-1, num-1}
+use Rattle.series.proofs.Terms.{pow-1, pow-2, full-1}
+use Rattle.exponential_bounds.proofs.Terms.{num-1}
 use Rattle.exponential_bounds.proofs.Exponents.{zero-le, le-times, ge-times, same-le, same-ge, enc-le}
 
 -- ---- 1 + w + w² / 2 at w / Y
-pow-2 : (w : ℕ) → w ^ 2 ≡ w * w
-pow-2 w = pow-suc w 1 ∙ ap (λ (x : ℕ). x * w) (pow-1 w)
-
 full-2 : (Y : ℕ) → full Y 2 ≡ 2 * (Y * Y)
 unfolding full
 full-2 Y = omega arith
@@ -115,10 +113,7 @@ module _ (D : ℕ) (big : 2 ^ 48 ≤ D) where
         let K = z * (D + suc n) in
         let k : K + suc n * suc n ≡ E = omega (arith, ap (λ (x : ℕ). x * D) e, ap (λ (x : ℕ). suc n * x) e) in
         let a : s ≤ K = mul-le-mul_left z (omega arith) in
-        le_trans (mul-le-mul_right (slope (suc n) E) a) (part (K * slope (suc n) E) (suc n * suc n * (suc n * suc n) * (suc n * suc n)) (E * E * E) (slope-cube K (suc n) E k))
-      where
-        part : (x y t : ℕ) → x + y ≡ t → x ≤ t
-        part x y t p = omega arith
+        le_trans (mul-le-mul_right (slope (suc n) E) a) (le_intro (K * slope (suc n) E) (suc n * suc n * (suc n * suc n) * (suc n * suc n)) (slope-cube K (suc n) E k))
 
     -- 2 ^ 27 w ≤ unit
     w-small : 2 ^ 27 * w ≤ unit

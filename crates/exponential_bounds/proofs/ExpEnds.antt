@@ -10,7 +10,8 @@ use Rattle.series.proofs.Exponential.{Enc, enclosed, ok, tested}
 use Rattle.series.proofs.Reciprocal.{reciprocal, from-rec}
 use Rattle.series.proofs.ExpFraction.{beyond}
 use Rattle.exponential.specs.Tables.{ln2}
-use Rattle.exponential_bounds.proofs.Terms.{full-1, num-1, pow-1}
+use Rattle.series.proofs.Terms.{full-1, pow-1}
+use Rattle.exponential_bounds.proofs.Terms.{num-1}
 use Rattle.exponential_bounds.proofs.ExpNear.{Sums, Recs, from-enc}
 
 -- ---- from 0xb17218 / 2 ^ 17 up

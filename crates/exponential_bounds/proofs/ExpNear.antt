@@ -8,7 +8,7 @@ use lib.Pow.{pow_pos, pow_mono, pow-add}
 use Rattle.series.specs.Series.{full, num, one, Close}
 use Rattle.series.proofs.Exponential.{Enc, times}
 use Rattle.series.proofs.ExpFraction.{weaken}
-use Rattle.series.proofs.Reciprocal.{Rec, quotient, slacken, from-rec}
+use Rattle.series.proofs.Reciprocal.{Rec, quotient, slacken, close, from-rec}
 use Rattle.series.proofs.Weighted.{low-later}
 use Rattle.exponential.specs.Tables.{ln2}
 use Rattle.exponential.specs.Exp.{power_of, rounded_to24}
@@ -24,14 +24,7 @@ Recs n d v u = (N : ℕ) × ((k : ℕ) → N ≤ k → Close (16 * 2 ^ 149) (16 
 
 -- from an enclosure to all later partial sums
 pub from-enc : (n d lo hi m v r u : ℕ) → 0 < d → 0 < m → Enc n d lo hi m → r * m ≤ v * lo + u * m → v * hi ≤ (r + u) * m → (N : ℕ) × ((k : ℕ) → N ≤ k → Close v r 0 u (num one n d k) 0 (full d k))
-from-enc n d lo hi m v r u D P E a b = (E.at, λ k l. fin (num one n d k) (full d k) (low-later one (λ (j : ℕ). le_refl 1) n d lo m E.at D E.low k l) (E.high k))
-  where
-    fin : (x f : ℕ) → lo * f ≤ m * x → m * x ≤ hi * f → Close v r 0 u x 0 f
-    fin x f p q =
-        record {
-          low = le_of_mul-le-mul_right {k = m} (omega (arith, mul-le-mul_right f a, mul-le-mul_left v p)) P;
-          high = le_of_mul-le-mul_right {k = m} (omega (arith, mul-le-mul_right f b, mul-le-mul_left v q)) P;
-        }
+from-enc n d lo hi m v r u D P E a b = (E.at, λ k l. close m lo hi v r u (num one n d k) (full d k) P a b (low-later one (λ (j : ℕ). le_refl 1) n d lo m E.at D E.low k l) (E.high k))
 
 -- ---- a value from h - κ to h + κ, times c / m, is near v * u / P, for v the nearest to h over 2 * g
 module _ (P c m u v g h h' κ : ℕ) (E : u * m ≡ P * (c * (2 * g))) (fine : 8 * κ ≤ 7 * g) (less : h' + κ ≡ h) (over : v * (2 * g) ≤ h + g) (under : h ≤ v * (2 * g) + g) where
@@ -97,11 +90,8 @@ module _ (e R : ℕ) (few : e ≤ 151) (r : R ≤ ln2) where
       more h = omega arith
 
   up-scale : 2 ^ (126 + e) * (2 ^ 62 * 2 ^ 62) ≡ 2 ^ 149 * (2 ^ e * 2 ^ 62 * (2 * 2 ^ 38))
-  up-scale = ap (λ (x : ℕ). x * (2 ^ 62 * 2 ^ 62)) (pow-add 2 126 e) ∙ turn (2 ^ 126) (2 ^ e) (2 ^ 62 * 2 ^ 62) ∙ sym (turn' (2 ^ 149) (2 ^ e) (2 ^ 62) (2 * 2 ^ 38))
+  up-scale = ap (λ (x : ℕ). x * (2 ^ 62 * 2 ^ 62)) (pow-add 2 126 e) ∙ mul_right_comm (2 ^ 126) (2 ^ e) (2 ^ 62 * 2 ^ 62) ∙ sym (turn' (2 ^ 149) (2 ^ e) (2 ^ 62) (2 * 2 ^ 38))
     where
-      turn : (a p b : ℕ) → a * p * b ≡ a * b * p
-      turn a p b = simp (mul_assoc, mul_comm, mul_left_comm)
-
       turn' : (a p b c : ℕ) → a * (p * b * c) ≡ a * b * c * p
       turn' a p b c = simp (mul_assoc, mul_comm, mul_left_comm)
 

@@ -16,7 +16,8 @@ use Rattle.series.proofs.Fractions.{num-mono}
 use Rattle.exponential.specs.Tables.{ln2, sixteenths}
 use Rattle.exponential.specs.Exp.{rise_of, factor, left, power_of}
 use Rattle.exponential.proofs.ExpRange.{rise-le, entry-ge, entry-le}
-use Rattle.exponential_bounds.proofs.Terms.{pow-1, full-1, num-1, rise-enc}
+use Rattle.series.proofs.Terms.{pow-1, full-1}
+use Rattle.exponential_bounds.proofs.Terms.{num-1, rise-enc}
 use Rattle.exponential_bounds.proofs.PowerOfTwo.{cancel, two}
 
 -- ---- the table

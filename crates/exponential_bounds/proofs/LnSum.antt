@@ -5,11 +5,10 @@ use native.Mathlib.Nat.{le_trans, le_of_eq, mul-le-mul_left, mul-le-mul_right, l
 use native.Mathlib.Omega.{arith}
 use lib.Dec.{lit≤, lit<}
 use lib.Pow.{pow_pos}
-use lib.Count.{count_leading_zeros}
 use lib.ListN.{get_or}
 use Rattle.cases.proofs.Cases.{split}
 use Rattle.fixed.specs.Fixed.{mant}
-use Rattle.fixed.proofs.Round.{rounded, place, place_is}
+use Rattle.fixed.proofs.Round.{grain, rounded, place, place_is}
 use Rattle.exponential.specs.Tables.{ln2}
 use Rattle.logarithm.specs.Tables.{eighths}
 use Rattle.logarithm.specs.Ln.{twice_of, index, centre, rest_of}
@@ -20,9 +19,6 @@ use Rattle.exponential_bounds.proofs.Twice.{give}
 use Rattle.exponential_bounds.proofs.LnRest.{Near, rest_up, rest-down, eighth-first, power_le, power-ge}
 
 -- ---- S rounded to 24 bits: 64 grains are one unit of the last place, so 28 grains are 7/16 of it
-abbrev pub grain : ℕ → ℕ
-grain S = 2 ^ (34 - count_leading_zeros 64 S)
-
 record Placed (S : ℕ) : Type 0 where
   pub enough : 28 * grain S ≤ S
   pub low : (16 * (mant S * place S) - 15 * place S) * 2 ^ 56 ≤ (S - 28 * grain S) * (16 * 2 ^ 149)
@@ -123,13 +119,7 @@ module _ (m E : ℕ) (from : 2 ^ 23 ≤ m) (to : m < 2 ^ 24) (few : E ≤ 149) w
     S = E * ln2 + rest_of m
 
     S-ge : 2 ^ 30 ≤ S
-    S-ge = split (2 ^ 23) m (λ h. more (E * ln2) (rest_of m) (range.rest-ge m from to h)) (λ h. many E (rest_of m) (omega arith))
-      where
-        more : (x y : ℕ) → 2 ^ 30 ≤ y → 2 ^ 30 ≤ x + y
-        more x y h = omega arith
-
-        many : (E y : ℕ) → 1 ≤ E → 2 ^ 30 ≤ E * ln2 + y
-        many E y h = omega arith
+    S-ge = range.sum-big m from to E some
 
     S-lt : S < 2 ^ 64
     S-lt = omega (arith, rest_le)

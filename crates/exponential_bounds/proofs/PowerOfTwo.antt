@@ -1,6 +1,6 @@
 -- Powers of two as powers of e: e ^ (E * ln 2) is 2 ^ E, but for 66 * E units of 2 ^ -62 below, since `ln2` is cut off.
 use mathlib.Core.Path.{◌≡◌, sym, ap, subst}
-use Prim.Native.Nat.{ℕ, zero, suc, ◌+◌, ◌-◌, ◌*◌, ◌^◌, ◌≤◌, ◌<◌}
+use Prim.Native.Nat.{ℕ, zero, suc, ◌+◌, ◌-◌, ◌*◌, ◌^◌, ◌≤◌, ◌<◌, zero-le}
 use native.Mathlib.Nat.{le_trans, le_of_eq, mul-le-mul_left, le_of_mul-le-mul_right, pow-suc, sub-add_cancel}
 use native.Mathlib.Omega.{arith}
 use lib.Dec.{lit<}
@@ -30,14 +30,11 @@ module _ (P P' q : ℕ) (e : P' ≡ P * 2) (big : 66 ≤ q) where
   low-go : (u v : ℕ) → u ≤ q → v ≡ u - 66 → q * (P' * v) ≤ P * u * (2 * (q - 66))
   low-go u v h f =
       split u 66
-      (λ l. le_trans (le_of_eq (nothing v (omega arith))) (none (P * u * (2 * (q - 66)))))
+      (λ l. le_trans (le_of_eq (nothing v (omega arith))) zero-le)
       (λ l. some v (q - 66) (omega arith) (sub-add_cancel big))
     where
       nothing : (v : ℕ) → v ≡ 0 → q * (P' * v) ≡ 0
       nothing v g = omega (arith, ap (λ (x : ℕ). q * (P' * x)) g)
-
-      none : (x : ℕ) → 0 ≤ x
-      none x = omega arith
 
       some : (v w : ℕ) → v + 66 ≡ u → w + 66 ≡ q → q * (P' * v) ≤ P * u * (2 * w)
       some v w f g =

@@ -1,9 +1,11 @@
 -- The terms that `rise_of` adds, each cut off, are at most two units below those of the power series, so their sum is at most two units for each term below the partial sum.
-use mathlib.Core.Path.{◌≡◌, sym, ap, ◌∙◌, subst}
+use mathlib.Core.Path.{◌≡◌, sym, ap, subst}
 use Prim.Native.Nat.{ℕ, zero, suc, ◌+◌, ◌*◌, ◌/◌, ◌^◌, ◌≤◌, ◌<◌}
-use native.Mathlib.Nat.{le_trans, le_of_eq, le_of_lt, mul-le-mul_left, mul-le-mul_right, pow-suc, pow-zero, div-mul-le_self, lt-div-mul-add}
+use native.Mathlib.Nat.{le_trans, le_of_eq, le_of_lt, mul-le-mul_left, mul-le-mul_right, pow-suc, div-mul-le_self, lt-div-mul-add}
 use native.Mathlib.Omega.{arith}
 use lib.Dec.{lit<}
+use Rattle.series.proofs.Terms.{pow-1}
+use native.Mathlib.Numerals.{add-two}
 use Rattle.series.specs.Series.{full, num, one}
 use Rattle.series.proofs.Exponential.{Enc, enclosed}
 use Rattle.exponential.specs.Exp.{term, sum_to, rise_of}
@@ -17,25 +19,15 @@ module _ (D t t' u f c P P' : ℕ) (e : P' ≡ P * u) where
   high-step : t * u < t' * (D * c) + D * c → 2 * u ≤ D * c → D * P ≤ (t + 2) * f → D * P' ≤ (t' + 2) * (f * (D * c))
   high-step h k l = omega (arith, mul-le-mul_left f (le_of_lt h), mul-le-mul_left f k, mul-le-mul_right u l, ap (λ (x : ℕ). D * x) e)
 
-pub pow-1 : (u : ℕ) → u ^ 1 ≡ u
-pow-1 u = pow-suc u 0 ∙ ap (λ (x : ℕ). x * u) (pow-zero u) ∙ omega arith
-
 -- the partial sum of two terms
-pub full-1 : (d : ℕ) → full d 1 ≡ d
-unfolding full
-full-1 d = omega arith
-
 pub num-1 : (n d : ℕ) → num one n d 1 ≡ d + n
 unfolding num
 num-1 n d = omega (arith, pow-1 n)
 
-two-more : (k : ℕ) → k + 2 ≡ suc (suc k)
-two-more k = omega arith
-
 module _ (u : ℕ) (h : u ≤ 2 ^ 36) where
   divided : (k : ℕ) → term u (suc k) ≡ term u k * u / (2 ^ 36 * suc (suc k))
   unfolding term
-  divided k = ap (λ (x : ℕ). term u k * u / (2 ^ 36 * x)) (two-more k)
+  divided k = ap (λ (x : ℕ). term u k * u / (2 ^ 36 * x)) (add-two k)
 
   under : (k : ℕ) → term u (suc k) * (2 ^ 36 * suc (suc k)) ≤ term u k * u
   under k = le_trans (le_of_eq (ap (λ (x : ℕ). x * (2 ^ 36 * suc (suc k))) (divided k))) (div-mul-le_self (term u k * u) (2 ^ 36 * suc (suc k)))

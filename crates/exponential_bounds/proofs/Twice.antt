@@ -1,7 +1,7 @@
 -- `twice_of n d`, give or take a 2 ^ 26th part of it and three units, bounds ln ((d + n) / (d - n)): what is cut off on the way is a 2 ^ 32nd part, and the polynomial is a 2 ^ 27th part from the logarithm.
 use mathlib.Core.Path.{◌≡◌, refl, sym, ap, ◌∙◌, subst}
-use Prim.Native.Nat.{ℕ, ◌+◌, ◌-◌, ◌*◌, ◌/◌, ◌^◌, ◌≤◌, ◌<◌}
-use native.Mathlib.Nat.{le_trans, le_of_eq, le_of_lt, lt_of_lt_of_le, mul_assoc, mul-le-mul, mul-le-mul_left, mul-le-mul_right, mul-pos, le_of_mul-le-mul_right, div-mul-le_self, lt-div-mul-add}
+use Prim.Native.Nat.{ℕ, ◌+◌, ◌-◌, ◌*◌, ◌/◌, ◌^◌, ◌≤◌, ◌<◌, zero-le}
+use native.Mathlib.Nat.{le_trans, le_of_eq, le_of_lt, lt_of_lt_of_le, mul_assoc, mul-le-mul, mul-le-mul_left, mul-le-mul_right, mul-pos, le_of_mul-le-mul_right, div-mul-le_self, lt-div-mul-add, le-add_right}
 use native.Mathlib.Omega.{arith}
 use lib.Dec.{lit≤, lit<}
 use lib.Pow.{pow_pos}
@@ -23,9 +23,6 @@ three_terms-is n D = omega arith
 
 square_le : (n d s u : ℕ) → s * d ≤ n * 2 ^ 34 → u * 2 ^ 34 ≤ s * s → u * (d * d) ≤ n * n * 2 ^ 34
 square_le n d s u h k = le_of_mul-le-mul_right {k = 2 ^ 34} (omega (arith, mul-le-mul_right (d * d) k, mul-le-mul h h)) (pow_pos 34)
-
-fourth-le : (N D u v : ℕ) → u * D ≤ N * 2 ^ 34 → v * 2 ^ 34 ≤ u * u → v * (D * D) ≤ N * N * 2 ^ 34
-fourth-le N D u v h k = le_of_mul-le-mul_right {k = 2 ^ 34} (omega (arith, mul-le-mul_right (D * D) k, mul-le-mul h h)) (pow_pos 34)
 
 excess-le : (N D u v g : ℕ) → 15 * g ≤ 5 * u + 3 * v → u * D ≤ N * 2 ^ 34 → v * (D * D) ≤ N * N * 2 ^ 34 → 15 * g * (D * D) ≤ 2 ^ 34 * (5 * (N * D) + 3 * (N * N))
 excess-le N D u v g a b c = omega (arith, mul-le-mul_right (D * D) a, mul-le-mul_right D b, c)
@@ -158,7 +155,7 @@ module _ (n d : ℕ) (p : 0 < n) (h : n ≤ 2 ^ 19) (k : 2 ^ 24 ≤ d) (top : d 
   square₂ = square-ge n d s u s-over (lt-div-mul-add {a = s * s} {b = 2 ^ 34} (pow_pos 34)) s-le
 
   fourth₁ : v * (d * d * (d * d)) ≤ n * n * (n * n) * 2 ^ 34
-  fourth₁ = fourth-le (n * n) (d * d) u v square₁ (div-mul-le_self (u * u) (2 ^ 34))
+  fourth₁ = square_le (n * n) (d * d) u v square₁ (div-mul-le_self (u * u) (2 ^ 34))
 
   fourth₂ : n * n * (n * n) * 2 ^ 34 ≤ (v + 2) * (d * d * (d * d))
   fourth₂ = fourth-ge (n * n) (d * d) u v square₂ (lt-div-mul-add {a = u * u} {b = 2 ^ 34} (pow_pos 34)) u-le
@@ -174,10 +171,7 @@ module _ (n d : ℕ) (p : 0 < n) (h : n ≤ 2 ^ 19) (k : 2 ^ 24 ≤ d) (top : d 
   over =
       le_trans (le_of_eq (ap (λ (x : ℕ). 2 ^ 57 * x * 2 ^ 34) (three_terms-is n (d * d))))
       (whole-ge n d q g w a P (bracket (n * n) (d * d)) (d * d * (d * d)) (pow_pos (l - 37))
-      (bracket-ge (n * n) (d * d) u v g (thirds' u v) square₂ fourth₂) q-over (longer-ge q g w w-over g-le q-large (more q (q * g / 2 ^ 34))) over-a)
-    where
-      more : (x y : ℕ) → x ≤ x + y
-      more x y = omega arith
+      (bracket-ge (n * n) (d * d) u v g (thirds' u v) square₂ fourth₂) q-over (longer-ge q g w w-over g-le q-large (le-add_right q (q * g / 2 ^ 34))) over-a)
 
   pub twice-under : 15 * (d * d * (d * d) * d) * twice_of n d ≤ 2 ^ 57 * three_terms n (d * d)
   unfolding twice_of
@@ -270,7 +264,7 @@ module _ (n d z : ℕ) (e : d ≡ n + z) (h : n ≤ 2 ^ 19) (k : 2 ^ 24 ≤ d) (
       (λ p. none (twice_of n d) (range.twice-zero d (omega arith)) (subst (λ (x : ℕ). twice_of n d ≡ twice_of x d) (omega arith) refl)))
     where
       none : (a : ℕ) → twice_of 0 d ≡ 0 → a ≡ twice_of 0 d → (a - give a) * (15 * (d * d * (d * d) * d) * 2 ^ 27) ≤ 2 * (2 ^ 27 - 1) * three_terms n (d * d) * 2 ^ 56
-      none a x y = le_trans (le_of_eq (zero-at (a - give a) (15 * (d * d * (d * d) * d) * 2 ^ 27) (less a (y ∙ x)))) (any (2 * (2 ^ 27 - 1) * three_terms n (d * d) * 2 ^ 56))
+      none a x y = le_trans (le_of_eq (zero-at (a - give a) (15 * (d * d * (d * d) * d) * 2 ^ 27) (less a (y ∙ x)))) zero-le
         where
           less : (a : ℕ) → a ≡ 0 → a - give a ≡ 0
           less a e = omega arith
@@ -278,21 +272,15 @@ module _ (n d z : ℕ) (e : d ≡ n + z) (h : n ≤ 2 ^ 19) (k : 2 ^ 24 ≤ d) (
           zero-at : (b c : ℕ) → b ≡ 0 → b * c ≡ 0
           zero-at b c e = omega (arith, ap (λ (y : ℕ). y * c) e)
 
-          any : (x : ℕ) → 0 ≤ x
-          any x = omega arith
-
   pub twice-ge : ExpGe (twice_of n d + give (twice_of n d)) (2 ^ 56) (d + n) z
   twice-ge =
       by-ge (twice_of n d + give (twice_of n d))
       (split 0 n
       (λ p. raised_by (twice_of n d) (d * d * (d * d) * d) (three_terms n (d * d)) (twice-over n d p h k top))
-      (λ p. le_trans (le_of_eq (zero-at (three_terms n (d * d)) (none (d * d) (omega arith)))) (any ((twice_of n d + give (twice_of n d)) * (15 * (d * d * (d * d) * d) * 2 ^ 27)))))
+      (λ p. le_trans (le_of_eq (zero-at (three_terms n (d * d)) (none (d * d) (omega arith)))) zero-le))
     where
       none : (D : ℕ) → n ≡ 0 → three_terms n D ≡ 0
       none D z = subst (λ (x : ℕ). three_terms x D ≡ 0) (sym z) (omega arith)
 
       zero-at : (f : ℕ) → f ≡ 0 → 2 * (2 ^ 27 + 1) * f * 2 ^ 56 ≡ 0
       zero-at f e = omega arith
-
-      any : (x : ℕ) → 0 ≤ x
-      any x = omega arith

@@ -6,11 +6,11 @@ use Prim.Native.Nat.{ℕ}
 use borrow.Author.Tests.{eqb-true}
 use lib.Dec.{eqb}
 use Rattle.std.specs.Prelude.{Result, Ok, Err, IfErr}
+use Rattle.std.proofs.lemmas.Bool.{and_parts}
 use Rattle.refusal.specs.Number.{number_of, answer_number}
 use Rattle.refusal.specs.declared.Refusal.{Refusal}
 use Rattle.record_chain.specs.Chain.{member}
 use Rattle.sheet_refusals.specs.Refusals.{Among}
-use Rattle.sheet_refusals.proofs.Sheet.{first_of}
 use Rattle.export_refusals.specs.Exports.{OneOf}
 
 pub both : (P : Bool → Type 0) → P true → P false → (b : Bool) → P b
@@ -36,10 +36,6 @@ unfoldable pub within : List ℕ → List ℕ → Bool
 within [] m = true
 within (x ∷ l) m = member x m && within l m
 
-second-of : (a b : Bool) → (a && b) ≡ true → b ≡ true
-second-of true b e = e
-second-of false b e = absurd (false≢true e)
-
 module _ (n : ℕ) (m : List ℕ) where
   longer-by : (x : ℕ) (b rest : Bool) → eqb n x ≡ b → member x m ≡ true → (rest ≡ true → member n m ≡ true) → (b || rest) ≡ true → member n m ≡ true
   longer-by x true rest e h next p = rw (eqb-true n x e) h
@@ -48,4 +44,4 @@ module _ (n : ℕ) (m : List ℕ) where
   pub longer : (l : List ℕ) → within l m ≡ true → member n l ≡ true → member n m ≡ true
   unfolding within member
   longer [] h p = absurd (false≢true p)
-  longer (x ∷ l) h p = longer-by x (eqb n x) (member n l) refl (first_of (member x m) (within l m) h) (longer l (second-of (member x m) (within l m) h)) p
+  longer (x ∷ l) h p = let t = and_parts (member x m) (within l m) h in longer-by x (eqb n x) (member n l) refl t.0 (longer l t.1) p

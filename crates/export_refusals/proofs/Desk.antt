@@ -21,9 +21,10 @@ use Rattle.traces.specs.Lines.{ready, compared_by, compared_of}
 use Rattle.computed_trace.specs.Computed as computed
 use Rattle.port_state.specs.Words.{floats_of}
 use Rattle.port_figures.specs.Exports.{figure_answer}
+use Rattle.answer_words.specs.Words.{short}
 use Rattle.port_tariff.specs.Exports as tariff
 use Rattle.port_totals.specs.Exports as totals
-use Rattle.port_traces.specs.Exports.{short, lines_unless, port_compare, trace_into, trace_unless, port_trace}
+use Rattle.port_traces.specs.Exports.{lines_unless, port_compare, trace_into, trace_unless, port_trace}
 use Rattle.sheet_refusals.specs.Refusals.{Among}
 use Rattle.export_refusals.specs.Exports.{OneOf, figure_numbers, price_numbers, total_numbers, compare_numbers, trace_numbers}
 use Rattle.export_refusals.proofs.Cases.{both, either, by-answer}

@@ -22,7 +22,8 @@ use Rattle.losses.specs.Alosfv.{answered_by, alosfv_answer}
 use Rattle.slot_sheet.specs.Sheet as slot
 use Rattle.port_state.specs.Ports.{Ported}
 use Rattle.port_state.specs.State.{state_words, state_of}
-use Rattle.ionogram_words.specs.Sang.{short, unless_short, sang_words}
+use Rattle.answer_words.specs.Words.{short}
+use Rattle.ionogram_words.specs.Sang.{unless_short, sang_words}
 use Rattle.line_words.specs.Lines.{lines_of_words}
 use Rattle.port_layouts.specs.Layouts.{ionogram_of}
 use Rattle.port_ionogram.specs.Exports.{port_selmod, rows_into, port_genion, port_alosfv, PortedCells, cells_unless_short, port_fobby, sheet_into, sheet_on, sheet_cells_on, sheet_unless_short, port_sheet}

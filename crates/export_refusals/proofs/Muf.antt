@@ -27,7 +27,8 @@ use Rattle.nominal.specs.Nommuf.{path_taken, nommuf_of}
 use Rattle.nominal_factors.specs.Factors.{counts_agree}
 use Rattle.port_state.specs.State.{state_words, state_of}
 use Rattle.port_state.specs.Ports.{Ported, points_of}
-use Rattle.deviation_words.specs.Floats.{number, floats}
+use Rattle.port_state.specs.Words.{number}
+use Rattle.deviation_words.specs.Floats.{floats}
 use Rattle.deviation_words.specs.F2disWords.{f2dis_by, f2dis_left}
 use Rattle.port_muf.specs.Exports.{leaves, path_numbers_of, done_left, curmuf_by, HourLeft, curmuf_left}
 use Rattle.port_nominal.specs.Exports.{nominal_into, nominal_words, word_rows, words_reach, five_at_most, nominal_left}

@@ -1,3 +1,4 @@
--- How wide a figure is, and figures at the edges.
+-- How its tenths are put, how wide a figure is, and figures at the edges.
+mod Placed
 pub mod Widths
 pub mod Examples

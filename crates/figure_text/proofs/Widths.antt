@@ -10,7 +10,7 @@ use lib.ListN.{length, length-append}
 use lib.Ieee.{Float, nan, inf, fin, up, down}
 use Rattle.io.specs.Digits.{hex_digit_ascii}
 use Rattle.lines.specs.Text.{space, tens_by, decimal_in, decimal_of}
-use Rattle.lines.proofs.Decimals.{length-decimal, length-below}
+use Rattle.lines.proofs.Decimals.{length-below}
 use Rattle.lines.proofs.Sizes.{AtMost}
 use Rattle.figures.specs.declared.Printed.{Printed}
 use Rattle.figures.specs.Nearest.{nearest}
@@ -45,9 +45,6 @@ tenths-length n =
     let a = length-append (decimal_of (n / 10)) (point ∷ decimal_of (n % 10)) in
     let b = one (n % 10) (omega arith) in
     omega arith
-
-pub tenths-most : (n : ℕ) → length (tenths_text n) ≤ 22
-tenths-most n = omega (arith, tenths-length n, length-decimal (n / 10))
 
 -- the tenths up to 999.9 have spaces before them
 pub padded : (n : ℕ) → n ≤ 9999 → figure_text (Printed.Tenths n) ≡ repeated space (5 - length (tenths_text n)) ++ tenths_text n

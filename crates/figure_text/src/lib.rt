@@ -11,24 +11,12 @@ ghost use Rattle.figure_text.specs.FigureText.{tenths_text, figure_text};
 use figures::Printed;
 use lines::Page;
 
-#[tactic(auto, using(lines::proofs::Placing::putting), unfolding(crate::specs::FigureText::tenths_text))]
-fn put_tenths<const N: usize>(page: &mut Page<N>, n: u32)
-    ensures { page.new ≡ with_text N page.old (tenths_text n) }
-{
-    page.put_decimal(u64::from(n / 10));
-    page.put_byte(b'.');
-    page.put_decimal(u64::from(n % 10));
-}
-
 // The tenths after their sign, if they have one, at the right of five characters.
 fn put_signed<const N: usize>(page: &mut Page<N>, sign: &[u8], n: u32)
     requires { length sign.now ≤ 1 }
     ensures { page.new ≡ with_text N page.old (right 5 (sign.now ++ tenths_text n)) }
 {
-    let mut text: Page<23> = Page::new();
-    text.put_word(sign);
-    put_tenths(&mut text, n);
-    aligned::put_right(page, 5, text.text());
+    decimal_text::put_units(page, 5, sign, 1, u64::from(n));
 }
 
 #[tactic(auto, using(lines::proofs::Placing::putting), unfolding(crate::specs::FigureText::figure_text))]

@@ -2,11 +2,12 @@
 use Prim.Native.Nat.{ℕ, zero, suc, ◌+◌, ◌-◌, ◌*◌, ◌/◌, ◌%◌, ◌≤◌, ◌<◌}
 use mathlib.Core.Path.{◌≡◌, refl, sym, ap, ap₂, ◌∙◌}
 use mathlib.Core.Bool.{Bool, true, false, cond}
-use native.Mathlib.Nat.{mod-lt, div-add-mod', mul_right_comm, mul-le-mul_right, le_of_mul-le-mul_right, le_antisymm, mul_comm, mul-sub, add-mul, eq_of_mul-eq-mul_right, mul-le-mul_left, div-lt_iff_lt-mul}
+use native.Mathlib.Nat.{mod-lt, div-add-mod', mul_right_comm, mul-le-mul_right, le_of_mul-le-mul_right, le_antisymm, eq_of_mul-eq-mul_right, mul-le-mul_left, div-lt_iff_lt-mul}
 use native.Mathlib.Omega.{arith}
 use borrow.Author.Tests.{ltb-true, ltb-false, lt-ltb, le-ltb}
 use lib.Dec.{ltb}
 use Rattle.rounding.specs.TiesToEven.{gap}
+use Rattle.rounding.proofs.Units.{gap-mul}
 use Rattle.figures.specs.Nearest.{nearest, HalfToEven, NearestRule}
 
 -- by the quotient and the rest
@@ -68,12 +69,6 @@ pub nearest-rule : NearestRule
 nearest-rule = record { is = nearest-is; only = only-nearest }
 
 -- the same fraction has the same nearest number
-sub-mul : (a b k : ℕ) → (a - b) * k ≡ a * k - b * k
-sub-mul a b k = mul_comm (a - b) k ∙ mul-sub k a b ∙ ap₂ (λ (x y : ℕ). x - y) (mul_comm k a) (mul_comm k b)
-
-gap-times : (a b k : ℕ) → gap (a * k) (b * k) ≡ gap a b * k
-gap-times a b k = ap₂ (λ (x y : ℕ). x + y) (sym (sub-mul a b k)) (sym (sub-mul b a k)) ∙ sym (add-mul (a - b) (b - a) k)
-
 -- by the sizes of the two gaps
 scaled-le : (g g' d d' : ℕ) → 0 < d → g * d' ≡ g' * d → 2 * g ≤ d → 2 * g' ≤ d'
 scaled-le g g' d d' p e h = le_of_mul-le-mul_right (over (mul-le-mul_right d' h)) p
@@ -95,7 +90,7 @@ nearest-same n d n' d' p q e = only-nearest n' d' (nearest n d) q (record { with
 
     -- both gaps in units of d * d'
     same : gap (r * d) n * d' ≡ gap (r * d') n' * d
-    same = sym (gap-times (r * d) n d') ∙ ap₂ (λ (x y : ℕ). gap x y) (mul_right_comm r d d') e ∙ gap-times (r * d') n' d
+    same = sym (gap-mul (r * d) n d') ∙ ap₂ (λ (x y : ℕ). gap x y) (mul_right_comm r d d') e ∙ gap-mul (r * d') n' d
 
     back : 2 * gap (r * d') n' ≡ d' → 2 * gap (r * d) n ≡ d
     back h = scaled-eq (gap (r * d') n') (gap (r * d) n) d' d q (sym same) h

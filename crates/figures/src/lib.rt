@@ -37,7 +37,6 @@ pub fn nearest(n: u64, d: u64) -> u64
 }
 
 // What is not a u32 is 2^32.
-// Stays: a number past every u32, which callers turn away with all that is too large.
 fn kept(n: u64) -> u64
     ensures { result ≡ min n past }
 {
@@ -46,6 +45,8 @@ fn kept(n: u64) -> u64
 
 // k times the size of v, an exact product, to the nearest whole number, an exact half to the even one;
 // 2^32 where that is not a u32. By the pattern: v's 24 digits, times k, are to be shifted by the exponent.
+// Stays: a number past every u32 and no `None`: each caller turns it away by the one test that turns away all that
+// is too large for its figure, text, axis or trace.
 pub fn times(v: f32, k: u32) -> u64
     ensures { result ≡ times_of k v }
 {
@@ -108,30 +109,32 @@ pub fn figure(v: f32) -> Printed
     plus(n)
 }
 
-// The case's number.
-// Stays: a figure has two numbers, this and its tenths, and a `From` would not say which it gives.
-pub fn number(p: Printed) -> u32
-    ensures { result ≡ figure_number p }
-{
-    match p {
-        Printed::Tenths(_) => 0,
-        Printed::Minus(_) => 1,
-        Printed::Stars => 2,
-        Printed::Infinite => 3,
-        Printed::NotANumber => 4,
+impl Printed {
+    // The case's number.
+    // Stays: a figure has two numbers, this and its tenths, and a `From` would not say which it gives.
+    pub fn number(self) -> u32
+        ensures { result ≡ figure_number self }
+    {
+        match self {
+            Printed::Tenths(_) => 0,
+            Printed::Minus(_) => 1,
+            Printed::Stars => 2,
+            Printed::Infinite => 3,
+            Printed::NotANumber => 4,
+        }
     }
-}
 
-// Its tenths, or 0 where it has none.
-// Stays: a number, since the case says whether there are any.
-pub fn tenths(p: Printed) -> u32
-    ensures { result ≡ figure_tenths p }
-{
-    match p {
-        Printed::Tenths(n) => n,
-        Printed::Minus(n) => n,
-        Printed::Stars => 0,
-        Printed::Infinite => 0,
-        Printed::NotANumber => 0,
+    // Its tenths, or 0 where it has none.
+    // Stays: a number, since the case says whether there are any.
+    pub fn tenths(self) -> u32
+        ensures { result ≡ figure_tenths self }
+    {
+        match self {
+            Printed::Tenths(n) => n,
+            Printed::Minus(n) => n,
+            Printed::Stars => 0,
+            Printed::Infinite => 0,
+            Printed::NotANumber => 0,
+        }
     }
 }

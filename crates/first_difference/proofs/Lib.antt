@@ -1,6 +1,6 @@
 -- Lines compared are bytes compared; the laws.
 mod Bytes
-mod Same
+pub mod Same
 mod First
 mod Common
 mod Cases

@@ -2,7 +2,7 @@
 use mathlib.Core.Path.{◌≡◌, refl, sym, ◌∙◌, subst, subst₂}
 use mathlib.Core.Logic.{◌⊎◌, inl, inr}
 use Prim.Native.Nat.{ℕ, ◌+◌, ◌-◌, ◌*◌, ◌/◌, ◌%◌, ◌^◌, ◌≤◌, ◌<◌}
-use native.Mathlib.Nat.{le_trans, le_of_eq, le_of_lt, lt_of_lt_of_le, mul-one, mul-le-mul, mul-le-mul_left, mul-lt-mul_of_pos_right}
+use native.Mathlib.Nat.{le_antisymm, le_trans, le_of_eq, le_of_lt, lt_of_lt_of_le, mul-one, mul-le-mul, mul-le-mul_left, mul-lt-mul_of_pos_right}
 use native.Mathlib.Omega.{arith}
 use lib.Dec.{leb}
 use lib.Pow.{pow_pos, pow_mono, pow-add}
@@ -22,10 +22,10 @@ finite-value b h =
     (λ l. (b % 2 ^ 23 * 1, subnormal b l, inl (l, omega arith)))
     (λ l. (digits (b % 2 ^ 31) * 2 ^ (b % 2 ^ 31 / 2 ^ 23 - 1), normal-value b l h, inr (l, refl)))
 
-dig-low : (a : ℕ) → 2 ^ 23 ≤ digits a
+pub dig-low : (a : ℕ) → 2 ^ 23 ≤ digits a
 dig-low a = omega arith
 
-dig-high : (a : ℕ) → digits a < 2 ^ 24
+pub dig-high : (a : ℕ) → digits a < 2 ^ 24
 dig-high a = omega arith
 
 at_least : (m e : ℕ) → m ≤ m * 2 ^ e
@@ -65,7 +65,4 @@ size_same a v v' (inr (l, e)) (inl (l', e')) = absurd (no a l' l)
 size_same a v v' (inr (l, e)) (inr (l', e')) = e ∙ sym e'
 
 pub size-le : (a a' v v' : ℕ) → Size a v → Size a' v' → a ≤ a' → v ≤ v'
-size-le a a' v v' s s' h = split a a' (λ l. le_of_lt (size-lt a a' v v' s s' l)) (λ l. le_of_eq (size_same a v v' s (subst (λ (x : ℕ). Size x v') (go a a' h l) s')))
-  where
-    go : (a a' : ℕ) → a ≤ a' → a' ≤ a → a' ≡ a
-    go a a' x y = omega arith
+size-le a a' v v' s s' h = split a a' (λ l. le_of_lt (size-lt a a' v v' s s' l)) (λ l. le_of_eq (size_same a v v' s (subst (λ (x : ℕ). Size x v') (le_antisymm l h) s')))

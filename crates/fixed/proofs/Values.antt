@@ -1,42 +1,28 @@
 -- What a bit pattern stands for, and the unit of the last place of a value: the exponent field moves the significand up, and a significand of 2 ^ 24 carries into it.
 use mathlib.Core.Path.{◌≡◌, refl, sym, ap, ap₂, ◌∙◌, subst, subst₂}
-use mathlib.Core.Bool.{Bool, true, false, cond}
-use Prim.Native.Nat.{ℕ, zero, suc, ◌+◌, ◌-◌, ◌*◌, ◌/◌, ◌%◌, ◌^◌, ◌≤◌, ◌<◌}
-use native.Mathlib.Nat.{le_trans, le_of_eq, le_of_lt, lt_of_not-le, lt_of_le_of_lt, lt_of_lt_of_le, not-le_of_lt, not-suc-le-zero, mul-le-mul, mul-le-mul_right, mul-lt-mul_of_pos_right}
+use mathlib.Core.Bool.{Bool, true, cond}
+use Prim.Native.Nat.{ℕ, suc, ◌+◌, ◌-◌, ◌*◌, ◌/◌, ◌%◌, ◌^◌, ◌≤◌, ◌<◌}
+use native.Mathlib.Nat.{le_trans, le_of_eq, le_of_lt, lt_of_not-le, lt_of_le_of_lt, lt_of_lt_of_le, not-le_of_lt, mul-one, mul-le-mul, mul-le-mul_right, mul-lt-mul_of_pos_right}
 use native.Mathlib.Omega.{arith}
-use lib.Dec.{T, leb, eqb, eqb-suc-zero, not_T, eqb→eq, lit<, lit≤}
+use lib.Dec.{leb, eqb, lit<, lit≤}
 use lib.Pow.{pow_pos, pow_mono, pow-add}
-use lib.Ieee.{Float, nan, inf, binary32, size, odd, of_fields, of_bits, is_nan}
+use lib.Ieee.{Float, nan, inf, binary32, size, of_fields, of_bits, is_nan}
 use lib.Ieee.Digits.{size-lt, size-le}
-use lib.Ieee.Bits.{cond_no}
-use lib.Ieee.Exact.{HasValue, odd_sign}
+use lib.Ieee.Exact.{HasValue}
 use borrow.Author.Tests.{le-leb, lt-leb}
 use lib.Count.{count_leading_zeros}
+use Rattle.scalar.proofs.Nan.{nan_pattern}
+use Rattle.scalar.proofs.Patterns.{of_bits_is, fields-low, fields-mid}
 use Rattle.cases.proofs.Cases.{split}
 use Rattle.fixed.specs.Fixed.{digits, mant, pattern}
 use Rattle.fixed.proofs.Round.{rounded, place, pattern_lt}
 
 -- ---- what a bit pattern stands for
-differ : (x : ℕ) → suc x < 255 → suc x ≡ 255 → ⊥
-differ x h e = omega arith
-
-fields-is : (s : Bool) (t x : ℕ) → suc x < 255 → of_fields binary32 s (suc x) t ≡ odd 24 s (2 ^ 23 + t) x 149
-unfolding of_fields
-fields-is s t x h = cond_no (eqb (suc x) 255) (cond (eqb t 0) (inf s) nan) (odd 24 s (0x80_0000 + t) x 149) (not_T (eqb (suc x) 255) (λ (u : T (eqb (suc x) 255)). differ x h (eqb→eq (suc x) 255 u)))
-
-fields-zero : (s : Bool) (t : ℕ) → of_fields binary32 s 0 t ≡ odd 24 s t 0 149
-unfolding of_fields
-fields-zero s t = refl
-
-bits_is : (b : ℕ) → of_bits binary32 b ≡ of_fields binary32 (leb (2 ^ 31) b) (b % 2 ^ 31 / 2 ^ 23) (b % 2 ^ 23)
-unfolding of_bits
-bits_is b = refl
-
 -- from the fields of a pattern to its value
 value-at : (b f x t : ℕ) → b % 2 ^ 31 / 2 ^ 23 ≡ suc x → b % 2 ^ 23 ≡ t → suc x < 255 → (2 ^ 23 + t) * 2 ^ x ≡ f → HasValue (of_bits binary32 b) (leb (2 ^ 31) b) f (2 ^ 149)
 value-at b f x t p q r v =
     subst₂ (λ (z : Float) (y : ℕ). HasValue z (leb (2 ^ 31) b) y (2 ^ 149))
-    (sym (bits_is b ∙ ap₂ (λ (y z : ℕ). of_fields binary32 (leb (2 ^ 31) b) y z) p q ∙ fields-is (leb (2 ^ 31) b) t x r)) v (odd_sign 24 (leb (2 ^ 31) b) (2 ^ 23 + t) x 149)
+    (sym (of_bits_is b ∙ ap₂ (λ (y z : ℕ). of_fields binary32 (leb (2 ^ 31) b) y z) p q)) v (fields-mid (leb (2 ^ 31) b) x t r)
 
 -- with a significand m and an exponent's field e + 1
 pub value-normal : (b e m : ℕ) → b % 2 ^ 31 ≡ e * 2 ^ 23 + m → 2 ^ 23 ≤ m → m < 2 ^ 24 → e < 254 → HasValue (of_bits binary32 b) (leb (2 ^ 31) b) (m * 2 ^ e) (2 ^ 149)
@@ -52,18 +38,14 @@ value b e m h l u k = split m (2 ^ 24) (λ g. value-normal b e m h l g (omega ar
 -- an exponent's field of 255
 pub bits-255 : (b : ℕ) → b % 2 ^ 31 / 2 ^ 23 ≡ 255 → of_bits binary32 b ≡ cond (eqb (b % 2 ^ 23) 0) (inf (leb (2 ^ 31) b)) nan
 unfolding of_fields
-bits-255 b h = bits_is b ∙ ap (λ (y : ℕ). of_fields binary32 (leb (2 ^ 31) b) y (b % 2 ^ 23)) h ∙ fields-255 (leb (2 ^ 31) b) (b % 2 ^ 23)
+bits-255 b h = of_bits_is b ∙ ap (λ (y : ℕ). of_fields binary32 (leb (2 ^ 31) b) y (b % 2 ^ 23)) h ∙ fields-255 (leb (2 ^ 31) b) (b % 2 ^ 23)
   where
     fields-255 : (s : Bool) (t : ℕ) → of_fields binary32 s 255 t ≡ cond (eqb t 0) (inf s) nan
     fields-255 s t = refl
 
-not-zero : (t : ℕ) → 1 ≤ t → eqb t 0 ≡ false
-not-zero zero h = absurd (not-suc-le-zero h)
-not-zero (suc t) h = eqb-suc-zero t
-
 pub is-nan : (b : ℕ) → 0x7f80_0000 < b % 2 ^ 31 → is_nan (of_bits binary32 b) ≡ true
 unfolding is_nan
-is-nan b h = ap is_nan (bits-255 b (omega arith) ∙ ap (λ (y : Bool). cond y (inf (leb (2 ^ 31) b)) nan) (not-zero (b % 2 ^ 23) (omega arith)))
+is-nan b h = ap is_nan (nan_pattern b h)
 
 pub is-inf : (b : ℕ) → b % 2 ^ 31 ≡ 0x7f80_0000 → of_bits binary32 b ≡ inf (leb (2 ^ 31) b)
 is-inf b e = bits-255 b (omega arith) ∙ ap (λ (t : ℕ). cond (eqb t 0) (inf (leb (2 ^ 31) b)) nan) (zero_rest e)
@@ -73,9 +55,9 @@ is-inf b e = bits-255 b (omega arith) ∙ ap (λ (t : ℕ). cond (eqb t 0) (inf 
 
 pub subnormal : (b : ℕ) → b % 2 ^ 31 < 2 ^ 23 → HasValue (of_bits binary32 b) (leb (2 ^ 31) b) (b % 2 ^ 23 * 1) (2 ^ 149)
 subnormal b h =
-    subst (λ (z : Float). HasValue z (leb (2 ^ 31) b) (b % 2 ^ 23 * 2 ^ 0) (2 ^ 149))
-    (sym (bits_is b ∙ ap (λ (y : ℕ). of_fields binary32 (leb (2 ^ 31) b) y (b % 2 ^ 23)) (omega arith) ∙ fields-zero (leb (2 ^ 31) b) (b % 2 ^ 23)))
-    (odd_sign 24 (leb (2 ^ 31) b) (b % 2 ^ 23) 0 149)
+    subst₂ (λ (z : Float) (y : ℕ). HasValue z (leb (2 ^ 31) b) y (2 ^ 149))
+    (sym (of_bits_is b ∙ ap (λ (y : ℕ). of_fields binary32 (leb (2 ^ 31) b) y (b % 2 ^ 23)) (omega arith))) (sym (mul-one (b % 2 ^ 23)))
+    (fields-low (leb (2 ^ 31) b) (b % 2 ^ 23))
 
 -- ---- the unit of the last place of m * 2 ^ e
 pub ulp-ge : (m e : ℕ) → 2 ^ 23 ≤ m → 2 ^ e ≤ 2 ^ (size (m * 2 ^ e) - 24)

@@ -14,8 +14,7 @@ use Rattle.scalar.specs.F32.{◌-f◌, ◌*f◌, ◌≤f◌, ◌≥f◌}
 use Rattle.scalar.specs.Literals.{f0, f1}
 use Rattle.order.specs.Units.{real, nought}
 use Rattle.order.proofs.Keys.{or_l, or_r}
-use Rattle.order.proofs.Tests.{nought-is, nought-fits}
-use Rattle.order.proofs.Chains.{not-le-lt}
+use Rattle.order.proofs.Tests.{nought-is, nought-fits, not-le-lt}
 use Rattle.order.proofs.Products.{share, affine, affine-real, affine-rising, affine-falling, affine-defined}
 use Rattle.walk.specs.Walk.{Orderly}
 use Rattle.forty_reads.specs.Nodes.{xt, twdiv, zg_of, height_of, height_at, ig_at, ib_at}

@@ -84,7 +84,7 @@ fn walk_reads(p: Profile, ht: f32) -> Densities
     let h0 = p.htr[0];
     let mut ysq = [0.0; 40];
     let mut ih = 0usize;
-    // Stays: the read's number gives the node and its half, and the place in the table.
+    // Stays: each read goes on from the cursor that the one before left, and is put at its node's place.
     for k in 0..40 {
         let ig = ig_at(k);
         let ib = ib_at(up, k);
@@ -104,16 +104,7 @@ fn scan_reads(p: Profile, ht: f32) -> Densities
     ensures { (result.ysq ≡ scan_reads p.entry.htr.now p.entry.fnsq.now ht 40) × (result.cursor ≡ 0) }
 {
     let h0 = p.htr[0];
-    let mut ysq = [0.0; 40];
-    // Stays: the read's number gives the node and its half, and the place in the table.
-    for k in 0..40 {
-        let ig = k / 2;
-        let ib = k % 2;
-        let zi = height(h0, ht, ig, ib);
-        let g = p.read_by_scan(zi);
-        let y = g.value();
-        ysq[k] = y;
-    }
+    let ysq = std::array::from_fn(|k| p.read_by_scan(height(h0, ht, k / 2, k % 2)).value());
     Densities { ysq, cursor: 0 }
 }
 

@@ -4,6 +4,7 @@ use mathlib.Core.Path.{◌≡◌, sym, ap, ◌∙◌, subst}
 use Prim.Native.Nat.{ℕ, zero, suc, ◌+◌, ◌-◌, ◌^◌, ◌≤◌, ◌<◌}
 use native.Mathlib.Nat.{le_trans, le_of_eq, lt_of_lt_of_le, mul-le-mul_right}
 use lib.Pow.{pow_pos}
+use lib.Arith.{add-lt_cancel_left}
 use native.Mathlib.Omega.{arith}
 use mathlib.Core.Bool.{Bool, true, false, ◌||◌}
 use lib.IntN.{ℤ}
@@ -74,10 +75,7 @@ to-zero f m x c v h =
     within C m x c = omega arith
 
 step-keys : (f : Format) (s t : Bool) (m x : ℕ) → m ≤ overflow f → Value f m → Value f x → key_of (overflow f) s m < key_of (overflow f) t x → Step f (key_of (overflow f) s m) (key_of (overflow f) t x)
-step-keys f false false m x c v w h = up_key f m x v w (less (overflow f) m x h)
-  where
-    less : (C m x : ℕ) → C + m < C + x → m < x
-    less C m x h = omega arith
+step-keys f false false m x c v w h = up_key f m x v w (add-lt_cancel_left (overflow f) h)
 step-keys f false true m x c v w h = absurd (none (overflow f) m x h)
   where
     none : (C m x : ℕ) → C + m < C - x → ⊥

@@ -5,13 +5,13 @@ use mathlib.Core.Bool.{Bool, true, false, cond}
 use mathlib.Core.List.{List}
 use Prim.Native.Nat.{ℕ, zero, suc, ◌+◌, ◌≤◌}
 use native.Mathlib.Omega.{arith}
-use lib.Dec.{T}
+use lib.Dec.{T, not_T}
 use lib.Ieee.{Float, nan, inf, fin, binary32, fits, is_nan, lt, le}
-use lib.Ieee.Fits.{add-fits}
+use lib.Ieee.Bits.{is_false}
 use Rattle.scalar.specs.F32.{◌+f◌, ◌-f◌, ◌≥f◌, ◌>f◌, at}
 use Rattle.scalar.specs.Literals.{f0}
-use Rattle.order.proofs.Keys.{or_split}
-use Rattle.order.proofs.Chains.{lt_not_le}
+use Rattle.std.proofs.lemmas.Float.{lt_irrefl, lt_of_lt_of_le}
+use mir.Facts.{or_yes}
 use Rattle.height_integral.specs.Exact.{first_from, last_of}
 use Rattle.height_integral.specs.Lowest.{LastFromOne}
 use Rattle.height_integral.proofs.Above.{above-lowest}
@@ -49,14 +49,10 @@ not-nan nan h0 n = refl
 not-nan (inf s) h0 n = absurd n
 not-nan (fin s m e) h0 n = absurd n
 
-is_false : (b : Bool) → (T b → ⊥) → b ≡ false
-is_false true h = absurd (h tt)
-is_false false h = refl
-
 pub lowest-below : (x h0 : Float) → T (fits binary32 x) → T (fits binary32 h0) → T (x -f h0 >f f0) → (h0 ≥f (h0 +f (x -f h0))) ≡ false
 lowest-below x h0 p q h =
     let y = h0 +f (x -f h0) in
-    elim (or_split (is_nan y) (lt h0 y) (above-lowest x h0 p q h)) [ inl n ↦ not-nan y h0 n | inr l ↦ is_false (le y h0) (λ k. lt_not_le binary32 h0 y q (add-fits binary32 h0 (x -f h0)) l k) ]
+    elim (or_yes (is_nan y) (lt h0 y) (above-lowest x h0 p q h)) [ inl n ↦ not-nan y h0 n | inr l ↦ is_false (le y h0) (not_T (le y h0) (λ k. lt_irrefl h0 (lt_of_lt_of_le h0 y h0 l k))) ]
 
 pub last-from-one : LastFromOne
 last-from-one htr x p q h = let top = at htr 0 +f (x -f at htr 0) in (past_first htr top (lowest-below x (at htr 0) p q h), at_most htr top 50 0 (omega arith))

@@ -3,19 +3,20 @@
 use mathlib.Core.Path.{◌≡◌, refl, sym, ap, ◌∙◌, subst}
 use mathlib.Core.Logic.{◌⊎◌, inl, inr}
 use Prim.Native.Nat.{ℕ, zero, suc, ◌+◌, ◌-◌, ◌*◌, ◌^◌, ◌≤◌, ◌<◌}
-use native.Mathlib.Nat.{le_trans, le_of_eq, le_of_lt, lt_of_lt_of_le, lt_of_le_of_lt, eq-or-lt_of_le, mul_comm, mul_assoc, one-mul, mul-sub, mul-le-mul_right, lt_of_mul-lt-mul_right}
+use native.Mathlib.Nat.{le_trans, le_of_eq, le_of_lt, le-add_left, sub-le, suc-mul, lt_of_lt_of_le, lt_of_le_of_lt, eq-or-lt_of_le, mul_comm, mul_assoc, one-mul, mul-sub, mul-le-mul_right, lt_of_mul-lt-mul_right}
 use native.Mathlib.Omega.{arith}
-use mathlib.Core.Bool.{Bool, true, false, not}
+use mathlib.Core.Bool.{Bool, false}
 use lib.IntN.{ℤ}
-use lib.Dec.{T, leb, leb→le, nleb→lt, lit<}
+use lib.Dec.{T}
 use lib.Pow.{pow-add, pow_pos}
-use lib.Ieee.{fin, Format, binary32, binary64, prec, low, fits, round}
+use Rattle.std.proofs.lemmas.Bool.{cases_lt}
+use lib.Ieee.{fin, Format, prec, low, fits, round}
 use lib.Ieee.Scale.{overflow}
 use lib.Ieee.Exact.{round_exact}
 use Rattle.rounding.proofs.Units.{on-grid}
 use Rattle.order.specs.Units.{mag, rounded}
 use Rattle.order.proofs.Keys.{mag_of, mag-lt}
-use Rattle.order.proofs.Sums.{sized, round-as}
+use Rattle.order.proofs.Sums.{sized, round-as, more-digits}
 
 -- n units are a value of the format
 abbrev pub Value : Format → ℕ → Type 0
@@ -30,12 +31,8 @@ rounded-value f n v =
     sym (round-as f false n (2 ^ low f)).0
     ∙ (sized f (round f false n (2 ^ low f)) false n (round_exact f false n (2 ^ low f) v.0 v.1 (pow_pos (low f)) v.2 (subst (λ (z : ℕ). z < overflow f) v.3 v.4) (ap (λ (z : ℕ). z * 2 ^ low f) v.3))).0
 
-one-digit : (f : Format) → 1 < 2 ^ prec f
-one-digit binary32 = lit< tt
-one-digit binary64 = lit< tt
-
 pub power-value : (f : Format) (k : ℕ) → 2 ^ k < overflow f → Value f (2 ^ k)
-power-value f k h = (1, k, one-digit f, sym (one-mul (2 ^ k)), h)
+power-value f k h = (1, k, more-digits f, sym (one-mul (2 ^ k)), h)
 
 -- one digit more than fits, where it is a power of two
 pub upto-value : (f : Format) (q k : ℕ) → q ≤ 2 ^ prec f → q * 2 ^ k < overflow f → Value f (q * 2 ^ k)
@@ -50,10 +47,7 @@ abbrev pub Up : Format → ℕ → ℕ → Type 0
 Up f m x = (n : ℕ) × (0 < n) × (m + n ≤ x) × Value f n × Value f (m + n)
 
 next : (a b K : ℕ) → a < b → a * K + K ≤ b * K
-next a b K h = le_trans (le_of_eq (sym (suc-times a K))) (mul-le-mul_right K h)
-  where
-    suc-times : (a K : ℕ) → suc a * K ≡ a * K + K
-    suc-times a K = omega arith
+next a b K h = le_trans (le_of_eq (sym (suc-mul a K))) (mul-le-mul_right K h)
 
 up_at : (f : Format) (a b k m x : ℕ) → m ≡ a * 2 ^ k → x ≡ b * 2 ^ k → m < x → a < 2 ^ prec f ⊎ b < 2 ^ prec f → x < overflow f → Up f m x
 up_at f a b k m x em ex h d l =
@@ -64,25 +58,19 @@ up_at f a b k m x em ex h d l =
       K,
       pow_pos k,
       over,
-      power-value f k (lt_of_le_of_lt (bound m K x over) l),
+      power-value f k (lt_of_le_of_lt (le_trans (le-add_left K m) over) l),
       subst (Value f) e (upto-value f (suc a) k (few d ab) (subst (λ (z : ℕ). z < overflow f) (sym e) (lt_of_le_of_lt over l))),
     )
   where
-    bound : (m K x : ℕ) → m + K ≤ x → K ≤ x
-    bound m K x h = omega arith
-
     few : a < 2 ^ prec f ⊎ b < 2 ^ prec f → a < b → suc a ≤ 2 ^ prec f
     few (inl g) ab = g
     few (inr g) ab = le_trans ab (le_of_lt g)
 
 -- j and k against one another
 apart : (j k : ℕ) → ((t : ℕ) × (k ≡ t + j)) ⊎ ((t : ℕ) × (j ≡ suc t + k))
-apart j k = go (leb j k) (leb→le j k) (nleb→lt j k)
-  where
-    go : (b : Bool) → (T b → j ≤ k) → (T (not b) → k < j) → ((t : ℕ) × (k ≡ t + j)) ⊎ ((t : ℕ) × (j ≡ suc t + k))
-    go true p r = inl (k - j, let h = p tt in omega arith)
-    go false p r = inr (j - suc k, let h = r tt in omega arith)
+apart j k = elim (cases_lt k j) [ inl l ↦ inr (j - suc k, omega arith) | inr l ↦ inl (k - j, omega arith) ]
 
+-- arcs has it too, and neither stands on the other
 shifted : (q t j k : ℕ) → k ≡ t + j → q * 2 ^ k ≡ q * 2 ^ t * 2 ^ j
 shifted q t j k e = ap (λ (z : ℕ). q * 2 ^ z) e ∙ ap (λ (z : ℕ). q * z) (pow-add 2 t j) ∙ sym (mul_assoc q (2 ^ t) (2 ^ j))
 
@@ -114,18 +102,12 @@ down-own f (suc a) b k m x em ex h d l =
       K,
       pow_pos k,
       over,
-      power-value f k (lt_of_le_of_lt (bound x K m over) l),
-      subst (Value f) e (upto-value f a k (le_of_lt (lt_of_lt_of_le (small a) d)) (subst (λ (z : ℕ). z < overflow f) (sym e) (lt_of_le_of_lt (less m K) l))),
+      power-value f k (lt_of_le_of_lt (le_trans (le-add_left K x) over) l),
+      subst (Value f) e (upto-value f a k (le_of_lt (lt_of_lt_of_le (small a) d)) (subst (λ (z : ℕ). z < overflow f) (sym e) (lt_of_le_of_lt (sub-le m K) l))),
     )
   where
-    bound : (m K x : ℕ) → m + K ≤ x → K ≤ x
-    bound m K x h = omega arith
-
     small : (a : ℕ) → a < suc (suc a)
     small a = omega arith
-
-    less : (m K : ℕ) → m - K ≤ m
-    less m K = omega arith
 
 -- by half of m, which is h
 down-half : (f : Format) (q j m x : ℕ) → q < 2 ^ prec f → m ≡ 2 * (q * 2 ^ j) → 0 < m → x ≤ q * 2 ^ j → m < overflow f → Down f m x
@@ -157,7 +139,7 @@ down-whole f a b k m x em ex h l d o v =
       m - x,
       pos m x h,
       le_of_eq (sum m x h),
-      subst (Value f) e (upto-value f (a - b) k (le_trans (few a b ab) (le_of_lt d)) (subst (λ (z : ℕ). z < overflow f) (sym e) (lt_of_le_of_lt (less m x) o))),
+      subst (Value f) e (upto-value f (a - b) k (le_trans (few a b ab) (le_of_lt d)) (subst (λ (z : ℕ). z < overflow f) (sym e) (lt_of_le_of_lt (sub-le m x) o))),
       subst (Value f) (rest m x h) v,
     )
   where
@@ -169,9 +151,6 @@ down-whole f a b k m x em ex h l d o v =
 
     few : (a b : ℕ) → a < 2 * b → a - b ≤ b
     few a b h = omega arith
-
-    less : (m x : ℕ) → m - x ≤ m
-    less m x = omega arith
 
     rest : (m x : ℕ) → x < m → x ≡ m - (m - x)
     rest m x h = omega arith
@@ -185,26 +164,19 @@ pub step_down : (f : Format) (m x : ℕ) → Value f m → Value f x → x < m �
 step_down f m x v w h =
     elim (apart v.1 w.1) [
       | inl e ↦ down-own f v.0 (w.0 * 2 ^ e.0) v.1 m x v.3 (w.3 ∙ shifted w.0 e.0 v.1 w.1 e.1) h v.2 v.4
-      | inr e ↦ below e (halves x (v.0 * 2 ^ (e.0 + w.1)))
+      | inr e ↦ below e (cases_lt (v.0 * 2 ^ (e.0 + w.1)) x)
     ]
   where
-    halves : (x w : ℕ) → (x ≤ w) ⊎ (w < x)
-    halves x w = go (leb x w) (leb→le x w) (nleb→lt x w)
-      where
-        go : (b : Bool) → (T b → x ≤ w) → (T (not b) → w < x) → (x ≤ w) ⊎ (w < x)
-        go true p r = inl (p tt)
-        go false p r = inr (r tt)
-
     twice : (m x w : ℕ) → m ≡ 2 * w → w < x → m < 2 * x
     twice m x w e l = omega arith
 
     some : (x m : ℕ) → x < m → 0 < m
     some x m l = omega arith
 
-    below : (e : (t : ℕ) × (v.1 ≡ suc t + w.1)) → (x ≤ v.0 * 2 ^ (e.0 + w.1)) ⊎ (v.0 * 2 ^ (e.0 + w.1) < x) → Down f m x
+    below : (e : (t : ℕ) × (v.1 ≡ suc t + w.1)) → (v.0 * 2 ^ (e.0 + w.1) < x) ⊎ (x ≤ v.0 * 2 ^ (e.0 + w.1)) → Down f m x
     below e c =
         let em : m ≡ 2 * (v.0 * 2 ^ (e.0 + w.1)) = v.3 ∙ ap (λ (z : ℕ). v.0 * 2 ^ z) e.1 ∙ doubled v.0 e.0 w.1 in
         elim c [
-          | inl l ↦ down-half f v.0 (e.0 + w.1) m x v.2 em (some x m h) l v.4
-          | inr l ↦ down-whole f (v.0 * 2 ^ suc e.0) w.0 w.1 m x (v.3 ∙ shifted v.0 (suc e.0) w.1 v.1 e.1) w.3 h (twice m x (v.0 * 2 ^ (e.0 + w.1)) em l) w.2 v.4 w
+          | inl l ↦ down-whole f (v.0 * 2 ^ suc e.0) w.0 w.1 m x (v.3 ∙ shifted v.0 (suc e.0) w.1 v.1 e.1) w.3 h (twice m x (v.0 * 2 ^ (e.0 + w.1)) em l) w.2 v.4 w
+          | inr l ↦ down-half f v.0 (e.0 + w.1) m x v.2 em (some x m h) l v.4
         ]

@@ -6,6 +6,7 @@ use Prim.Native.Nat.{ℕ, ◌≤◌, zero-le}
 use native.Mathlib.Omega.{arith}
 use lib.Dec.{T}
 use lib.Ieee.{Float, binary32}
+use lib.Ieee.Bits.{is_true}
 use lib.Ieee.Fits.{sub-fits}
 use Rattle.scalar.specs.F32.{◌-f◌, ◌*f◌, ◌≤f◌, ◌>f◌, at}
 use Rattle.scalar.specs.Literals.{f0}
@@ -69,10 +70,6 @@ scans-same s fxx = same_by s.exact_virtual_height s.htr s.fnsq (fxx *f fxx) (λ 
 cursor-up : (s : IonoState) (fxx : Float) → (gethp_of s fxx).cursor ≡ cond (walks s fxx) (cursor_by (rises_of s.htr) s.htr (difference_of s fxx)) 0
 unfolding gethp_of
 cursor-up s fxx = unfold ht segment in cursor-by s.exact_virtual_height s.htr s.fnsq (fxx *f fxx) (λ ht. ysq_of s.htr s.fnsq ht (fxx *f fxx)) (fxx *f fxx -f at s.fnsq 0 ≤f f0) (λ ht. cursor_by (rises_of s.htr) s.htr ht)
-
-is_true : (b : Bool) → T b → b ≡ true
-is_true true t = refl
-is_true false t = absurd t
 
 counted : (s : IonoState) (fxx : Float) → walks s fxx ≡ true → T (rises_of s.htr) → (gethp_of s fxx).cursor ≡ count_of s.htr (height_at (at s.htr 0) (difference_of s fxx) 39)
 unfolding cursor_by

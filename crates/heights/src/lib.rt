@@ -59,6 +59,7 @@ fn quadrature(ysq: &[f32; 40]) -> f32
     let mut hp = 0.0;
     // Stays: the loop is the Rust's, over `ig`. `WT.iter().zip(mup.chunks_exact(2))` keeps the order too, and is no plainer: the two
     // integrands would be a list of two, of which it has to be shown that it is of two; the library has no lemma on chunks in a zip.
+    // Over `WT.iter().enumerate()` the index would stay, for `mup`.
     for ig in 0..20 {
         let lower = 2 * ig;
         let upper = 2 * ig + 1;

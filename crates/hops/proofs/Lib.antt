@@ -1,3 +1,2 @@
--- A hop count is a whole number within its bounds; what the answers say by number and value.
-mod Counted
+-- What the answers say by number and value.
 mod Says

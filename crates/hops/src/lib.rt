@@ -60,7 +60,7 @@ pub fn hop_count(gcdkm: f32, amind: f32, h: f32) -> Result<f32, Refusal>
     ensures hops_say { HopsSay result gcdkm amind h }
 {
     let nhops = scalar::trunc(hop_ratio(gcdkm, amind, h));
-    if nhops < 0 || nhops > 999 {
+    if !(0..=999).contains(&nhops) {
         return Err(Refusal::MufHops);
     }
     let xhops = (nhops + 1) as f32;

@@ -1,14 +1,33 @@
-// A MUF's answer as words: the hour, and the word of an Es row that is rewritten.
+// The words of a MUF: those it is called with, read as floats, and its answer's: the hour, and the word of an Es row that is
+// rewritten.
 // Stays: out with from, and out of 54 words, are the words that callers in C lend; the exports test
 // their lengths once, before all else.
 #![tactic(auto)]
 
 ghost use Rattle.std.specs.Prelude.{◌≡◌, ◌+◌, ◌≤◌, length};
+ghost use Rattle.deviation_words.specs.Floats.{floats};
 ghost use Rattle.hour_words.specs.HourWords.{ten_into, line_into, head_into, hour_into, WordThere, words_by};
 
 use layers::LayerMuf;
 use muf::MufHour;
+use muf::lent::Numbers;
 use sporadic::Rewrite;
+
+// Lent words, read as floats.
+#[derive(Clone, Copy)]
+pub struct Words<'a>(pub &'a [u32]);
+
+impl<'a> Numbers for Words<'a> {
+    ghost floats = { λ w. floats w.0.now };
+
+    fn count(self) -> usize {
+        self.0.len()
+    }
+
+    fn number(self, k: usize) -> f32 {
+        scalar::number(self.0[k])
+    }
+}
 
 // All of a line but its hop count, which stands at word 7.
 fn ten_into(l: LayerMuf, out: &mut [u32], from: usize)
@@ -44,22 +63,14 @@ fn head_into(h: MufHour, out: &mut [u32])
     out[9] = port_state::count(h.ks);
 }
 
-// Stays: the four lines written out, since each call of `line_into` asks that its words are there, and a loop over the lines would
-// have to carry that, and what the lines before left.
 pub fn hour_into(h: MufHour, out: &mut [u32])
     requires { 54 ≤ length out.old }
     ensures { out.new ≡ hour_into h out.old }
 {
-    let layers = h.layers;
-    let e = layers[0];
-    let f1 = layers[1];
-    let f2 = layers[2];
-    let es = layers[3];
     head_into(h, out);
-    line_into(e, out, 10);
-    line_into(f1, out, 21);
-    line_into(f2, out, 32);
-    line_into(es, out, 43);
+    for (k, l) in h.layers.iter().enumerate() {
+        line_into(*l, out, 10 + 11 * k);
+    }
 }
 
 // The row that is rewritten is there.

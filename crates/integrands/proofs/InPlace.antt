@@ -1,22 +1,16 @@
 -- A loop that changes a list place by place, each number by itself, and roots put into another list: both make `map`.
 use mathlib.Core.Path.{◌≡◌, refl, ap, ◌∙◌}
-use mathlib.Core.List.{List, [], ◌∷◌, map}
+use mathlib.Core.List.{List, map}
 use Prim.Native.Nat.{ℕ, zero, suc, ◌+◌, ◌≤◌, ◌<◌}
 use native.Mathlib.Numerals.{add-one}
 use native.Mathlib.Omega.{arith}
 use lib.ListN.{length, get_or, set}
 use lib.Ieee.{Float, nan}
-use Rattle.cases.proofs.Tabulate.{mapped, mapped-more, mapped-all}
+use Rattle.cases.proofs.Tabulate.{mapped, mapped-more, mapped-all, untouched}
 use Rattle.roots.specs.Roots.{put_each}
 
--- the place of the turn is as it was
-untouched : (f : Float → Float) (l : List Float) (i : ℕ) → get_or (mapped f nan l l i) i nan ≡ get_or l i nan
-untouched f l zero = refl
-untouched f [] (suc i) = refl
-untouched f (x ∷ l) (suc i) = untouched f l i
-
 pub turn : (f : Float → Float) (l out : List Float) (i : ℕ) (y : Float) → i < length l → out ≡ mapped f nan l l i → y ≡ f (get_or out i nan) → set out i y ≡ mapped f nan l l (i + 1)
-turn f l out i y h e ey = rw (ey, e, untouched f l i, add-one i) (mapped-more f nan l l i h)
+turn f l out i y h e ey = rw (ey, e, untouched f nan l i, add-one i) (mapped-more f nan l l i h)
 
 pub changed : (f : Float → Float) (l out : List Float) (i : ℕ) → i ≡ length l → out ≡ mapped f nan l l i → out ≡ map f l
 changed f l out i h e = e ∙ ap (mapped f nan l l) h ∙ mapped-all f nan l l refl

@@ -5,21 +5,21 @@ use native.Mathlib.Omega.{arith}
 use lib.Dec.{eqb}
 use lib.Ieee.{Float}
 use lib.ListN.{get_or}
+use Rattle.std.specs.Result.{result_unwrap_or}
 use Rattle.scalar.specs.F32.{◌-f◌, ◌<f◌, ◌>f◌, at}
 use Rattle.scalar.specs.Literals.{f0, f0_01}
 use Rattle.scalar.specs.Scalar.{abs_of}
 use Rattle.layers.specs.declared.IonoState.{IonoState}
 use Rattle.scan_angles.specs.Angles.{NANGX, distance_step_of, scan_by, sang_of}
-use Rattle.answer_words.specs.Words.{number_in}
 use Rattle.selmod.specs.Selmod.{slot_if, selmod_of}
 use Rattle.scan_angles.proofs.Forty.{count-most}
 use Rattle.scan_angles.proofs.Counts.{step_range, nangx-range}
 
-scan-by : (b : Bool) (amind : Float) (id : ℕ) → id ≤ 8 → number_in (scan_by b amind id) ≤ 40
+scan-by : (b : Bool) (amind : Float) (id : ℕ) → id ≤ 8 → result_unwrap_or (scan_by b amind id) 0 ≤ 40
 scan-by true amind id h = omega arith
 scan-by false amind id h = count-most amind (get_or NANGX (id - 1) 0) (nangx-range (id - 1) (omega arith)).1
 
-pub angles-range : (gcdkm amind : Float) → number_in (sang_of gcdkm amind) ≤ 40
+pub angles-range : (gcdkm amind : Float) → result_unwrap_or (sang_of gcdkm amind) 0 ≤ 40
 unfolding sang_of
 angles-range gcdkm amind = scan-by (eqb (distance_step_of gcdkm) 0) amind (distance_step_of gcdkm) (step_range gcdkm)
 

@@ -1,16 +1,12 @@
 -- `sang` on words: refused with 1 where no word is lent for the count; a refused call leaves every word.
-use Rattle.std.specs.Prelude.{Bool, true, false, Result, List, ℕ, ltb, length}
+use Rattle.std.specs.Prelude.{Bool, true, false, Result, List, ℕ}
 use Rattle.std.specs.Float.{binary32}
 use Rattle.std.specs.Float.Ieee.{of_bits}
 use Rattle.refusal.specs.declared.Refusal.{Refusal}
 use Rattle.port_state.specs.Ports.{Ported, refused_with}
 use Rattle.refusal.specs.Number.{answer_number}
-use Rattle.answer_words.specs.Words.{number_left}
+use Rattle.answer_words.specs.Words.{short, number_left}
 use Rattle.scan_angles.specs.Angles.{sang_of}
-
--- has the slice fewer words than its layout
-abbrev pub short : List ℕ → ℕ → Bool
-short w n = ltb (length w) n
 
 abbrev pub unless_short : Bool → List ℕ → Ported → Ported
 unless_short true w a = refused_with Refusal.Length w

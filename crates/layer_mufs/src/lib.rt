@@ -31,15 +31,13 @@ pub struct Deviations {
 }
 
 // Parabolic F2 over a parabolic E layer.
-// Stays: `hp` is as `virtual_by_parabola` of sounding_rows; the Rust writes it out in each of its two modules.
 fn parabolic(l: Slot, x: F2Tangent) -> HeightPair
     ensures { result ≡ parabolic_of l x }
 {
-    let bend = parabolas::bendy_at(l.fi2, l.yi2, x.fx2);
-    let pass = parabolas::pen_at(l.fi0, l.yi0, x.fx2);
+    let hp = parabolas::height_over_e(l.fi0, l.yi0, l.fi2, l.yi2, l.hi2, x.fx2);
     let root = scalar::sqrt(1.0 - x.xt2 * x.xt2);
     HeightPair {
-        hp: l.hi2 - l.yi2 + bend + (pass - 2.0 * l.yi0),
+        hp,
         ht: l.hi2 - l.yi2 + l.yi2 * (1.0 - root),
     }
 }

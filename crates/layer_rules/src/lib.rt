@@ -12,6 +12,8 @@ pub fn count_taken(n: usize) -> bool
     (1..=5).contains(&n)
 }
 
+// Stays: that k is below 5 is asked, since the table has five rows. A loop over the points gives the number; a type of it would be made
+// at each turn and opened for this index.
 pub fn set_row(mut table: [f32; 15], k: usize, row: [f32; 3]) -> [f32; 15]
     requires { k < 5 }
     ensures { result ≡ row_set table k row }

@@ -19,24 +19,32 @@ impl From<Owner> for u32 {
     }
 }
 
-// The slot's number, 0 beside the others.
-// Stays: a number, since callers in C have the two side by side, and this is what they are handed.
-pub fn slot(o: Owner) -> usize
-    ensures { result ≡ owner_slot o }
-{
-    match o {
-        Owner::Slot(k) => k,
-        Owner::None | Owner::Supplied => 0,
+impl Owner {
+    // The slot's number, 0 beside the others.
+    // Stays: a number, since callers in C have the two side by side, and this is what they are handed.
+    pub fn slot(self) -> usize
+        ensures { result ≡ owner_slot self }
+    {
+        match self {
+            Owner::Slot(k) => k,
+            Owner::None | Owner::Supplied => 0,
+        }
     }
-}
 
-// What counts where `ielect` is not set: a stored "supplied" is none.
-fn unsupplied(o: Owner) -> Owner
-    ensures { result ≡ owner_by false o }
-{
-    match o {
-        Owner::Supplied => Owner::None,
-        stored => stored,
+    // What counts where `ielect` is not set: a stored "supplied" is none.
+    fn unsupplied(self) -> Owner
+        ensures { result ≡ owner_by false self }
+    {
+        match self {
+            Owner::Supplied => Owner::None,
+            stored => stored,
+        }
+    }
+
+    fn answers_for(self, k: usize) -> bool
+        ensures { result ≡ answers_for self k }
+    {
+        self == Owner::Supplied || self == Owner::Slot(k)
     }
 }
 
@@ -47,21 +55,14 @@ pub fn owner_of(s: IonoState) -> Owner
     if s.ielect {
         return Owner::Supplied;
     }
-    let o = s.owner;
-    unsupplied(o)
-}
-
-fn answers_for(o: Owner, k: usize) -> bool
-    ensures { result ≡ answers_for o k }
-{
-    o == Owner::Supplied || o == Owner::Slot(k)
+    s.owner.unsupplied()
 }
 
 // Whether the profile is slot k's: made for it, or supplied.
 pub fn owned_by(s: IonoState, k: usize) -> bool
     ensures { result ≡ owned_by s k }
 {
-    answers_for(owner_of(s), k)
+    owner_of(s).answers_for(k)
 }
 
 // The state with another owner.

@@ -1,12 +1,7 @@
 -- The four layer lines as the exports read them from words.
-use Rattle.std.specs.Prelude.{List, [], ◌∷◌, ℕ, ◌+◌, Float}
-use Rattle.std.specs.Float.{binary32}
-use Rattle.std.specs.Float.Ieee.{of_bits}
-use Rattle.port_state.specs.Words.{word, signed_of}
+use Rattle.std.specs.Prelude.{List, [], ◌∷◌, ℕ, ◌+◌}
+use Rattle.port_state.specs.Words.{word, number, signed_of}
 use Rattle.layers.specs.declared.LayerMuf.{LayerMuf}
-
-abbrev pub number : List ℕ → ℕ → Float
-number w i = of_bits binary32 (word w i)
 
 -- eleven words from word i on
 unfoldable pub line_of_words : List ℕ → ℕ → LayerMuf

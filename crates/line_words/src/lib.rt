@@ -26,16 +26,9 @@ fn line_of(w: &[u32], i: usize) -> LayerMuf
     }
 }
 
-// Stays: the calls written out. An array's `map` over the four places asks at each of its calls that eleven words follow the place,
-// and the closure would have to carry what each place is asked to be.
 pub fn lines_of(w: &[u32]) -> [LayerMuf; 4]
     requires { 44 ≤ length w.now }
     ensures { result ≡ lines_of_words w.now }
 {
-    [
-        line_of(w, 0),
-        line_of(w, 11),
-        line_of(w, 22),
-        line_of(w, 33),
-    ]
+    std::array::from_fn(|k| line_of(w, 11 * k))
 }

@@ -1,10 +1,10 @@
 -- Texts put one after the other are their concatenation put at once; a text that fits is put whole.
 use Rattle.std.proofs.Common.{ℕ, zero, suc, ◌+◌, ◌-◌, ◌≤◌, ◌<◌, ◌≡◌, List, [], ◌∷◌, ◌++◌, length, take, get_or, append_assoc}
-use mathlib.Core.Path.{refl, ap, sym, ◌∙◌}
+use mathlib.Core.Path.{refl, ap, ◌∙◌}
 use native.Mathlib.Numerals.{add-one}
 use native.Mathlib.Omega.{arith}
-use lib.ListN.{set, length-append}
-use Rattle.std.proofs.lemmas.List.{append-nil, take_all, take_more_set, length-take-le}
+use lib.ListN.{length-append}
+use Rattle.std.proofs.lemmas.List.{append-nil, take_all}
 use lib.Seq.{take-suc}
 use Rattle.lines.specs.Text.{joined, with_text}
 use lib.Seq.{take-nil}
@@ -35,20 +35,18 @@ pub put_none : (n : ℕ) (page : List ℕ) → with_text n page [] ≡ page
 unfolding with_text
 put_none n page = rw (take-nil (n - length page)) (append-nil page)
 
--- a byte that has room, and one that has none, where the page is the first `len` of the bytes
-pub put_room : (n len : ℕ) (bytes : List ℕ) (b : ℕ) → length bytes ≡ n → len < n → take (len + 1) (set bytes len b) ≡ with_text n (take len bytes) (b ∷ [])
+-- a byte that has room, and one that has none
+pub put_room : (n : ℕ) (page : List ℕ) (b : ℕ) → length page < n → with_text n page (b ∷ []) ≡ page ++ b ∷ []
 unfolding with_text
-put_room n len bytes b e h =
-    let k : length (take len bytes) ≡ len = length-take-le len bytes (omega arith) in
-    let m : n - length (take len bytes) ≡ suc (n - len - 1) = omega arith in
-    rw m (take_more_set bytes len b (omega arith) ∙ ap (λ (x : List ℕ). take len bytes ++ b ∷ x) (sym (take-nil (n - len - 1))))
+put_room n page b h =
+    let m : n - length page ≡ suc (n - length page - 1) = omega arith in
+    rw m (ap (λ (x : List ℕ). page ++ b ∷ x) (take-nil (n - length page - 1)))
 
-pub put_full : (n len : ℕ) (bytes : List ℕ) (b : ℕ) → length bytes ≡ n → len ≤ n → n ≤ len → take len bytes ≡ with_text n (take len bytes) (b ∷ [])
+pub put_full : (n : ℕ) (page : List ℕ) (b : ℕ) → n ≤ length page → with_text n page (b ∷ []) ≡ page
 unfolding with_text
-put_full n len bytes b e h f =
-    let k : length (take len bytes) ≡ len = length-take-le len bytes (omega arith) in
-    let m : n - length (take len bytes) ≡ 0 = omega arith in
-    rw m (sym (append-nil (take len bytes)))
+put_full n page b h =
+    let m : n - length page ≡ 0 = omega arith in
+    rw m (append-nil page)
 
 -- none of many texts, and one more
 pub joined_none : (text : ℕ → List ℕ) → joined text 0 ≡ []

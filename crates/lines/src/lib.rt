@@ -5,26 +5,24 @@
 // a text that is put here can't be refused.
 #![tactic(auto)]
 
-ghost use Rattle.std.specs.Prelude.{List, ℕ, ◌≡◌, ◌≤◌, [], ◌∷◌, take};
+ghost use Rattle.std.specs.Prelude.{List, ℕ, ◌≡◌, [], ◌∷◌};
 ghost use Rattle.lines.specs.Text.{with_text, decimal_of, hex_of, field_of, refused_text};
 
+use arrayvec::ArrayVec;
 use refusal::Refusal;
 use std::convert::AsSlice;
 use std::marker::Model;
 
 #[derive(Drop)]
 pub struct Page<const N: usize> {
-    bytes: [u8; N],
-    len: usize,
+    bytes: ArrayVec<u8, N>,
 }
 
 // A page is the bytes that stand on it.
 impl<const N: usize> Model for Page<N> {
     ghost Value = { List ℕ };
 
-    ghost view = { λ p. take p.len p.bytes };
-
-    ghost invariant = { λ p. p.len ≤ N };
+    ghost view = { λ p. p.bytes.items };
 }
 
 impl<const N: usize> AsSlice<u8> for Page<N> {
@@ -40,23 +38,21 @@ impl<const N: usize> Page<N> {
         ensures { result ≡ [] }
     {
         Page {
-            bytes: [0; N],
-            len: 0,
+            bytes: ArrayVec::new(),
         }
     }
 
     pub fn text(&self) -> &[u8]
         ensures { result.now ≡ self.now }
     {
-        &self.bytes[..self.len]
+        self.bytes.as_slice()
     }
 
     pub fn put_byte(&mut self, b: u8)
         ensures { self.new ≡ with_text N self.old (b ∷ []) }
     {
-        if self.len < N {
-            self.bytes[self.len] = b;
-            self.len += 1;
+        if !self.bytes.is_full() {
+            self.bytes.push(b);
         }
     }
 

@@ -1,8 +1,8 @@
 -- The parts of the logarithm fit 64 bits: with l leading zeros n * 2 ^ l has 64 digits, so the quotient by d has 39 or 40, and s at most 29.
 use mathlib.Core.Path.{◌≡◌, refl, sym, ap, ◌∙◌, subst}
 use mathlib.Core.Bool.{Bool}
-use Prim.Native.Nat.{ℕ, suc, ◌+◌, ◌-◌, ◌*◌, ◌/◌, ◌^◌, ◌≤◌, ◌<◌}
-use native.Mathlib.Nat.{le_trans, le_of_eq, le_of_lt, lt_of_lt_of_le, lt_of_le_of_lt, lt_of_not-le, not-le_of_lt, mul_assoc, mul_right_comm, mul-le-mul, mul-le-mul_left, mul-le-mul_right, mul-lt-mul_of_pos_right, le_of_mul-le-mul_right, div-mul-le_self, lt-div-mul-add, zero-div, zero-mul}
+use Prim.Native.Nat.{ℕ, ◌+◌, ◌-◌, ◌*◌, ◌/◌, ◌^◌, ◌≤◌, ◌<◌}
+use native.Mathlib.Nat.{le_trans, le_of_eq, le_of_lt, lt_of_lt_of_le, lt_of_le_of_lt, lt_of_not-le, not-le_of_lt, mul_assoc, mul_right_comm, mul-le-mul, mul-le-mul_left, mul-le-mul_right, le_of_mul-le-mul_right, div-mul-le_self, lt-div-mul-add, zero-div, zero-mul, le-add_left, le-add_right}
 use native.Mathlib.Omega.{arith}
 use lib.Dec.{leb, leb→le, lit≤, lit<}
 use lib.Pow.{pow_pos, pow_mono, pow-add}
@@ -12,6 +12,7 @@ use borrow.Author.Tests.{le-leb, lt-leb}
 use Rattle.cases.proofs.Cases.{split}
 use Rattle.cases.proofs.Entries.{entry}
 use Rattle.fixed.specs.Fixed.{pick}
+use Rattle.fixed.proofs.Round.{top_of}
 use Rattle.exponential.specs.Tables.{ln2}
 use Rattle.logarithm.specs.Tables.{eighths}
 use Rattle.logarithm.specs.Ln.{excess_of, quotient, lengthened, twice_of, index, centre, rest_of}
@@ -25,29 +26,17 @@ pub record Zeros (n : ℕ) : Type 0 where
 
 pub zeros : (n : ℕ) → 0 < n → n ≤ 2 ^ 19 → Zeros n
 zeros n p h =
-    let l = count_leading_zeros 64 n in
-    let top = leading_top 64 n p (lt_of_le_of_lt h (lit< tt)) in
-    let j = top.0 in
-    let e : l + suc j ≡ 64 = top.1 in
-    let J : j ≤ 19 = up_to j (le_trans top.2 h) in
-    record {
-      few = omega arith;
-      most = omega arith;
-      full = le_trans (le_of_eq (sym (ap (λ (x : ℕ). 2 ^ x) (line l j e)) ∙ pow-add 2 j l)) (mul-le-mul_right (2 ^ l) top.2);
-      fits = lt_of_lt_of_le (mul-lt-mul_of_pos_right top.3 (pow_pos l)) (le_of_eq (sym (pow-add 2 (suc j) l) ∙ ap (λ (x : ℕ). 2 ^ x) (line' l j e)));
-    }
+    let fit : n < 2 ^ 64 = lt_of_le_of_lt h (lit< tt) in
+    let t = leading_top 64 n p fit in
+    let J : t.0 ≤ 19 = up_to t.0 (le_trans t.2 h) in
+    let T = top_of n p fit in
+    record { few = omega (arith, t.1); most = T.few; full = T.full; fits = T.fits }
   where
     up_to : (j : ℕ) → 2 ^ j ≤ 2 ^ 19 → j ≤ 19
     up_to j q = below j (lt_of_not-le (λ (g : 20 ≤ j). not-le_of_lt (lit< tt) (le_trans (pow_mono {i = 20} {j = j} g) q)))
       where
         below : (j : ℕ) → j < 20 → j ≤ 19
         below j k = omega arith
-
-    line : (l j : ℕ) → l + suc j ≡ 64 → j + l ≡ 63
-    line l j e = omega arith
-
-    line' : (l j : ℕ) → l + suc j ≡ 64 → suc j + l ≡ 64
-    line' l j e = omega arith
 
 -- ---- the excess
 pub excess-le : (s : ℕ) → s ≤ 2 ^ 29 → excess_of s ≤ 2 ^ 23
@@ -242,7 +231,7 @@ module _ (m : ℕ) (low : 2 ^ 23 ≤ m) (high : m < 2 ^ 24) where
   rest-ge n =
       split m (centre m)
       (λ h. le_trans (go (index m) (twice_of (centre m - m) (m + centre m)) tabled (down-index h) down_le (eighth-ge (index m) index-le)) (le_of_eq (sym (rest-down h))))
-      (λ h. le_trans (split (index m) 1 (λ i. le_trans (least (m - centre m) (m + centre m) (omega arith) up-near sum-ge sum_lt) (more (twice_of (m - centre m) (m + centre m)) tabled)) (λ i. le_trans (large (index m) tabled i (eighth-ge (index m) index-le)) (more' (twice_of (m - centre m) (m + centre m)) tabled))) (le_of_eq (sym (rest_up h))))
+      (λ h. le_trans (split (index m) 1 (λ i. le_trans (least (m - centre m) (m + centre m) (omega arith) up-near sum-ge sum_lt) (le-add_left (twice_of (m - centre m) (m + centre m)) tabled)) (λ i. le_trans (large (index m) tabled i (eighth-ge (index m) index-le)) (le-add_right tabled (twice_of (m - centre m) (m + centre m))))) (le_of_eq (sym (rest_up h))))
     where
       go : (i a y : ℕ) → 1 ≤ i → a ≤ 2 ^ 52 + 2 ^ 42 → i * 6243314768165359 ≤ y → 2 ^ 30 ≤ y - a
       go i a y p q r = omega arith
@@ -250,11 +239,12 @@ module _ (m : ℕ) (low : 2 ^ 23 ≤ m) (high : m < 2 ^ 24) where
       large : (i y : ℕ) → 1 ≤ i → i * 6243314768165359 ≤ y → 2 ^ 30 ≤ y
       large i y p q = omega arith
 
-      more : (a y : ℕ) → a ≤ y + a
-      more a y = omega arith
-
-      more' : (a y : ℕ) → y ≤ y + a
-      more' a y = omega arith
+  -- and so is the sum with e times ln 2
+  pub sum-big : (e : ℕ) → 2 ^ 23 < m + e → 2 ^ 30 ≤ e * ln2 + rest_of m
+  sum-big e k = split (2 ^ 23) m (λ h. le_trans (rest-ge h) (le-add_left (rest_of m) (e * ln2))) (λ h. many e (rest_of m) (omega arith))
+    where
+      many : (e y : ℕ) → 1 ≤ e → 2 ^ 30 ≤ e * ln2 + y
+      many e y h = omega arith
 
   -- at least 2 ^ 30 units below ln 2
   pub rest_le : rest_of m + 2 ^ 30 ≤ ln2

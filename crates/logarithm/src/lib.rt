@@ -125,6 +125,7 @@ fn ln_bits(b: u32) -> u32
     below_bits((b << (z - 8)) as u64, (118 + z) as u64)
 }
 
+// Stays: as `exp`, `sin` and the others, each one line; one function for them would be handed `ln_bits`, and a call of it as long.
 pub fn ln(x: f32) -> f32
     ensures { result ≡ ln_of x }
 {

@@ -1,9 +1,11 @@
 // `alosfv`: a factor of deviative loss for each of an ionogram's thirty rows. A layer's own rows
 // have zero up to the true height at its MUF; the two rows of a cusp between layers have one at any
 // height.
-// Stays: s, k, ion and layers are the Rust's own parameters, and a row is two heights handed on apart, since
-// an ionogram handed down for each would be copied each time. A loop over rows reads two columns at a row
-// and writes a third.
+// Stays: s, k, ion and layers are the Rust's own parameters, and ion is read by each step of the factors,
+// which are stored in it at the end. A row is two heights handed on apart, since the definitions speak of two
+// heights, and an ionogram lent would be read as `ion.now` in each clause; beside them `hm` is of the layer's
+// line, or of the row after a cusp, and `d` of the layer's shape. A loop over rows reads two columns at a row,
+// writes a third and hands the constant on to the next row.
 #![tactic(auto)]
 
 ghost use Rattle.std.specs.Prelude.{◌≡◌, ◌+◌, ◌<◌, ◌≤◌};
@@ -47,8 +49,8 @@ fn factor(c: f32, htrue: f32, hprim: f32, hm: f32) -> f32
     c * (hprim - htrue - hm)
 }
 
-// Of a row's two heights. Stays: apart from `tail_loss`, as in the Rust, since E's constant has no floor,
-// and by no floor that could be handed in would a NaN stay one.
+// Of a row's two heights. Stays: apart from `tail_loss`, as in the Rust: E's constant starts from 0.2 and not
+// from 0.1, and one function would be handed that as well as a floor which means none.
 fn e_loss(cf: f32, htrue: f32, hprim: f32, htmuf: f32, hm: f32, d: Decay) -> Loss
     ensures { result ≡ e_loss cf htrue hprim htmuf hm d }
 {
@@ -62,20 +64,6 @@ fn e_loss(cf: f32, htrue: f32, hprim: f32, htmuf: f32, hm: f32, d: Decay) -> Los
     }
 }
 
-// Stays: apart from `tail_rows`, since E's rows take no floor.
-fn e_rows(f: Factors, ion: Ionogram, l: LayerMuf, d: Decay) -> Factors
-    ensures { result ≡ e_rows f ion l d 10 }
-{
-    let mut g = f;
-    for ih in 0..10 {
-        let hm = l.hpmuf - l.htmuf;
-        let r = e_loss(g.cf, ion.htrue[ih], ion.hprim[ih], l.htmuf, hm, d);
-        g.cf = r.cf;
-        g.afac[ih] = r.a;
-    }
-    g
-}
-
 fn cusp_loss(a: f32, htrue: f32, hprim: f32, d: Decay, hm: f32) -> Loss
     ensures { result ≡ cusp_loss a htrue hprim d hm }
 {
@@ -84,25 +72,6 @@ fn cusp_loss(a: f32, htrue: f32, hprim: f32, d: Decay, hm: f32) -> Loss
         cf: c,
         a: factor(c, htrue, hprim, hm),
     }
-}
-
-// A cusp between two layers: two rows carry on the constant of the layer below, so that the loss
-// does not jump there, and the third has zero.
-fn cusp(mut f: Factors, ion: Ionogram, d: Decay, ih: usize) -> Factors
-    requires { ih < 28 }
-    ensures { result ≡ cusp_of f ion d ih }
-{
-    let next = ih + 1;
-    let after = ih + 2;
-    let hm = ion.hprim[after] - ion.htrue[after];
-    let a = f.cf;
-    let r = cusp_loss(a, ion.htrue[ih], ion.hprim[ih], d, hm);
-    let t = cusp_loss(a, ion.htrue[next], ion.hprim[next], d, hm);
-    f.cf = t.cf;
-    f.afac[ih] = r.a;
-    f.afac[next] = t.a;
-    f.afac[after] = 0.0;
-    f
 }
 
 fn tail_loss(cf: f32, htrue: f32, hprim: f32, htmuf: f32, hm: f32, d: Decay, floor: f32) -> Loss
@@ -118,70 +87,105 @@ fn tail_loss(cf: f32, htrue: f32, hprim: f32, htmuf: f32, hm: f32, d: Decay, flo
     }
 }
 
-fn tail_rows(
-    f: Factors,
-    ion: Ionogram,
-    l: LayerMuf,
-    d: Decay,
-    floor: f32,
-    first: usize,
-    n: usize,
-) -> Factors
-    requires { first + n ≤ 30 }
-    ensures { result ≡ tail_rows f ion l d floor first n }
-{
-    let mut g = f;
-    for i in 0..n {
-        let ih = first + i;
-        let hm = l.hpmuf - l.htmuf;
-        let r = tail_loss(g.cf, ion.htrue[ih], ion.hprim[ih], l.htmuf, hm, d, floor);
-        g.cf = r.cf;
-        g.afac[ih] = r.a;
+impl Factors {
+    // Stays: apart from `tail_rows`: it calls `e_loss`, which takes no floor, and one function would be handed which of the two.
+    fn e_rows(self, ion: Ionogram, l: LayerMuf, d: Decay) -> Factors
+        ensures { result ≡ e_rows self ion l d 10 }
+    {
+        let mut g = self;
+        for ih in 0..10 {
+            let hm = l.hpmuf - l.htmuf;
+            let r = e_loss(g.cf, ion.htrue[ih], ion.hprim[ih], l.htmuf, hm, d);
+            g.cf = r.cf;
+            g.afac[ih] = r.a;
+        }
+        g
     }
-    g
-}
 
-// F2 straight after E. The constant of its rows stays at 0.5 or more, where that of cusps and of
-// other tails stays at 0.05 or more: so the Fortran has it.
-fn without_f1(f: Factors, ion: Ionogram, f2: LayerMuf, y2: f32) -> Factors
-    ensures { result ≡ without_f1 f ion f2 y2 }
-{
-    let d = Decay {
-        hz: ion.htrue[10],
-        y: y2,
-    };
-    tail_rows(cusp(f, ion, d, 10), ion, f2, d, 0.5, 13, 17)
-}
-
-// F1, then F2. The cusp between them takes the constant that was last worked out, as the Fortran's
-// variable does: that of an F1 row, or of the cusp under F1 if all F1 rows have zero.
-fn with_f1(f: Factors, ion: Ionogram, f1: LayerMuf, f2: LayerMuf, y1: f32, y2: f32) -> Factors
-    ensures { result ≡ with_f1 f ion f1 f2 y1 y2 }
-{
-    let d1 = Decay {
-        hz: ion.htrue[10],
-        y: y1,
-    };
-    let g = tail_rows(cusp(f, ion, d1, 10), ion, f1, d1, 0.05, 13, 7);
-    let d2 = Decay {
-        hz: ion.htrue[20],
-        y: y2,
-    };
-    tail_rows(cusp(g, ion, d2, 20), ion, f2, d2, 0.05, 23, 7)
-}
-
-fn above(f: Factors, s: IonoState, k: usize, ion: Ionogram, layers: [LayerMuf; 4]) -> Factors
-    requires { k < 3 }
-    ensures { result ≡ above_of f s k ion layers }
-{
-    let i1 = 3 * k + 1;
-    let i2 = 3 * k + 2;
-    let l2 = layers[2];
-    if s.fi[i1] <= 0.0 {
-        return without_f1(f, ion, l2, s.yi[i2]);
+    // A cusp between two layers: two rows carry on the constant of the layer below, so that the loss
+    // does not jump there, and the third has zero.
+    fn cusp(mut self, ion: Ionogram, d: Decay, ih: usize) -> Factors
+        requires { ih < 28 }
+        ensures { result ≡ cusp_of self ion d ih }
+    {
+        let next = ih + 1;
+        let after = ih + 2;
+        let hm = ion.hprim[after] - ion.htrue[after];
+        let a = self.cf;
+        let r = cusp_loss(a, ion.htrue[ih], ion.hprim[ih], d, hm);
+        let t = cusp_loss(a, ion.htrue[next], ion.hprim[next], d, hm);
+        self.cf = t.cf;
+        self.afac[ih] = r.a;
+        self.afac[next] = t.a;
+        self.afac[after] = 0.0;
+        self
     }
-    let l1 = layers[1];
-    with_f1(f, ion, l1, l2, s.yi[i1], s.yi[i2])
+
+    fn tail_rows(
+        self,
+        ion: Ionogram,
+        l: LayerMuf,
+        d: Decay,
+        floor: f32,
+        first: usize,
+        n: usize,
+    ) -> Factors
+        requires { first + n ≤ 30 }
+        ensures { result ≡ tail_rows self ion l d floor first n }
+    {
+        let mut g = self;
+        for i in 0..n {
+            let ih = first + i;
+            let hm = l.hpmuf - l.htmuf;
+            let r = tail_loss(g.cf, ion.htrue[ih], ion.hprim[ih], l.htmuf, hm, d, floor);
+            g.cf = r.cf;
+            g.afac[ih] = r.a;
+        }
+        g
+    }
+
+    // F2 straight after E. The constant of its rows stays at 0.5 or more, where that of cusps and of
+    // other tails stays at 0.05 or more: so the Fortran has it.
+    fn without_f1(self, ion: Ionogram, f2: LayerMuf, y2: f32) -> Factors
+        ensures { result ≡ without_f1 self ion f2 y2 }
+    {
+        let d = Decay {
+            hz: ion.htrue[10],
+            y: y2,
+        };
+        self.cusp(ion, d, 10).tail_rows(ion, f2, d, 0.5, 13, 17)
+    }
+
+    // F1, then F2. The cusp between them takes the constant that was last worked out, as the Fortran's
+    // variable does: that of an F1 row, or of the cusp under F1 if all F1 rows have zero.
+    fn with_f1(self, ion: Ionogram, f1: LayerMuf, f2: LayerMuf, y1: f32, y2: f32) -> Factors
+        ensures { result ≡ with_f1 self ion f1 f2 y1 y2 }
+    {
+        let d1 = Decay {
+            hz: ion.htrue[10],
+            y: y1,
+        };
+        let g = self.cusp(ion, d1, 10).tail_rows(ion, f1, d1, 0.05, 13, 7);
+        let d2 = Decay {
+            hz: ion.htrue[20],
+            y: y2,
+        };
+        g.cusp(ion, d2, 20).tail_rows(ion, f2, d2, 0.05, 23, 7)
+    }
+
+    fn above(self, s: IonoState, k: usize, ion: Ionogram, layers: [LayerMuf; 4]) -> Factors
+        requires { k < 3 }
+        ensures { result ≡ above_of self s k ion layers }
+    {
+        let i1 = 3 * k + 1;
+        let i2 = 3 * k + 2;
+        let l2 = layers[2];
+        if s.fi[i1] <= 0.0 {
+            return self.without_f1(ion, l2, s.yi[i2]);
+        }
+        let l1 = layers[1];
+        self.with_f1(ion, l1, l2, s.yi[i1], s.yi[i2])
+    }
 }
 
 // Stays: not `scalar::max`, which answers otherwise at a NaN.
@@ -220,7 +224,7 @@ pub fn alosfv_slot(s: IonoState, k: usize, ion: Ionogram, layers: [LayerMuf; 4])
     let afac = ion.afac;
     let start = Factors { cf: 0.0, afac };
     let l0 = layers[0];
-    let f = above(e_rows(start, ion, l0, d), s, k, ion, layers);
+    let f = start.e_rows(ion, l0, d).above(s, k, ion, layers);
     let g = f.afac;
     with_afac(ion, not_below_zeros(g))
 }

@@ -15,8 +15,8 @@ use Rattle.shapes.specs.declared.Mark.{Mark}
 use Rattle.mark_text.specs.MarkText.{mark_line, no_mark, mark_line_at, marks_text}
 use Rattle.circuit_sheet.specs.declared.Sheet.{Sheet}
 use Rattle.circuit_sheet.specs.declared.SlotRows.{SlotRows}
-use Rattle.circuit_sheet.specs.CircuitSheet.{sheet_of}
-use Rattle.sheet_text.specs.SheetText.{call_word, muf_line, call_line, row_line, slot_line, slot_text, nothing, slot_text_at, answered_text, sheet_text_by, sheet_text, SlotsFew}
+use Rattle.circuit_sheet.specs.CircuitSheet.{no_slot_rows, sheet_of}
+use Rattle.sheet_text.specs.SheetText.{call_word, muf_line, call_line, row_line, slot_line, slot_text, slot_text_at, answered_text, sheet_text_by, sheet_text, SlotsFew}
 use Rattle.sheet_lines.proofs.Lengths.{answered-most}
 use Rattle.sheet_text.proofs.SlotCount.{three-slots}
 
@@ -64,7 +64,7 @@ slot rows k = slot_line k before joined (row_line rows.ion) 30 before marks rows
 slots : (s : Sheet) (n : ℕ) → EndsLine (call_line s.hour ++ joined (slot_text_at s.rows) n)
 unfolding joined
 slots s zero = rw append-nil (call s)
-slots s (suc n) = call_line s.hour before many (slot_text_at s.rows) n (λ k. slot (get_or s.rows k nothing) k)
+slots s (suc n) = call_line s.hour before many (slot_text_at s.rows) n (λ k. slot (get_or s.rows k no_slot_rows) k)
 
 answered : (s : Sheet) → EndsLine (answered_text s)
 unfolding answered_text

@@ -27,6 +27,8 @@ pub struct RegularLines {
 }
 
 // The layer whose MUF is the circuit's, 1 to 3 for E, F1 and F2, and the takeoff angle of its line.
+// Stays: `modmuf`, here and in an hour, where 0 says that no mode was worked out, is the Rust's number. An enum would be made in
+// `by_layer` alone, matched in `muf_table` alone, and turned back into the number by the sheet, which prints it, and by the exports.
 #[derive(Clone, Copy, Debug, PartialEq)]
 pub struct Mode {
     pub angmuf: f32,
@@ -212,7 +214,7 @@ pub fn muf_from_search<L: Numbers>(
 }
 
 // Row k of numbers that stand four a row.
-fn flat_row<L: Numbers>(es: L, k: usize) -> EsParams
+pub fn flat_row<L: Numbers>(es: L, k: usize) -> EsParams
     requires there { 4 * k + 3 < length (L.floats es) }
     requires fits { 4 * k + 3 < 2 ^ 64 }
     ensures { result ≡ row_at (L.floats es) k }

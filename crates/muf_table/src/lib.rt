@@ -20,6 +20,7 @@ fn put_muf<const N: usize>(page: &mut Page<N>, name: &[u8], x: f32)
 }
 
 // The layer that sets the circuit MUF, by its mode.
+// Stays: a number, for the reason at `muf::Mode`.
 #[tactic(auto, unfolding(crate::specs::MufTable::layer_of))]
 fn layer(mode: i32) -> &'static [u8]
     ensures { result.now ≡ layer_of mode }

@@ -17,6 +17,7 @@ use Rattle.scalar.specs.F32.{◌+f◌, ◌*f◌, ◌/f◌}
 use Rattle.scalar.specs.Literals.{f0, f0_5, f1, f6_3, f40100}
 use Rattle.scalar.specs.Root.{sqrt_of}
 use Rattle.scalar.proofs.CorrectRoot.{sqrt-correct}
+use Rattle.same.specs.Same.{F32}
 use Rattle.order.specs.Units.{mag, key, total}
 use Rattle.order.proofs.Keys.{mag-val, mag-inf, overflow-pos}
 use Rattle.order.proofs.Sums.{add-key, total_mono}
@@ -28,9 +29,6 @@ use Rattle.nominal_factors.specs.Coefficients.{f225}
 use Rattle.nominal.specs.Nommuf.{hop_of, path_taken}
 use Rattle.nominal.specs.Angles.{nominal_psi, NominalNeverRefused13}
 use Rattle.std.proofs.lemmas.Bool.{and_parts}
-
-abbrev F : Float → Type 0
-F x = T (fits binary32 x)
 
 module _ (f : Format) where
   -- not below 0; NaN and -0 count as 0
@@ -81,7 +79,7 @@ module _ (f : Format) where
 
 -- ---- the root, and the longest hop
 
-root : (x : Float) → F x → F (sqrt_of x) × NotBelow binary32 (sqrt_of x)
+root : (x : Float) → F32 x → F32 (sqrt_of x) × NotBelow binary32 (sqrt_of x)
 unfolding sqrt_of
 root nan p = (nan-fits binary32, nan-not-below binary32)
 root (inf true) p = (nan-fits binary32, nan-not-below binary32)
@@ -90,7 +88,7 @@ root (fin s zero e) p = (p, zero-not-below binary32 s e)
 root (fin true (suc m) e) p = (nan-fits binary32, nan-not-below binary32)
 root (fin false (suc m) e) p = let c = sqrt-correct (fin false (suc m) e) p (lt→ltb 0 (suc m) (omega arith)) in (c.held, positive-not-below binary32 (sqrt_of (fin false (suc m) e)) c.is_positive)
 
-f225-constants : F f225 × T (finite f225) × (mul binary32 f225 (inf false) ≡ inf false) × (mul binary32 f225 nan ≡ nan)
+f225-constants : F32 f225 × T (finite f225) × (mul binary32 f225 (inf false) ≡ inf false) × (mul binary32 f225 nan ≡ nan)
 unfolding of_bits fits mul
 f225-constants = (tt, tt, refl, refl)
 
@@ -98,7 +96,7 @@ f225-not-below : NotBelow binary32 f225
 unfolding of_bits
 f225-not-below = plus-not-below binary32 _
 
-longest : (r : Float) → F r → NotBelow binary32 r → NotBelow binary32 (f225 *f r)
+longest : (r : Float) → F32 r → NotBelow binary32 r → NotBelow binary32 (f225 *f r)
 longest nan p h = subst (NotBelow binary32) (sym f225-constants.3) (nan-not-below binary32)
 longest (inf true) p h = absurd (bottom-below binary32 h)
 longest (inf false) p h = subst (NotBelow binary32) (sym f225-constants.2) (inf-not-below binary32)
@@ -117,7 +115,7 @@ by_zero true s = inl (nan-not-below binary32)
 by_zero false true = inr refl
 by_zero false false = inl (inf-not-below binary32)
 
-ratio : (x d : Float) → UpTo binary32 f40100 x → F d → NotBelow binary32 d → Ratio (x /f d)
+ratio : (x d : Float) → UpTo binary32 f40100 x → F32 d → NotBelow binary32 d → Ratio (x /f d)
 unfolding div
 ratio nan d g p h = absurd g.fin
 ratio (inf s) d g p h = absurd g.fin
@@ -138,7 +136,7 @@ one_more : f0 +f f1 ≡ f1
 unfolding of_bits add round
 one_more = refl
 
-plus_one : (q : Float) → F q → Ratio q → FromOne (q +f f1)
+plus_one : (q : Float) → F32 q → Ratio q → FromOne (q +f f1)
 unfolding add of_bits
 plus_one nan p r t = absurd t
 plus_one (inf s) p r t = absurd t
@@ -156,7 +154,7 @@ nan-small : Small nan
 unfolding lt of_bits neg
 nan-small = (refl, refl)
 
-psi-by : (p x : Float) → UpTo binary32 (f0_5 *f f6_3) p → F x → FromOne x → Small (p /f x)
+psi-by : (p x : Float) → UpTo binary32 (f0_5 *f f6_3) p → F32 x → FromOne x → Small (p /f x)
 unfolding div
 psi-by nan x h w o = absurd h.fin
 psi-by (inf s) x h w o = absurd h.fin
@@ -164,7 +162,7 @@ psi-by (fin s m e) nan h w o = nan-small
 psi-by (fin s m e) (inf t) h w o = zero-small (unlike s t)
 psi-by (fin s m e) (fin t n d) h w o = over-hops (fin s m e) (fin t n d) h (record { held = w; fin = tt; low = o tt })
 
-psi-small : (gcd gcdkm hs : Float) → F gcd → F gcdkm → F hs → path_taken gcd gcdkm ≡ true → Small (nominal_psi gcd gcdkm hs)
+psi-small : (gcd gcdkm hs : Float) → F32 gcd → F32 gcdkm → F32 hs → path_taken gcd gcdkm ≡ true → Small (nominal_psi gcd gcdkm hs)
 unfolding hop_of path_taken
 psi-small gcd gcdkm hs p q r e =
     let w = and_parts (within_of gcdkm f40100) (within_of gcd f6_3) e in

@@ -2,15 +2,18 @@
 use mathlib.Core.Path.{◌≡◌, refl, sym, ap, ◌∙◌, subst}
 use mathlib.Core.Logic.{◌⊎◌, inl, inr}
 use Prim.Native.Nat.{ℕ, zero, suc, ◌+◌, ◌-◌, ◌*◌, ◌/◌, ◌%◌, ◌^◌, ◌≤◌, ◌<◌, zero-le}
-use native.Mathlib.Nat.{le_trans, le_of_eq, lt_of_lt_of_le, lt_of_le_of_lt, lt_irrefl, lt_of_not-le, zero-mul, mul_comm, mul_assoc, mul_right_comm, mul-pos, mul-le-mul_right, mul-lt-mul_of_pos_right, lt_of_mul-lt-mul_right, eq_of_mul-eq-mul_right, mul-div_cancel, mul-one, one-mul, le_of_suc-le-suc, le_of_lt, le_refl, eq-or-lt_of_le}
+use native.Mathlib.Nat.{le_of_eq, lt_of_lt_of_le, lt_of_le_of_lt, lt_irrefl, zero-mul, mul_comm, mul_assoc, mul_right_comm, mul-pos, mul-lt-mul_of_pos_right, lt_of_mul-lt-mul_right, eq_of_mul-eq-mul_right, mul-div_cancel, le_of_lt, le_refl, eq-or-lt_of_le, add-lt-add_of_le_of_lt, add_left_cancel}
 use native.Mathlib.Omega.{arith}
 use mathlib.Core.Bool.{Bool, true, false, not, ◌&&◌, ◌||◌, beq}
-use lib.IntN.{ℤ, pos, negsuc}
+use lib.IntN.{ℤ}
 use lib.Dec.{T, leb, ltb, eqb, leb→le, le→leb, ltb→lt, lt→ltb, eqb→eq, eqb_refl}
-use lib.Pow.{pow-add, pow_pos, pow-lt}
+use lib.Pow.{pow-add, pow_pos}
 use lib.Ieee.{Float, nan, inf, fin, Format, prec, emax, low, up, down, below, level, lt, eq, le, fits}
-use lib.Ieee.Fits.{up_pos, down_pos, and_l, and_r, and_i, eq→eqb}
+use lib.Ieee.Fits.{down_pos, and_l, and_r, and_i, eq→eqb}
 use lib.Ieee.Scale.{overflow}
+use mir.Facts.{or_yes}
+use lib.Arith.{add-lt_cancel_left}
+use Rattle.rounding.proofs.Units.{on-grid}
 use Rattle.order.specs.Units.{real, key_of, mag, key}
 
 pub same_test : (a b : Bool) → (T a → T b) → (T b → T a) → a ≡ b
@@ -26,10 +29,6 @@ or_l false b t = absurd t
 pub or_r : (a b : Bool) → T b → T (a || b)
 or_r true b t = tt
 or_r false b t = t
-
-pub or_split : (a b : Bool) → T (a || b) → T a ⊎ T b
-or_split true b t = inl tt
-or_split false b t = inr t
 
 -- ---- x and y against u and v, where x * L is u * W and y * L is v * W
 pub scaled-lt : (x y u v L W : ℕ) → 0 < L → x * L ≡ u * W → y * L ≡ v * W → x < y → u < v
@@ -63,12 +62,6 @@ alike x y u v L W l w p q = record {
   eq← = scaled-eq u v x y W L l (sym p) (sym q);
 }
 
-n1 : (C u v : ℕ) → u < v → C + u < C + v
-n1 C u v h = omega arith
-
-n1' : (C u v : ℕ) → C + u < C + v → u < v
-n1' C u v h = omega arith
-
 n2 : (C u v : ℕ) → C + u < C - v → ⊥
 n2 C u v h = omega arith
 
@@ -88,9 +81,6 @@ n5 C u v a b h = omega arith
 
 n5' : (C u v : ℕ) → u ≤ C → v ≤ C → v < u → C - u < C - v
 n5' C u v a b h = omega arith
-
-n6 : (C u v : ℕ) → C + u ≡ C + v → u ≡ v
-n6 C u v h = omega arith
 
 n7 : (C u v : ℕ) → v ≤ C → C + u ≡ C - v → (u ≡ 0) × (v ≡ 0)
 n7 C u v a h = (omega arith, omega arith)
@@ -121,7 +111,7 @@ plus-pos u v h = elim h [ inl x ↦ l x | inr y ↦ r y ]
     r x = omega arith
 
 below_key : (C : ℕ) (s : Bool) (a u : ℕ) (t : Bool) (b v : ℕ) → 0 < C → u ≤ C → v ≤ C → Alike a b u v → Alike 0 a 0 u → Alike 0 b 0 v → below s a t b ≡ ltb (key_of C s u) (key_of C t v)
-below_key C false a u false b v c p q k ka kb = same_test (ltb a b) (ltb (C + u) (C + v)) (λ h. lt→ltb (C + u) (C + v) (n1 C u v (k.lt→ (ltb→lt a b h)))) (λ h. lt→ltb a b (k.lt← (n1' C u v (ltb→lt (C + u) (C + v) h))))
+below_key C false a u false b v c p q k ka kb = same_test (ltb a b) (ltb (C + u) (C + v)) (λ h. lt→ltb (C + u) (C + v) (add-lt-add_of_le_of_lt (le_refl C) (k.lt→ (ltb→lt a b h)))) (λ h. lt→ltb a b (k.lt← (add-lt_cancel_left C (ltb→lt (C + u) (C + v) h))))
 below_key C false a u true b v c p q k ka kb = same_test false (ltb (C + u) (C - v)) (λ h. absurd h) (λ h. absurd (n2 C u v (ltb→lt (C + u) (C - v) h)))
 below_key C true a u false b v c p q k ka kb =
     same_test (ltb 0 (a + b)) (ltb (C - u) (C + v))
@@ -140,7 +130,7 @@ level-key : (C : ℕ) (s : Bool) (a u : ℕ) (t : Bool) (b v : ℕ) → u ≤ C 
 level-key C false a u false b v p q k ka kb =
     same_test (eqb a b && true) (eqb (C + u) (C + v))
     (λ h. eq→eqb (ap (λ (z : ℕ). C + z) (k.eq→ (eqb→eq a b (and_l (eqb a b) true h)))))
-    (λ h. and-true (eqb a b) (eq→eqb (k.eq← (n6 C u v (eqb→eq (C + u) (C + v) h)))))
+    (λ h. and-true (eqb a b) (eq→eqb (k.eq← (add_left_cancel C (eqb→eq (C + u) (C + v) h)))))
 level-key C false a u true b v p q k ka kb =
     same_test (eqb a b && eqb a 0) (eqb (C + u) (C - v))
     (λ h. let z = eqb→eq a 0 (and_r (eqb a b) (eqb a 0) h) in eq→eqb (zeros C u v (ka.eq→ (sym z)) (kb.eq→ (sym z ∙ eqb→eq a b (and_l (eqb a b) (eqb a 0) h)))))
@@ -155,42 +145,26 @@ level-key C true a u true b v p q k ka kb =
     (λ h. and-true (eqb a b) (eq→eqb (k.eq← (n8 C u v p q (eqb→eq (C - u) (C - v) h)))))
 
 -- ---- a value that the format holds, in units
-pub pow_le_back : (a l : ℕ) → 2 ^ a ≤ 2 ^ l → a ≤ l
-pow_le_back a l h = le_of_suc-le-suc (lt_of_not-le (λ (g : suc l ≤ a). lt_irrefl (2 ^ l) (lt_of_lt_of_le (pow-lt g) h)))
-
-back : (j k : ℕ) → k ≤ j → j - k + k ≡ j
-back j k h = omega arith
-
-split-low : (e : ℤ) (l : ℕ) → down e ≤ 2 ^ l → (c : ℕ) × (2 ^ l ≡ c * down e)
-split-low (pos k) l h = (2 ^ l, sym (mul-one (2 ^ l)))
-split-low (negsuc k) l h = (2 ^ (l - suc k), ap (λ (z : ℕ). 2 ^ z) (sym (back l (suc k) (pow_le_back (suc k) l h))) ∙ pow-add 2 (l - suc k) (suc k))
-
 pub mag_of : (f : Format) (s : Bool) (m : ℕ) (e : ℤ) (u : ℕ) → m * up e * 2 ^ low f ≡ u * down e → mag f (fin s m e) ≡ u
 unfolding mag
 mag_of f s m e u h = ap (λ (z : ℕ). z / down e) h ∙ mul-div_cancel u (down_pos e)
-
-one-le : (D U : ℕ) → 0 < U → D ≤ U * D
-one-le D U h = le_trans (le_of_eq (sym (one-mul D))) (mul-le-mul_right D h)
 
 pub mag-inf : (f : Format) (s : Bool) → overflow f ≡ mag f (inf s)
 unfolding mag
 mag-inf f s = refl
 
-fits-down : (f : Format) (s : Bool) (m : ℕ) (e : ℤ) → T (fits f (fin s m e)) → (down e ≤ 2 ^ low f) × (m * up e < 2 ^ suc (emax f) * down e)
+pub mag-val : (f : Format) (s : Bool) (m : ℕ) (e : ℤ) → T (fits f (fin s m e)) → m * up e * 2 ^ low f ≡ mag f (fin s m e) * down e
+mag-val f s m e t = let g = on-grid f s m e t in g.3 ∙ ap (λ (z : ℕ). z * down e) (sym (mag_of f s m e (g.0 * 2 ^ g.1) g.3))
+
+in-range : (f : Format) (s : Bool) (m : ℕ) (e : ℤ) → T (fits f (fin s m e)) → m * up e < 2 ^ suc (emax f) * down e
 unfolding fits
-fits-down f s zero e t = let h = eqb→eq (up e * down e) 1 t in (le_trans (le_trans (one-le (down e) (up e) (up_pos e)) (le_of_eq h)) (pow_pos (low f)), lt_of_le_of_lt (le_of_eq (zero-mul (up e))) (mul-pos (pow_pos (suc (emax f))) (down_pos e)))
-fits-down f s (suc m) e t =
+in-range f s zero e t = lt_of_le_of_lt (le_of_eq (zero-mul (up e))) (mul-pos (pow_pos (suc (emax f))) (down_pos e))
+in-range f s (suc m) e t =
     let a : Bool = eqb (suc m % 2) 1 in
     let b : Bool = ltb (suc m) (2 ^ prec f) in
     let c : Bool = leb (down e) (2 ^ low f) in
     let d : Bool = ltb (suc m * up e) (2 ^ suc (emax f) * down e) in
-    (leb→le (down e) (2 ^ low f) (and_r (a && b) c (and_l (a && b && c) d t)), ltb→lt (suc m * up e) (2 ^ suc (emax f) * down e) (and_r (a && b && c) d t))
-
-pub mag-val : (f : Format) (s : Bool) (m : ℕ) (e : ℤ) → T (fits f (fin s m e)) → m * up e * 2 ^ low f ≡ mag f (fin s m e) * down e
-mag-val f s m e t =
-    let c = split-low e (low f) (fits-down f s m e t).0 in
-    let h : m * up e * 2 ^ low f ≡ m * up e * c.0 * down e = ap (λ (z : ℕ). m * up e * z) c.1 ∙ sym (mul_assoc (m * up e) c.0 (down e)) in
-    h ∙ ap (λ (z : ℕ). z * down e) (sym (mag_of f s m e (m * up e * c.0) h))
+    ltb→lt (suc m * up e) (2 ^ suc (emax f) * down e) (and_r (a && b && c) d t)
 
 pub mag-lt : (f : Format) (s : Bool) (m : ℕ) (e : ℤ) → T (fits f (fin s m e)) → mag f (fin s m e) < overflow f
 mag-lt f s m e t =
@@ -198,7 +172,7 @@ mag-lt f s m e t =
     let E = 2 ^ suc (emax f) in
     lt_of_mul-lt-mul_right (down e)
     (lt_of_le_of_lt (le_of_eq (sym (mag-val f s m e t)))
-    (lt_of_lt_of_le (mul-lt-mul_of_pos_right (fits-down f s m e t).1 (pow_pos (low f)))
+    (lt_of_lt_of_le (mul-lt-mul_of_pos_right (in-range f s m e t) (pow_pos (low f)))
     (le_of_eq (mul_right_comm E (down e) L ∙ ap (λ (z : ℕ). z * down e) (mul_comm E L ∙ sym (pow-add 2 (low f) (suc (emax f))))))))
 
 pub mag-le : (f : Format) (x : Float) → T (fits f x) → mag f x ≤ overflow f
@@ -301,7 +275,7 @@ lt-or-eq : (a b : ℕ) → (ltb a b || eqb a b) ≡ leb a b
 lt-or-eq a b = same_test (ltb a b || eqb a b) (leb a b) there (λ h. elim (eq-or-lt_of_le (leb→le a b h)) [ inl x ↦ or_r (ltb a b) (eqb a b) (eq→eqb x) | inr y ↦ or_l (ltb a b) (eqb a b) (lt→ltb a b y) ])
   where
     there : T (ltb a b || eqb a b) → T (leb a b)
-    there h = elim (or_split (ltb a b) (eqb a b) h) [ inl x ↦ le→leb a b (le_of_lt (ltb→lt a b x)) | inr y ↦ le→leb a b (le_of_eq (eqb→eq a b y)) ]
+    there h = elim (or_yes (ltb a b) (eqb a b) h) [ inl x ↦ le→leb a b (le_of_lt (ltb→lt a b x)) | inr y ↦ le→leb a b (le_of_eq (eqb→eq a b y)) ]
 
 le_is : (x y : Float) → le x y ≡ (lt x y || eq x y)
 unfolding le

@@ -1,20 +1,19 @@
 -- `add` and `mul` keep the order: for every format, with overflow, underflow and infinite operands.
 use mathlib.Core.Path.{◌≡◌, sym, ap, ◌∙◌, subst}
-use Prim.Native.Nat.{ℕ, zero, suc, ◌+◌, ◌-◌, ◌*◌, ◌%◌, ◌^◌, ◌≤◌, ◌<◌, zero-le}
-use native.Mathlib.Nat.{le_trans, le_of_eq, le_refl, lt_of_le_of_lt, lt_irrefl, zero-mul, mul-one, mul_comm, eq_of_mul-eq-mul_right, min-le_left, mul_assoc, mul-mul-mul_comm, mul-pos, mul-le-mul_left}
+use Prim.Native.Nat.{ℕ, zero, suc, ◌+◌, ◌*◌, ◌^◌, ◌≤◌, ◌<◌, zero-le}
+use native.Mathlib.Nat.{le_trans, le_of_eq, le_refl, lt_of_le_of_lt, lt_irrefl, zero-mul, mul-one, mul_comm, min-le_left, mul_assoc, mul-mul-mul_comm, mul-pos, mul-le-mul_left, add-le-add, sub-le-sub_left}
 use native.Mathlib.Omega.{arith}
 use mathlib.Core.Bool.{Bool, true, false, ◌&&◌, cond}
-use lib.IntN.{ℤ, pos, negsuc}
-use lib.Dec.{T, leb, ltb, eqb, leb→le, ltb→lt, eqb→eq, eqb-suc-zero}
-use lib.Pow.{pow_pos, pow-add}
-use lib.Ieee.{Float, nan, inf, fin, Format, prec, emax, low, unlike, up, down, lt, le, fits, round, add, mul}
+use lib.IntN.{ℤ}
+use lib.Dec.{T, leb, eqb, leb→le, ltb→lt, eqb→eq, eqb-suc-zero}
+use lib.Ieee.{Float, nan, inf, fin, Format, unlike, up, down, lt, le, fits, round, add, mul}
 use lib.Ieee.Fits.{and_l, and_r, down_pos, add-fits, mul-fits}
 use lib.Ieee.Scale.{overflow, finite, grid, round_under}
 use lib.Ieee.Exact.{HasValue, round_exact}
-use lib.Ieee.Digits.{back}
 use lib.Ieee.Positive.{positive, num, den, le→cross}
+use Rattle.rounding.proofs.Units.{on-grid}
 use Rattle.order.specs.Units.{real, key_of, mag, key, rounded, nought}
-use Rattle.order.proofs.Keys.{mag-val, mag-lt, mag-inf, pow_le_back}
+use Rattle.order.proofs.Keys.{mag_of, mag-lt, mag-inf}
 use Rattle.order.proofs.Sums.{round-as, round-key, rounded-mono, total_mono, add-key, add-real, finite-real}
 use Rattle.order.proofs.Tests.{le→keys, keys→le}
 
@@ -37,14 +36,11 @@ pub le-refl-real : (f : Format) (x : Float) → T (fits f x) → T (real x) → 
 le-refl-real f x p a = keys→le f x x p p a a (le_refl (key f x))
 
 -- ---- the sum
-plus-right : (a b c : ℕ) → a ≤ b → a + c ≤ b + c
-plus-right a b c h = omega arith
-
 add-fin : (f : Format) (x x' y : Float) → T (fits f x) → T (fits f x') → T (fits f y) → T (finite x) → T (finite x') → T (finite y) → T (le x x') → T (le (add f x y) (add f x' y))
 add-fin f x x' y p p' q a a' b h =
     keys→le f (add f x y) (add f x' y) (add-fits f x y) (add-fits f x' y) (add-real f x y a b) (add-real f x' y a' b)
     (le_trans (le_of_eq (add-key f x y p q a b))
-    (le_trans (total_mono f (key f x + key f y) (key f x' + key f y) (plus-right (key f x) (key f x') (key f y) (le→keys f x x' p p' (finite-real x a) (finite-real x' a') h))) (le_of_eq (sym (add-key f x' y p' q a' b)))))
+    (le_trans (total_mono f (key f x + key f y) (key f x' + key f y) (add-le-add (le→keys f x x' p p' (finite-real x a) (finite-real x' a') h) (le_refl (key f y)))) (le_of_eq (sym (add-key f x' y p' q a' b)))))
 
 -- a larger operand gives a sum that is no smaller, if neither sum is a NaN
 pub add-mono : (f : Format) (x x' y : Float) → T (fits f x) → T (fits f x') → T (fits f y) → T (le x x') → T (real (add f x y)) → T (real (add f x' y)) → T (le (add f x y) (add f x' y))
@@ -99,12 +95,6 @@ mul-real f (fin s m e) nan a h = absurd h
 mul-real f (fin s m e) (inf t) a h = absurd h
 mul-real f (fin s m e) (fin t n d) a h = fin-mul-real f s m e t n d
 
-up-side : (C a b : ℕ) → a ≤ b → C + a ≤ C + b
-up-side C a b h = omega arith
-
-down-side : (C a b : ℕ) → b ≤ a → C - a ≤ C - b
-down-side C a b h = omega arith
-
 parts-mono : (f : Format) (M D n : ℕ) (d : ℤ) (n' : ℕ) (d' : ℤ) → 0 < D → n * up d * down d' ≤ n' * up d' * down d → rounded f (M * (n * up d)) (D * down d) ≤ rounded f (M * (n' * up d')) (D * down d')
 parts-mono f M D n d n' d' P h = rounded-mono f (M * (n * up d)) (D * down d) (M * (n' * up d')) (D * down d') (mul-pos P (down_pos d)) (mul-pos P (down_pos d')) (prod_mono M D (n * up d) (down d) (n' * up d') (down d') h)
 
@@ -114,19 +104,19 @@ to_le f m e s n d n' d' h = keys→le f (mul f (fin s m e) (fin false n d)) (mul
 rise : (f : Format) (m : ℕ) (e : ℤ) (n : ℕ) (d : ℤ) (n' : ℕ) (d' : ℤ) → n * up d * down d' ≤ n' * up d' * down d → T (le (mul f (fin false m e) (fin false n d)) (mul f (fin false m e) (fin false n' d')))
 rise f m e n d n' d' h =
     to_le f m e false n d n' d'
-    (le_trans (le_of_eq (fin-key f false m e n d)) (le_trans (up-side (overflow f) (rounded f (m * up e * (n * up d)) (down e * down d)) (rounded f (m * up e * (n' * up d')) (down e * down d')) (parts-mono f (m * up e) (down e) n d n' d' (down_pos e) h)) (le_of_eq (sym (fin-key f false m e n' d')))))
+    (le_trans (le_of_eq (fin-key f false m e n d)) (le_trans (add-le-add (le_refl (overflow f)) (parts-mono f (m * up e) (down e) n d n' d' (down_pos e) h)) (le_of_eq (sym (fin-key f false m e n' d')))))
 
 fall : (f : Format) (m : ℕ) (e : ℤ) (n : ℕ) (d : ℤ) (n' : ℕ) (d' : ℤ) → n * up d * down d' ≤ n' * up d' * down d → T (le (mul f (fin true m e) (fin false n' d')) (mul f (fin true m e) (fin false n d)))
 fall f m e n d n' d' h =
     to_le f m e true n' d' n d
-    (le_trans (le_of_eq (fin-key f true m e n' d')) (le_trans (down-side (overflow f) (rounded f (m * up e * (n' * up d')) (down e * down d')) (rounded f (m * up e * (n * up d)) (down e * down d)) (parts-mono f (m * up e) (down e) n d n' d' (down_pos e) h)) (le_of_eq (sym (fin-key f true m e n d)))))
+    (le_trans (le_of_eq (fin-key f true m e n' d')) (le_trans (sub-le-sub_left (parts-mono f (m * up e) (down e) n d n' d' (down_pos e) h) (overflow f)) (le_of_eq (sym (fin-key f true m e n d)))))
 
 -- x is -0: both products are zero
 flat : (f : Format) (m : ℕ) (e : ℤ) (n : ℕ) (d : ℤ) (n' : ℕ) (d' : ℤ) → m * up e ≡ 0 → T (le (mul f (fin true m e) (fin false n d)) (mul f (fin true m e) (fin false n' d')))
 flat f m e n d n' d' z =
     to_le f m e true n d n' d'
-    (le_trans (le_of_eq (fin-key f true m e n d)) (le_trans (down-side (overflow f) (rounded f (m * up e * (n * up d)) (down e * down d)) (rounded f (m * up e * (n' * up d')) (down e * down d'))
-    (rounded-mono f (m * up e * (n' * up d')) (down e * down d') (m * up e * (n * up d)) (down e * down d) (mul-pos (down_pos e) (down_pos d')) (mul-pos (down_pos e) (down_pos d)) (gone (m * up e) (n' * up d') (down e * down d) (m * up e * (n * up d) * (down e * down d')) z)))
+    (le_trans (le_of_eq (fin-key f true m e n d)) (le_trans (sub-le-sub_left
+    (rounded-mono f (m * up e * (n' * up d')) (down e * down d') (m * up e * (n * up d)) (down e * down d) (mul-pos (down_pos e) (down_pos d')) (mul-pos (down_pos e) (down_pos d)) (gone (m * up e) (n' * up d') (down e * down d) (m * up e * (n * up d) * (down e * down d')) z)) (overflow f))
     (le_of_eq (sym (fin-key f true m e n' d')))))
   where
     gone : (a b c r : ℕ) → a ≡ 0 → a * b * c ≤ r
@@ -186,24 +176,6 @@ mul-falling f (fin true m e) y y' h p q k = go y y' p q (le→cross y y' p q k)
     go (fin false n d) (fin false n' d') p q k = fall f m e n d n' d' k
 
 -- ---- a share of x, the product with a positive factor of at most one, does not overflow
-place : (l m : ℕ) (e : ℤ) → down e ≤ 2 ^ l → (j : ℕ) × (m * up e * 2 ^ l ≡ m * 2 ^ j * down e)
-place l m (pos a) h = (a + l, mul_assoc m (2 ^ a) (2 ^ l) ∙ ap (λ (x : ℕ). m * x) (sym (pow-add 2 a l)) ∙ sym (mul-one (m * 2 ^ (a + l))))
-place l m (negsuc a) h =
-    let d : suc a ≤ l = pow_le_back (suc a) l h in
-    (l - suc a, ap (λ (x : ℕ). x * 2 ^ l) (mul-one m) ∙ ap (λ (x : ℕ). m * x) (ap (λ (x : ℕ). 2 ^ x) (sym (back l (suc a) d)) ∙ pow-add 2 (l - suc a) (suc a)) ∙ sym (mul_assoc m (2 ^ (l - suc a)) (2 ^ suc a)))
-
--- in units a value that the format holds is q * 2 ^ j with q below 2 ^ prec
-on-grid : (f : Format) (t : Bool) (m : ℕ) (e : ℤ) → T (fits f (fin t m e)) → (q : ℕ) × (j : ℕ) × (q < 2 ^ prec f) × (m * up e * 2 ^ low f ≡ q * 2 ^ j * down e)
-unfolding fits
-on-grid f t zero e h = (0, 0, pow_pos (prec f), ap (λ (x : ℕ). x * 2 ^ low f) (zero-mul (up e)) ∙ zero-mul (2 ^ low f) ∙ sym (zero-mul (down e)))
-on-grid f t (suc m) e h =
-    let A = eqb (suc m % 2) 1 in
-    let B = ltb (suc m) (2 ^ prec f) in
-    let C = leb (down e) (2 ^ low f) in
-    let D = ltb (suc m * up e) (2 ^ suc (emax f) * down e) in
-    let p = place (low f) (suc m) e (leb→le (down e) (2 ^ low f) (and_r (A && B) C (and_l (A && B && C) D h))) in
-    (suc m, p.0, ltb→lt (suc m) (2 ^ prec f) (and_r A B (and_l (A && B) C (and_l (A && B && C) D h))), p.1)
-
 finite-value : (x : Float) (s : Bool) (a c : ℕ) → HasValue x s a c → T (finite x)
 finite-value nan s a c h = absurd h
 finite-value (inf t) s a c h = absurd h
@@ -212,7 +184,7 @@ finite-value (fin t m e) s a c h = tt
 own-under : (f : Format) (s : Bool) (m : ℕ) (e : ℤ) → T (fits f (fin s m e)) → rounded f (m * up e) (down e) < overflow f
 own-under f s m e h =
     let g = on-grid f s m e h in
-    let same : g.0 * 2 ^ g.1 ≡ mag f (fin s m e) = eq_of_mul-eq-mul_right (down e) (down_pos e) (g.0 * 2 ^ g.1) (mag f (fin s m e)) (sym g.3 ∙ mag-val f s m e h) in
+    let same : g.0 * 2 ^ g.1 ≡ mag f (fin s m e) = sym (mag_of f s m e (g.0 * 2 ^ g.1) g.3) in
     let v = round_exact f false (m * up e) (down e) g.0 g.1 (down_pos e) g.2 (lt_of_le_of_lt (le_of_eq same) (mag-lt f s m e h)) g.3 in
     lt_of_le_of_lt (min-le_left (grid f (m * up e) (down e)) (overflow f)) (round_under f (m * up e) (down e) (finite-value (round f false (m * up e) (down e)) false (m * up e) (down e) v))
 

@@ -1,12 +1,14 @@
 -- Sums and differences by keys: `add` never falls as an operand rises, and a difference is below zero exactly where its first operand is below its second.
 use mathlib.Core.Path.{◌≡◌, refl, sym, ap, ap₂, ◌∙◌, subst}
-use mathlib.Core.Logic.{◌⊎◌, inl, inr}
+use mathlib.Core.Logic.{inl, inr}
 use Prim.Native.Nat.{ℕ, suc, ◌+◌, ◌-◌, ◌*◌, ◌^◌, ◌≤◌, ◌<◌, min}
-use native.Mathlib.Nat.{le_trans, le_of_eq, le_of_lt, le_refl, le_antisymm, lt_of_lt_of_le, lt_of_le_of_lt, mul_comm, add-mul, mul-pos, mul-sub, le_of_mul-le-mul_right, mul-le-mul_right, min-eq_left, min-eq_right}
+use native.Mathlib.Nat.{le_trans, le_of_eq, le_of_lt, le_refl, le_antisymm, lt_of_lt_of_le, lt_of_le_of_lt, mul_comm, add-mul, mul-pos, mul-sub, le_of_mul-le-mul_right, mul-le-mul_right, min-eq_left, min-eq_right, min-le_right, add-le-add, sub-le-sub_left, sub-le, le-add_right}
 use native.Mathlib.Omega.{arith}
 use mathlib.Core.Bool.{Bool, true, false, not, ◌&&◌, beq, cond}
-use lib.Dec.{T, leb, ltb, leb→le, le→leb, nleb→lt, ltb→lt, nltb→le, lit<}
+use lib.Dec.{T, leb, ltb, leb→le, le→leb, ltb→lt, nltb→le, lit<}
 use lib.Pow.{pow_pos}
+use lib.Arith.{add-le_cancel_left}
+use Rattle.std.proofs.lemmas.Bool.{cases_lt}
 use lib.Ieee.{Float, nan, inf, fin, Format, binary32, binary64, prec, low, up, down, fits, odd, units, round, neg, sum, add, sub}
 use lib.Ieee.Fits.{down_pos, round_is, round-fits, neg-fits}
 use lib.Ieee.Scale.{grid, overflow, finite}
@@ -47,24 +49,18 @@ round-as f s a c =
 pub round-key : (f : Format) (s : Bool) (a c : ℕ) → key f (round f s a c) ≡ key_of (overflow f) s (rounded f a c)
 round-key f s a c = let w = round-as f s a c in ap (λ (z : ℕ). key_of (overflow f) (sgn (round f s a c)) z) w.0 ∙ ap (λ (z : Bool). key_of (overflow f) z (rounded f a c)) w.1
 
-cancel : (C a b : ℕ) → C + a ≤ C + b → a ≤ b
-cancel C a b h = omega arith
-
 pub rounded-mono : (f : Format) (a b c d : ℕ) → 0 < b → 0 < d → a * d ≤ c * b → rounded f a b ≤ rounded f c d
 rounded-mono f a b c d B D h =
     let x = round f false a b in
     let y = round f false c d in
     let k : key f x ≤ key f y = leb→le (key f x) (key f y) (subst (λ (z : Bool). T z) (le-key f x y (round-fits f false a b) (round-fits f false c d) (round-as f false a b).2 (round-as f false c d).2) (round_mono f a b c d B D h)) in
-    cancel (overflow f) (rounded f a b) (rounded f c d) (le_trans (le_of_eq (sym (round-key f false a b))) (le_trans k (le_of_eq (round-key f false c d))))
+    add-le_cancel_left (overflow f) (le_trans (le_of_eq (sym (round-key f false a b))) (le_trans k (le_of_eq (round-key f false c d))))
 
 pub rounded-same : (f : Format) (a b c d : ℕ) → 0 < b → 0 < d → a * d ≡ c * b → rounded f a b ≡ rounded f c d
 rounded-same f a b c d B D e = le_antisymm (rounded-mono f a b c d B D (le_of_eq e)) (rounded-mono f c d a b D B (le_of_eq (sym e)))
 
 pub rounded-le : (f : Format) (a c : ℕ) → rounded f a c ≤ overflow f
-rounded-le f a c = least (grid f a c) (overflow f)
-  where
-    least : (x y : ℕ) → min x y ≤ y
-    least x y = omega arith
+rounded-le f a c = min-le_right (grid f a c) (overflow f)
 
 -- ---- in units: n units, rounded
 abbrev R : Format → ℕ → ℕ
@@ -73,19 +69,20 @@ R f n = rounded f n (2 ^ low f)
 R-mono : (f : Format) (n m : ℕ) → n ≤ m → R f n ≤ R f m
 R-mono f n m h = rounded-mono f n (2 ^ low f) m (2 ^ low f) (pow_pos (low f)) (pow_pos (low f)) (mul-le-mul_right (2 ^ low f) h)
 
-small : (f : Format) → 1 < 2 ^ prec f
-small binary32 = lit< tt
-small binary64 = lit< tt
+-- a format has more than one digit
+pub more-digits : (f : Format) → 1 < 2 ^ prec f
+more-digits binary32 = lit< tt
+more-digits binary64 = lit< tt
 
 one-fine : (f : Format) → 1 * 2 ^ 0 < overflow f
 one-fine binary32 = lit< tt
 one-fine binary64 = lit< tt
 
 pub R-one : (f : Format) → R f 1 ≡ 1
-R-one f = sym (round-as f false 1 (2 ^ low f)).0 ∙ (sized f (round f false 1 (2 ^ low f)) false 1 (round_exact f false 1 (2 ^ low f) 1 0 (pow_pos (low f)) (small f) (one-fine f) refl)).0
+R-one f = sym (round-as f false 1 (2 ^ low f)).0 ∙ (sized f (round f false 1 (2 ^ low f)) false 1 (round_exact f false 1 (2 ^ low f) 1 0 (pow_pos (low f)) (more-digits f) (one-fine f) refl)).0
 
 pub R-zero : (f : Format) → R f 0 ≡ 0
-R-zero f = sym (round-as f false 0 (2 ^ low f)).0 ∙ (sized f (round f false 0 (2 ^ low f)) false 0 (round_exact f false 0 (2 ^ low f) 0 0 (pow_pos (low f)) (le_trans (le_of_lt (small f)) (le_refl (2 ^ prec f))) (overflow-pos f) refl)).0
+R-zero f = sym (round-as f false 0 (2 ^ low f)).0 ∙ (sized f (round f false 0 (2 ^ low f)) false 0 (round_exact f false 0 (2 ^ low f) 0 0 (pow_pos (low f)) (le_trans (le_of_lt (more-digits f)) (le_refl (2 ^ prec f))) (overflow-pos f) refl)).0
 
 -- gradual underflow: what is not zero does not round to zero
 pub R-pos : (f : Format) (n : ℕ) → 0 < n → 0 < R f n
@@ -117,37 +114,18 @@ total-down f n h = go (leb (overflow f + overflow f) n) (leb→le (overflow f + 
     go true t = let w = met (C + C) n (t tt) h in flat C (R f (n - (C + C))) (R f (C + C - n)) (ap (R f) w.0 ∙ R-zero f) (ap (R f) w.1 ∙ R-zero f)
     go false t = refl
 
-split : (n m : ℕ) → (n ≤ m) ⊎ (m ≤ n)
-split n m = go (leb n m) (leb→le n m) (nleb→lt n m)
-  where
-    go : (b : Bool) → (T b → n ≤ m) → (T (not b) → m < n) → (n ≤ m) ⊎ (m ≤ n)
-    go true p q = inl (p tt)
-    go false p q = inr (le_of_lt (q tt))
-
-down_le : (C a b : ℕ) → b ≤ a → C - a ≤ C - b
-down_le C a b h = omega arith
-
-down-up : (C a b : ℕ) → C - a ≤ C + b
-down-up C a b = omega arith
-
-less-down : (K n m : ℕ) → n ≤ m → K - m ≤ K - n
-less-down K n m h = omega arith
-
 less-up : (K n m : ℕ) → n ≤ m → n - K ≤ m - K
 less-up K n m h = omega arith
 
-plus-le : (C a b : ℕ) → a ≤ b → C + a ≤ C + b
-plus-le C a b h = omega arith
-
 pub total_mono : (f : Format) (n m : ℕ) → n ≤ m → total f n ≤ total f m
 total_mono f n m h =
-    elim (split n (overflow f + overflow f)) [
-      | inl x ↦
-          elim (split m (overflow f + overflow f)) [
-            | inl y ↦ le_trans (le_of_eq (total-down f n x)) (le_trans (down_le (overflow f) (R f (overflow f + overflow f - n)) (R f (overflow f + overflow f - m)) (R-mono f (overflow f + overflow f - m) (overflow f + overflow f - n) (less-down (overflow f + overflow f) n m h))) (le_of_eq (sym (total-down f m y))))
-            | inr y ↦ le_trans (le_of_eq (total-down f n x)) (le_trans (down-up (overflow f) (R f (overflow f + overflow f - n)) (R f (m - (overflow f + overflow f)))) (le_of_eq (sym (total-up f m y))))
+    elim (cases_lt (overflow f + overflow f) n) [
+      | inr x ↦
+          elim (cases_lt (overflow f + overflow f) m) [
+            | inr y ↦ le_trans (le_of_eq (total-down f n x)) (le_trans (sub-le-sub_left (R-mono f (overflow f + overflow f - m) (overflow f + overflow f - n) (sub-le-sub_left h (overflow f + overflow f))) (overflow f)) (le_of_eq (sym (total-down f m y))))
+            | inl y ↦ le_trans (le_of_eq (total-down f n x)) (le_trans (le_trans (sub-le (overflow f) (R f (overflow f + overflow f - n))) (le-add_right (overflow f) (R f (m - (overflow f + overflow f))))) (le_of_eq (sym (total-up f m (le_of_lt y)))))
           ]
-      | inr x ↦ le_trans (le_of_eq (total-up f n x)) (le_trans (plus-le (overflow f) (R f (n - (overflow f + overflow f))) (R f (m - (overflow f + overflow f))) (R-mono f (n - (overflow f + overflow f)) (m - (overflow f + overflow f)) (less-up (overflow f + overflow f) n m h))) (le_of_eq (sym (total-up f m (le_trans x h)))))
+      | inl x ↦ le_trans (le_of_eq (total-up f n (le_of_lt x))) (le_trans (add-le-add (le_refl (overflow f)) (R-mono f (n - (overflow f + overflow f)) (m - (overflow f + overflow f)) (less-up (overflow f + overflow f) n m h))) (le_of_eq (sym (total-up f m (le_trans (le_of_lt x) h)))))
     ]
 
 gap-pos : (n K : ℕ) → n < K → 0 < K - n
@@ -159,12 +137,6 @@ under C r c h = omega arith
 over : (C r : ℕ) → 0 < r → C < C + r
 over C r h = omega arith
 
-at_least : (C r : ℕ) → C ≤ C + r
-at_least C r = omega arith
-
-at_most : (C r : ℕ) → C - r ≤ C
-at_most C r = omega arith
-
 -- zero's key is overflow f, and the sum of two opposite values' keys twice that
 pub total-below : (f : Format) (n : ℕ) → n < overflow f + overflow f → total f n < overflow f
 total-below f n h = lt_of_le_of_lt (le_of_eq (total-down f n (le_of_lt h))) (under (overflow f) (R f (overflow f + overflow f - n)) (overflow-pos f) (R-pos f (overflow f + overflow f - n) (gap-pos n (overflow f + overflow f) h)))
@@ -173,10 +145,10 @@ pub total-above : (f : Format) (n : ℕ) → overflow f + overflow f < n → ove
 total-above f n h = lt_of_lt_of_le (over (overflow f) (R f (n - (overflow f + overflow f))) (R-pos f (n - (overflow f + overflow f)) (gap-pos (overflow f + overflow f) n h))) (le_of_eq (sym (total-up f n (le_of_lt h))))
 
 pub total-from : (f : Format) (n : ℕ) → overflow f + overflow f ≤ n → overflow f ≤ total f n
-total-from f n h = le_trans (at_least (overflow f) (R f (n - (overflow f + overflow f)))) (le_of_eq (sym (total-up f n h)))
+total-from f n h = le_trans (le-add_right (overflow f) (R f (n - (overflow f + overflow f)))) (le_of_eq (sym (total-up f n h)))
 
 pub total-upto : (f : Format) (n : ℕ) → n ≤ overflow f + overflow f → total f n ≤ overflow f
-total-upto f n h = le_trans (le_of_eq (total-down f n h)) (at_most (overflow f) (R f (overflow f + overflow f - n)))
+total-upto f n h = le_trans (le_of_eq (total-down f n h)) (sub-le (overflow f) (R f (overflow f + overflow f - n)))
 
 -- ---- ±a / c + ±b / c, where a / c is u units and b / c is v units
 s1 : (C u v : ℕ) → (C + C ≤ (C + u) + (C + v)) × ((C + u) + (C + v) - (C + C) ≡ u + v)

@@ -1,9 +1,9 @@
 -- A difference against zero is a comparison of its operands, for every two values that the format holds, infinities and NaN included where the statement does not except them. `add` keeps the order.
 use mathlib.Core.Path.{◌≡◌, refl, sym, ◌∙◌, subst}
 use Prim.Native.Nat.{ℕ, ◌+◌, ◌-◌, ◌^◌, ◌≤◌, ◌<◌}
-use native.Mathlib.Nat.{lt_of_not-le, not-le_of_lt, zero-mul}
+use native.Mathlib.Nat.{le_of_suc-le-suc, lt_of_not-le, not-le_of_lt, zero-mul}
 use native.Mathlib.Omega.{arith}
-use mathlib.Core.Bool.{Bool, true, false, not, ◌&&◌, beq}
+use mathlib.Core.Bool.{Bool, true, false, not, ◌&&◌, beq, and-true}
 use lib.IntN.{pos}
 use lib.Dec.{T, leb, ltb, leb→le, le→leb, nleb→lt, ltb→lt, lt→ltb}
 use lib.Ieee.{Float, nan, inf, fin, Format, binary32, low, lt, le, fits, sub, of_bits}
@@ -14,6 +14,7 @@ use Rattle.order.proofs.Keys.{same_test, lt-key, le-key, mag_of, mag-le}
 use Rattle.order.proofs.Sums.{total-below, total-above, total-from, total-upto, sub-key, sub-real, finite-real}
 
 -- ---- zero
+-- scalar has it too, and neither stands on the other
 pub nought-is : of_bits binary32 0 ≡ nought
 unfolding of_bits
 nought-is = refl
@@ -47,6 +48,9 @@ lt→keys f x y p q a b h = ltb→lt (key f x) (key f y) (subst (λ (z : Bool). 
 
 pub keys→lt : (f : Format) (x y : Float) → T (fits f x) → T (fits f y) → T (real x) → T (real y) → key f x < key f y → T (lt x y)
 keys→lt f x y p q a b h = subst (λ (z : Bool). T z) (sym (lt-key f x y p q a b)) (lt→ltb (key f x) (key f y) h)
+
+pub not-le-lt : (f : Format) (x y : Float) → T (fits f x) → T (fits f y) → T (real x) → T (real y) → T (not (le x y)) → T (lt y x)
+not-le-lt f x y p q a b h = keys→lt f y x q p b a (nleb→lt (key f x) (key f y) (subst (λ (z : Bool). T (not z)) (le-key f x y p q a b) h))
 
 -- a passed test has no NaN on either side
 pub lt-real : (x y : Float) → T (lt x y) → T (real x) × T (real y)
@@ -106,15 +110,8 @@ by-lt C d x y w = same_test (ltb d C) (ltb x y) (λ h. lt→ltb x y (lt_of_not-l
 by-gt : (C d x y : ℕ) → Versus C d x y → ltb C d ≡ ltb y x
 by-gt C d x y w = same_test (ltb C d) (ltb y x) (λ h. lt→ltb y x (lt_of_not-le (λ (g : x ≤ y). not-le_of_lt (ltb→lt C d h) (w.upto g)))) (λ h. lt→ltb C d (w.more (ltb→lt y x h)))
 
-le-of-nlt : (x y : ℕ) → (y < x → ⊥) → x ≤ y
-le-of-nlt x y h = go (leb x y) (leb→le x y) (nleb→lt x y)
-  where
-    go : (b : Bool) → (T b → x ≤ y) → (T (not b) → y < x) → x ≤ y
-    go true p q = p tt
-    go false p q = absurd (h (q tt))
-
 by_le : (C d x y : ℕ) → Versus C d x y → leb d C ≡ leb x y
-by_le C d x y w = same_test (leb d C) (leb x y) (λ h. le→leb x y (le-of-nlt x y (λ (g : y < x). not-le_of_lt (w.more g) (leb→le d C h)))) (λ h. le→leb d C (w.upto (leb→le x y h)))
+by_le C d x y w = same_test (leb d C) (leb x y) (λ h. le→leb x y (le_of_suc-le-suc (lt_of_not-le (λ (g : y < x). not-le_of_lt (w.more g) (leb→le d C h))))) (λ h. le→leb d C (w.upto (leb→le x y h)))
 
 -- ---- the tests on a difference of finite values
 fin-lt : (f : Format) (x y : Float) → T (fits f x) → T (fits f y) → T (finite x) → T (finite y) → lt (sub f x y) nought ≡ lt x y
@@ -177,8 +174,4 @@ sub-le f (inf false) (fin t n d) p q = unfold sub le in refl
 sub-le f (fin s m e) nan p q = unfold sub le in refl
 sub-le f (fin s m e) (inf true) p q = unfold sub le in refl
 sub-le f (fin s m e) (inf false) p q = unfold sub le in refl
-sub-le f (fin s m e) (fin t n d) p q = fin-le f (fin s m e) (fin t n d) p q tt tt ∙ sym (and_yes (le (fin s m e) (fin t n d)))
-  where
-    and_yes : (b : Bool) → (b && true) ≡ b
-    and_yes true = refl
-    and_yes false = refl
+sub-le f (fin s m e) (fin t n d) p q = fin-le f (fin s m e) (fin t n d) p q tt tt ∙ sym (and-true (le (fin s m e) (fin t n d)))

@@ -1,7 +1,7 @@
 -- `bendy` and `pen`: how much a parabolic layer i of slot k raises the virtual height of a frequency that it reflects, and of one that passes through it.
 use Rattle.std.specs.Prelude.{Bool, true, false, List, [], ◌∷◌, ℕ, ◌+◌, ◌*◌, ltb, Float, Result, Ok, Err}
 use Rattle.scalar.specs.F32.{◌+f◌, ◌-f◌, ◌*f◌, ◌/f◌, at}
-use Rattle.scalar.specs.Literals.{f0_5, f0_999, f1, f1_001}
+use Rattle.scalar.specs.Literals.{f0_5, f0_999, f1, f1_001, f2}
 use Rattle.scalar.specs.Scalar.{min_of, max_of}
 use Rattle.logarithm.specs.Ln.{ln_of}
 use Rattle.refusal.specs.declared.Refusal.{Refusal}
@@ -13,6 +13,10 @@ bendy_at fi yi f = let x = min_of (f /f fi) f0_999 in f0_5 *f x *f yi *f ln_of (
 
 unfoldable pub pen_at : Float → Float → Float → Float
 pen_at fi yi f = let x = max_of (f /f fi) f1_001 in yi *f ln_of ((f1 +f x) /f (x -f f1)) *f x
+
+-- an F2 over an E layer: its foot, bent by it, and delayed by the E instead of crossing that in a straight line
+unfoldable pub height_over_e : Float → Float → Float → Float → Float → Float → Float
+height_over_e fi0 yi0 fi2 yi2 hi2 f = hi2 -f yi2 +f bendy_at fi2 yi2 f +f (pen_at fi0 yi0 f -f f2 *f yi0)
 
 unfoldable pub bendy_of : IonoState → ℕ → ℕ → Float → Float
 bendy_of s i k f = bendy_at (at s.fi (3 * k + i)) (at s.yi (3 * k + i)) f

@@ -2,7 +2,7 @@
 #![tactic(auto)]
 
 ghost use Rattle.std.specs.Prelude.{◌≡◌, ℕ, ◌+◌, ◌*◌, ◌<◌, ltb, IfOk};
-ghost use Rattle.parabolas.specs.Bendy.{bendy_at, pen_at, layer_answer_by, bendy_answer, pen_answer};
+ghost use Rattle.parabolas.specs.Bendy.{bendy_at, pen_at, height_over_e, layer_answer_by, bendy_answer, pen_answer};
 
 use layers::IonoState;
 use refusal::Refusal;
@@ -22,6 +22,18 @@ pub fn pen_at(fi: f32, yi: f32, f: f32) -> f32
     let x = scalar::max(f / fi, 1.001);
     let l = logarithm::ln((1.0 + x) / (x - 1.0));
     yi * l * x
+}
+
+// The virtual height of a frequency that an F2 reflects: bent by it, and delayed in the E layer under it
+// instead of crossing that in a straight line.
+// Stays: five numbers of two layers. A `Slot` has them, and would make this crate stand on `slot_curves`; a struct of the five would be
+// made for each call and taken apart here.
+pub fn height_over_e(fi0: f32, yi0: f32, fi2: f32, yi2: f32, hi2: f32, f: f32) -> f32
+    ensures { result ≡ height_over_e fi0 yi0 fi2 yi2 hi2 f }
+{
+    let bend = bendy_at(fi2, yi2, f);
+    let pass = pen_at(fi0, yi0, f);
+    hi2 - yi2 + bend + (pass - 2.0 * yi0)
 }
 
 // The place of layer i of slot k in the tables, where there is one.

@@ -13,13 +13,14 @@ use Rattle.scalar.specs.Root.{sqrt_of}
 use Rattle.reflectrix.specs.declared.Ionogram.{Ionogram}
 use Rattle.shapes.specs.declared.Mark.{Mark}
 use Rattle.circuit_sheet.specs.declared.SlotRows.{SlotRows}
+use Rattle.circuit_sheet.specs.CircuitSheet.{no_slot_rows}
 use Rattle.circuit_plot.specs.declared.Profile.{Profile}
 use Rattle.circuit_plot.specs.declared.Plot.{Plot}
 use Rattle.aligned.specs.Ascii.{ascii}
 use Rattle.svg_trace.proofs.Lengths.{counted, trace}
 use Rattle.svg_text.proofs.Lengths.{mark, muf-line}
 use Rattle.svg_frame.proofs.Lengths.{head}
-use Rattle.plot_panels.specs.Panels.{named_text, top_text, ionogram_paths, height_text, no_mark, height_text_at, profile_text, panel_text, no_slot_rows, no_profile, panel_at, picture_text}
+use Rattle.plot_panels.specs.Panels.{named_text, top_text, ionogram_paths, height_text, no_mark, height_text_at, profile_text, panel_text, no_profile, panel_at, picture_text}
 
 named_by : (b : Bool) → AtMost (cond b (ascii ", controlling") []) 13
 named_by true = counted _ 13 refl

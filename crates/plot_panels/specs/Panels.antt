@@ -7,6 +7,7 @@ use Rattle.muf.specs.declared.MufHour.{MufHour}
 use Rattle.reflectrix.specs.declared.Ionogram.{Ionogram}
 use Rattle.shapes.specs.declared.Mark.{Mark}
 use Rattle.circuit_sheet.specs.declared.SlotRows.{SlotRows}
+use Rattle.circuit_sheet.specs.CircuitSheet.{no_slot_rows}
 use Rattle.circuit_plot.specs.declared.Profile.{Profile}
 use Rattle.circuit_plot.specs.declared.Plot.{Plot}
 use Rattle.aligned.specs.Ascii.{ascii}
@@ -45,9 +46,6 @@ panel_text rows p muf ks k =
     top_text k ks ++ (muf_text muf ++ (ionogram_paths rows.ion ++ (profile_text p rows.marks ++ ascii "</g>\n")))
 
 -- past the end, where no code reads
-abbrev pub no_slot_rows : SlotRows
-no_slot_rows = record { ion = record { fvert = []; hprim = []; htrue = []; afac = []; segment = [] }; marks = [] }
-
 abbrev pub no_profile : Profile
 no_profile = record { htr = []; fnsq = [] }
 

@@ -60,9 +60,8 @@ fn put_height<const N: usize>(page: &mut Page<N>, m: Mark, density: f32, h: f32)
 fn put_profile<const N: usize>(page: &mut Page<N>, p: &Profile, marks: &[Mark; 50])
     ensures { page.new ≡ with_text N page.old (profile_text p.now marks.now) }
 {
-    // Stays: three lists are read at one index, and the library's lemmas on the turns of a zip (`zip_turn`, `zip_end`) are of two lists.
-    for i in 0..50 {
-        put_height(page, marks[i], p.fnsq[i], p.htr[i]);
+    for ((mark, density), h) in marks.iter().zip(&p.fnsq).zip(&p.htr) {
+        put_height(page, *mark, *density, *h);
     }
 }
 
@@ -89,8 +88,8 @@ fn put_panels<const N: usize>(page: &mut Page<N>, p: &Plot)
     ensures { page.new ≡ with_text N page.old (joined (panel_at p.now.sheet.rows p.now.profiles p.now.sheet.hour) p.now.sheet.slots) }
 {
     let sheet = &p.sheet;
-    // Stays: k is the slot's number too, and a zip of rows and profiles inside `enumerate` is no plainer. Beside `put_slots` of
-    // `sheet_lines` and `show_page` it puts of a slot what takes its profile and the hour too.
+    // Stays: k is the slot's number too, and `for (k, (rows, profile)) in sheet.rows[..n].iter().zip(&p.profiles).enumerate()` is no
+    // shorter. Beside `put_slots` of `sheet_lines` and `show_page` it puts of a slot what takes its profile and the hour too.
     for k in 0..sheet.slots {
         put_panel(page, &sheet.rows[k], &p.profiles[k], &sheet.hour, k);
     }

@@ -9,8 +9,7 @@ use lines::Page;
 // The bytes of a picture: one of three slots has room.
 pub const ROOM: usize = 24576;
 
-// Stays: beside `sheet_text` and `show_text`, each of a line or two over its own answer; a function over what is put of either
-// case is no plainer.
+// Stays: beside `sheet_text` and `show_text`, as said at `show_text`.
 pub fn plot_text(file: &[u8]) -> Page<ROOM>
     ensures { result ≡ plot_text file.now }
 {

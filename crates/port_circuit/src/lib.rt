@@ -12,23 +12,12 @@ ghost use Rattle.port_circuit.specs.Exports.{port_read, port_write};
 use circuit::Circuit;
 use refusal::Refusal;
 
-// The words from `from` on.
-pub fn words_of(w: &[u32], from: usize, x: &mut [u32])
-    requires { from + length x.old ≤ length w.now }
-    ensures { x.new ≡ words_from w.now from (length x.old) }
-{
-    let n = x.len();
-    x.copy_from_slice(&w[from..from + n]);
-}
-
 // N words from `from` on.
 pub fn words<const N: usize>(w: &[u32], from: usize) -> [u32; N]
     requires { from + N ≤ length w.now }
     ensures { result ≡ words_from w.now from N }
 {
-    let mut x = [0u32; N];
-    words_of(w, from, &mut x);
-    x
+    std::array::from_fn(|i| w[from + i])
 }
 
 pub fn circuit_of(w: &[u32]) -> Circuit

@@ -11,7 +11,8 @@ use Rattle.sounding.specs.Genion.{genion_answer}
 use Rattle.losses.specs.Alosfv.{alosfv_answer}
 use Rattle.slot_sheet.specs.Sheet.{slot_sheet_of, sheet_cells_of}
 use Rattle.slot_sheet.specs.declared.SlotSheet.{SlotSheet}
-use Rattle.ionogram_words.specs.Sang.{short, unless_short}
+use Rattle.answer_words.specs.Words.{short}
+use Rattle.ionogram_words.specs.Sang.{unless_short}
 use Rattle.line_words.specs.Lines.{lines_of_words}
 use Rattle.port_layouts.specs.Layouts.{ionogram_of, ionogram_into, marks_into}
 

@@ -82,7 +82,7 @@ fn owner_pair(o: Owner, out: &mut [u32])
     ensures { out.new ≡ owner_pair o out.old }
 {
     out[0] = u32::from(o);
-    out[1] = count(owners::slot(o));
+    out[1] = count(o.slot());
 }
 
 #[tactic(auto, unfolding(crate::specs::Exports::port_owner))]

@@ -1,28 +1,20 @@
 -- A list's words as floats, one at a time, and a call whose lists but for the deciles are words.
 use Rattle.hour_words.specs.HourWords.{WordThere}
-use Rattle.std.specs.Prelude.{Option, Some, None, Result, Err}
-use mathlib.Core.Path.{◌≡◌, refl}
-use mathlib.Core.Bool.{true, false}
-use mathlib.Core.List.{List, [], ◌∷◌}
-use Prim.Native.Nat.{ℕ, zero, suc, ◌*◌, ◌<◌, ◌≤◌}
-use native.Mathlib.Nat.{le_of_suc-le-suc, not-suc-le-zero}
+use Rattle.std.specs.Prelude.{Option, Some, None, Result}
+use mathlib.Core.Path.{◌≡◌}
+use mathlib.Core.List.{List}
+use Prim.Native.Nat.{ℕ, ◌*◌, ◌≤◌}
 use native.Mathlib.Omega.{arith}
-use lib.ListN.{length, get_or, length-map}
+use lib.ListN.{length, length-map}
 use lib.Ieee.{Float, binary32, of_bits}
 use Rattle.refusal.specs.declared.Refusal.{Refusal}
-use Rattle.scalar.specs.F32.{at}
 use Rattle.layers.specs.declared.IonoState.{IonoState}
-use Rattle.heights.specs.Gethp.{gethp_of}
-use Rattle.controlling_slot.specs.Controlling.{controlling_of}
 use Rattle.layer_mufs.specs.declared.PathNumbers.{PathNumbers}
-use Rattle.sporadic.specs.Sporadic.{row_at, es_from, start_of}
-use Rattle.muf_domain.specs.Domain.{in_domain, lists_reach, row_count_of}
-use Rattle.muf.specs.Curmuf.{muf_from_search_by, muf_of_rows_with, flat_with, flat_of, muf_from_search_with, muf_at_slot_of, RowBelow, rewrite_by}
+use Rattle.muf_domain.specs.Domain.{row_count_of}
+use Rattle.muf.specs.Curmuf.{flat_of, RowBelow, rewrite_by}
 use Rattle.muf.specs.declared.AnswerAndRow.{AnswerAndRow}
-use Rattle.sporadic.specs.declared.EsSearch.{EsSearch}
 use Rattle.sporadic.specs.declared.Rewrite.{Rewrite}
 use Rattle.muf.proofs.Rows.{flat-below, rows-there}
-use Rattle.muf_domain.proofs.Lists.{lists-reach}
 use Rattle.deviation_words.specs.Floats.{floats}
 
 -- of n rows, four words each

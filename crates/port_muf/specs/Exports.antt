@@ -6,7 +6,8 @@ use Rattle.layer_mufs.specs.declared.PathNumbers.{PathNumbers}
 use Rattle.muf.specs.Curmuf.{flat_of}
 use Rattle.muf.specs.declared.AnswerAndRow.{AnswerAndRow}
 use Rattle.port_state.specs.State.{state_words, state_of, state_into}
-use Rattle.deviation_words.specs.Floats.{number, floats}
+use Rattle.port_state.specs.Words.{number}
+use Rattle.deviation_words.specs.Floats.{floats}
 use Rattle.hour_words.specs.HourWords.{hour_into, words_by}
 
 -- the circuit MUF: its number, and the state's, the Es rows' and the hour's words afterwards

@@ -1,39 +1,19 @@
 // The circuit MUF on words. Es rows may be any number: each is read when its turn comes.
 // Stays: the lists of words, state, es, clat, clck, numbers and out, are what callers in C lend, side by side.
 ghost use Rattle.std.specs.Prelude.{◌≡◌, ◌≤◌, length};
-ghost use Rattle.deviation_words.specs.Floats.{floats};
 ghost use Rattle.refusal.specs.Number.{answer_number};
 ghost use Rattle.port_muf.specs.Exports.{leaves, path_numbers_of, curmuf_left};
 
+use hour_words::Words;
 use layer_mufs::PathNumbers;
-use muf::lent::Numbers;
 use port_state::STATE_WORDS;
 use refusal::Refusal;
-
-// Lent words, read as floats.
-#[derive(Clone, Copy)]
-pub struct Words<'a>(&'a [u32]);
-
-impl<'a> Numbers for Words<'a> {
-    ghost floats = { λ w. floats w.0.now };
-
-    fn count(self) -> usize {
-        self.0.len()
-    }
-
-    fn number(self, k: usize) -> f32 {
-        scalar::number(self.0[k])
-    }
-}
 
 fn path_numbers_of(numbers: &[u32]) -> PathNumbers
     requires { 4 ≤ length numbers.now }
     ensures { result ≡ path_numbers_of numbers.now }
 {
-    let gcd = scalar::number(numbers[0]);
-    let gcdkm = scalar::number(numbers[1]);
-    let amind = scalar::number(numbers[2]);
-    let ssn = scalar::number(numbers[3]);
+    let [gcd, gcdkm, amind, ssn] = port_state::floats::<4>(numbers, 0);
     PathNumbers {
         gcd,
         gcdkm,

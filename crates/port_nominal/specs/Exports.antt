@@ -1,13 +1,13 @@
 -- What the export answers, and the words that it leaves. A slice that is shorter than its layout is refused with 1, before all
 -- else; nothing is written where a call is refused.
-use Rattle.std.specs.Prelude.{Bool, cond, ◌&&◌, List, ℕ, ◌+◌, ◌*◌, ◌/◌, ◌%◌, leb, eqb, length, replicate, Result, Ok, Err}
-use Rattle.scalar.specs.Literals.{f0}
+use Rattle.std.specs.Prelude.{Bool, cond, ◌&&◌, List, ℕ, ◌+◌, ◌*◌, ◌/◌, ◌%◌, leb, eqb, length, Result, Ok, Err}
 use Rattle.refusal.specs.declared.Refusal.{Refusal}
 use Rattle.layers.specs.declared.EsParams.{EsParams}
+use Rattle.sporadic.specs.Sporadic.{no_row}
 use Rattle.muf.specs.declared.MufHour.{MufHour}
-use Rattle.port_state.specs.Words.{floats_of}
+use Rattle.port_state.specs.Words.{number, floats_of}
 use Rattle.port_state.specs.Ports.{Ported, refused_with, points_of, rows_of}
-use Rattle.deviation_words.specs.Floats.{number, floats}
+use Rattle.deviation_words.specs.Floats.{floats}
 use Rattle.hour_words.specs.HourWords.{hour_into}
 use Rattle.nominal.specs.Nommuf.{nommuf_of}
 
@@ -15,12 +15,9 @@ use Rattle.nominal.specs.Nommuf.{nommuf_of}
 unfoldable pub word_row : List ℕ → ℕ → EsParams
 word_row es k = record { fs = floats_of es (4 * k) 3; hs = number es (4 * k + 3) }
 
-abbrev pub zero_row : EsParams
-zero_row = record { fs = replicate 3 f0; hs = f0 }
-
 -- the first n rows, the rest zero
 abbrev pub word_rows : List ℕ → ℕ → List EsParams
-word_rows es n = rows_of (word_row es) zero_row n
+word_rows es n = rows_of (word_row es) no_row n
 
 unfoldable pub nominal_into : Result MufHour Refusal → List ℕ → Ported
 nominal_into (Ok hour) out = record { number = 0; words = hour_into hour out }

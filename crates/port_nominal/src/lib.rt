@@ -5,23 +5,14 @@
 
 ghost use Rattle.std.specs.Prelude.{◌≡◌, ◌+◌, ◌*◌, ◌/◌, ◌≤◌, length};
 ghost use Rattle.refusal.specs.Number.{answer_number};
-ghost use Rattle.port_nominal.specs.Exports.{word_row, word_rows, nominal_words, nominal_left};
+ghost use Rattle.port_nominal.specs.Exports.{word_rows, nominal_words, nominal_left};
 
+use hour_words::Words;
 use layers::EsParams;
 use muf::MufHour;
 use refusal::Refusal;
 
-#[tactic(auto, unfolding(crate::specs::Exports::word_row))]
-fn word_row(es: &[u32], k: usize) -> EsParams
-    requires { 4 * k + 4 ≤ length es.now }
-    ensures { result ≡ word_row es.now k }
-{
-    EsParams {
-        fs: port_state::floats(es, 4 * k),
-        hs: scalar::number(es[4 * k + 3]),
-    }
-}
-
+// Stays: that n is 5 at most is asked, since the export has just tested it, and refuses more by its number.
 fn word_rows(es: &[u32], n: usize) -> [EsParams; 5]
     requires { (n ≤ 5) × (4 * n ≤ length es.now) }
     ensures { result ≡ word_rows es.now n }
@@ -30,7 +21,7 @@ fn word_rows(es: &[u32], n: usize) -> [EsParams; 5]
         fs: [0.0; 3],
         hs: 0.0,
     };
-    port_state::rows_of(n, zero, |k| word_row(es, k))
+    port_state::rows_of(n, zero, |k| muf::flat_row(Words(es), k))
 }
 
 // The whole call but for what it writes.

@@ -7,6 +7,10 @@ use Rattle.std.specs.Float.Ieee.{of_bits, to_bits}
 abbrev pub word : List ℕ → ℕ → ℕ
 word w i = get_or w i 0
 
+-- word i as a float
+abbrev pub number : List ℕ → ℕ → Float
+number w i = of_bits binary32 (word w i)
+
 -- the n floats from word `from` on
 unfoldable pub floats_of : List ℕ → ℕ → ℕ → List Float
 floats_of w from n = map (of_bits binary32) (take n (drop from w))

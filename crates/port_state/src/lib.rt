@@ -27,9 +27,7 @@ pub fn floats<const N: usize>(w: &[u32], from: usize) -> [f32; N]
     requires { from + N ≤ length w.now }
     ensures { result ≡ floats_of w.now from N }
 {
-    let mut x = [0.0; N];
-    floats_of(w, from, &mut x);
-    x
+    std::array::from_fn(|i| scalar::number(w[from + i]))
 }
 
 // The floats written into the words from `from` on.
@@ -57,6 +55,7 @@ pub fn word(n: i32) -> u32
 }
 
 // A word that is no owner counts as none.
+// Stays: an owner is another crate's type, so no `From` can stand here; 0 to 4 are the layout that callers in C have, as below.
 #[tactic(auto, unfolding(crate::specs::Owners::owner_of_word))]
 fn owner_of_word(w: u32) -> Owner
     ensures { result ≡ owner_of_word w }
@@ -69,7 +68,8 @@ fn owner_of_word(w: u32) -> Owner
 }
 
 // A slot above 2 has no word.
-// Stays: 0 to 4 are an owner's words in the layout that callers in C have.
+// Stays: `u32::from` of an owner is 0, 1 or 2, for nobody, a slot, a supplied profile, and leaves the slot's number out; 0 to 4 are an
+// owner's words in the layout that callers in C have.
 fn owner_word(o: Owner) -> u32
     ensures { result ≡ word_of_owner o }
 {
@@ -128,6 +128,9 @@ pub fn state_into(s: IonoState, w: &mut [u32])
 }
 
 // The first n of five rows, the rest as `zero`.
+// Stays: five places and a count, here and at `points_of`, as `from_layers` and `nommuf` take them. That n is 5 at most is asked,
+// since the exports have just tested it, and refuse more by their numbers. And the rows are made and written over, since
+// `std::array::from_fn` asks that the array takes fewer than 2^63 bytes, which of any `T` nothing tells.
 pub fn rows_of<T: Copy, F: Fn(usize) -> T>(n: usize, zero: T, row: F) -> [T; 5]
     requires count { n ≤ 5 }
     requires called { (k : ℕ) → k < n → F.pre row k }

@@ -1,17 +1,13 @@
 -- What each export answers, 0 or the refusal's number, and the lists lent, afterwards. A list that is shorter than its layout
 -- is refused with 1, before all else; a refused call leaves everything.
-use Rattle.std.specs.Prelude.{Bool, true, false, ◌||◌, List, ◌++◌, ℕ, ltb, ℤ, Result, Ok, Err, length, drop}
+use Rattle.std.specs.Prelude.{Bool, true, false, ◌||◌, List, ◌++◌, ℕ, ℤ, Result, Ok, Err, length, drop}
 use Rattle.refusal.specs.Number.{number_of, answer_number}
 use Rattle.refusal.specs.declared.Refusal.{Refusal}
 use Rattle.port_state.specs.Words.{floats_of}
 use Rattle.traces.specs.Lines.{Compared, compared_of}
-use Rattle.answer_words.specs.Words.{number_left}
+use Rattle.answer_words.specs.Words.{short, number_left}
 use Rattle.computed_trace.specs.Computed.{trace_of}
 use Rattle.computed_trace.specs.declared.ComputedTrace.{ComputedTrace}
-
--- has the list fewer words than its layout
-abbrev pub short : List ℕ → ℕ → Bool
-short w n = ltb (length w) n
 
 -- ---- the lines of two traces
 

@@ -13,12 +13,10 @@ use slot_curves::{Drawn, Slot};
 pub fn rises_throughout(htr: &[f32; 50]) -> bool
     ensures { result ≡ rises_of htr.now }
 {
-    htr.iter()
-        .zip(htr.iter().skip(1))
-        .all(|(lower, upper)| *lower < *upper)
+    htr.is_sorted_by(|lower, upper| *lower < *upper)
 }
 
-// Stays: `s` and `k` are the Rust's parameters here and in the crates above, and `k < 3` is asked of the number: it
+// Stays: `s` and `k` are the Rust's parameters here, in `slots` and in the crates above, and `k < 3` is asked of the number: it
 // indexes the tables and counts loops, which would have to make a number of a type of its own at each turn.
 pub fn slot_at(s: IonoState, k: usize) -> Slot
     requires { k < 3 }

@@ -3,11 +3,17 @@
 #![tactic(auto)]
 
 ghost use Rattle.std.specs.Prelude.{◌≡◌};
-ghost use Rattle.readings.specs.Scan.{segment_of, scan_of, value_of, reading_kind, segment_number, found_of, reading_of};
+ghost use Rattle.readings.specs.Scan.{interpolated, segment_of, scan_of, value_of, reading_kind, segment_number, found_of, reading_of};
 ghost use Rattle.readings.specs.Cursor.{climb_of, read_on_of};
 
+// The number at the probe on the line through (from0, to0) and (from1, to1).
+fn interpolated(from0: f32, from1: f32, to0: f32, to1: f32, probe: f32) -> f32
+    ensures { result ≡ interpolated from0 from1 to0 to1 probe }
+{
+    to0 + (probe - from0) * (to1 - to0) / (from1 - from0)
+}
+
 // The segment from (from0, to0) to (from1, to1): does it hold the probe, and with which number.
-// Stays: the line through two nodes is written out at each place, as in the Rust.
 pub fn segment(from0: f32, from1: f32, to0: f32, to1: f32, probe: f32) -> Option<f32>
     ensures { result ≡ segment_of from0 from1 to0 to1 probe }
 {
@@ -15,11 +21,11 @@ pub fn segment(from0: f32, from1: f32, to0: f32, to1: f32, probe: f32) -> Option
     if d < 0.0 {
         if from0 - probe <= 0.0 {
             if probe - from1 < 0.0 {
-                return Some(to0 + (probe - from0) * (to1 - to0) / (from1 - from0));
+                return Some(interpolated(from0, from1, to0, to1, probe));
             }
             return None;
         }
-        return Some(to0 + (probe - from0) * (to1 - to0) / (from1 - from0));
+        return Some(interpolated(from0, from1, to0, to1, probe));
     }
     if d == 0.0 {
         if probe - from0 == 0.0 {
@@ -29,7 +35,7 @@ pub fn segment(from0: f32, from1: f32, to0: f32, to1: f32, probe: f32) -> Option
     }
     if from0 - probe >= 0.0 {
         if probe - from1 > 0.0 {
-            return Some(to0 + (probe - from0) * (to1 - to0) / (from1 - from0));
+            return Some(interpolated(from0, from1, to0, to1, probe));
         }
     }
     None
@@ -87,7 +93,8 @@ impl Reading {
 pub fn scan(from: &[f32; 50], to: &[f32; 50], probe: f32) -> Reading
     ensures { result ≡ scan_of from.now to.now probe }
 {
-    // Stays: neighbours of two lists by one index, which is the segment's number too.
+    // Stays: neighbours of two lists by one index, which is the segment's number too. By `find_map` it is as long, since the
+    // closure wraps each reading again and the top is put in its place after, and its proof is twice as long.
     for ih in 0..49 {
         let next = ih + 1;
         if let Some(v) = segment(from[ih], from[next], to[ih], to[next], probe) {
@@ -175,7 +182,7 @@ impl Profile<'_> {
         let on = climb(htr, zi, ih);
         if on < 49 {
             let next = on + 1;
-            let line = fnsq[on] + (zi - htr[on]) * (fnsq[next] - fnsq[on]) / (htr[next] - htr[on]);
+            let line = interpolated(htr[on], htr[next], fnsq[on], fnsq[next], zi);
             return Read {
                 reading: Reading::Segment(line, on as u32),
                 cursor: on,

@@ -2,7 +2,7 @@
 use Prim.Native.Nat.{ℕ, zero, suc, ◌+◌, ◌*◌, ◌-◌, ◌%◌, ◌≤◌, ◌<◌}
 use mathlib.Core.Path.{◌≡◌, refl, subst}
 use mathlib.Core.List.{List, [], ◌∷◌, ◌++◌}
-use mathlib.Core.Bool.{Bool, true, false, ◌||◌, ◌&&◌}
+use mathlib.Core.Bool.{Bool, true, false, cond, ◌||◌, ◌&&◌}
 use mathlib.Core.Logic.{◌⊎◌, inl, inr, ⊎_elim}
 use native.Mathlib.Omega.{arith}
 use native.Mathlib.Numerals.{add-one}
@@ -15,8 +15,10 @@ use Rattle.record_chain.specs.declared.Chain.{Chain}
 use Rattle.std.specs.Prelude.{Option, Some, None, Result, Ok, Err}
 use Rattle.records.specs.declared.Form.{Form}
 use Rattle.records.specs.Record.{Fit, record_at}
-use Rattle.record_chain.specs.Chain.{length_good, record_count, km_of, head_good, by_step, step_of, pick_chain, sound_by, answered_chain, order_in, walk, chain_of, chain_along}
-use Rattle.std.proofs.lemmas.Bool.{and_parts}
+use Rattle.record_chain.specs.Chain.{length_good, record_count, km_of, head_good, by_step, step_of, sound_by, answered_chain, order_in, walk, chain_of, chain_along}
+use Rattle.std.specs.List.{All}
+use Rattle.std.proofs.lemmas.Bool.{and_parts, or_cases}
+use Rattle.std.proofs.lemmas.List.Elements.{All-head, All-tail, All-replicate, All-append, All-push}
 use Rattle.record_chain.proofs.Members.{length-padded}
 use Rattle.record_chain.proofs.Steps.{step-to, in-file, counted, Head, head-facts}
 
@@ -27,7 +29,7 @@ module _ (Q : Result Chain Refusal → Type 0) where
   by-step (Ok (Some n)) e on a b c = b n refl
   by-step (Err r) e on a b c = c r refl
 
-  pub by-pick : (b : Bool) (x y : Result Chain Refusal) → (b ≡ true → Q x) → Q y → Q (pick_chain b x y)
+  pub by-pick : (b : Bool) (x y : Result Chain Refusal) → (b ≡ true → Q x) → Q y → Q (cond b x y)
   by-pick true x y p q = p refl
   by-pick false x y p q = q
 
@@ -53,37 +55,21 @@ module _ (o : Form) (f : List ℕ) (P : ℕ → List ℕ → ℕ → Type 0) (Q 
         (λ t. walk-ind left (order ++ (n ∷ [])) n (goes left order at n p e t)) (stops Refusal.ChainRecord))
         (λ r e. stops r)
 
--- each number of a list is below n
-abbrev pub Below : ℕ → List ℕ → Type 0
-Below n [] = Unit
-Below n (x ∷ xs) = (x < n) × Below n xs
-
-below-append : (n : ℕ) (a b : List ℕ) → Below n a → Below n b → Below n (a ++ b)
-below-append n [] b p q = q
-below-append n (x ∷ a) b p q = (p.0, below-append n a b p.1 q)
-
-below-zeros : (n k : ℕ) → 0 < n → Below n (replicate k 0)
-below-zeros n zero h = tt
-below-zeros n (suc k) h = (h, below-zeros n k h)
-
-below_at : (n : ℕ) (l : List ℕ) → 0 < n → Below n l → (i : ℕ) → get_or l i 0 < n
-below_at n [] h p i = h
-below_at n (x ∷ l) h p zero = p.0
-below_at n (x ∷ l) h p (suc i) = below_at n l h p.1 i
+-- what holds of each number of a list, and of 0, holds at every place, also past the end
+pub all-at : (P : ℕ → Type 0) (l : List ℕ) → P 0 → All P l → (i : ℕ) → P (get_or l i 0)
+all-at P [] z p i = z
+all-at P (x ∷ l) z p zero = All-head P x l p
+all-at P (x ∷ l) z p (suc i) = all-at P l z (All-tail P x l p) i
 
 -- every record of the chain is in the file
-pub walk-within : (o : Form) (f : List ℕ) (left at : ℕ) (order : List ℕ) → 0 < record_count o f → Below (record_count o f) order
-    → Below (record_count o f) (order_in (walk o f left order at))
+pub walk-within : (o : Form) (f : List ℕ) (left at : ℕ) (order : List ℕ) → 0 < record_count o f → All (λ n. n < record_count o f) order
+    → All (λ n. n < record_count o f) (order_in (walk o f left order at))
 walk-within o f left at order h =
-    walk-ind o f (λ k l a. Below (record_count o f) l) (λ c. Below (record_count o f) (order_in c))
-    (λ k l a n p e t. below-append (record_count o f) l (n ∷ []) p (step-to o f l a n e, tt))
-    (λ k l a p e t.
-    below-append (record_count o f) l (replicate (64 - length l) 0) p (below-zeros (record_count o f) (64 - length l) h))
-    (λ r. below-zeros (record_count o f) 64 h) left order at
-
-one_of : (a b : Bool) → (a || b) ≡ true → (a ≡ true) ⊎ (b ≡ true)
-one_of true b e = inl refl
-one_of false b e = inr e
+    let Within : ℕ → Type 0 = λ n. n < record_count o f in
+    walk-ind o f (λ k l a. All Within l) (λ c. All Within (order_in c))
+    (λ k l a n p e t. All-push Within l n p (step-to o f l a n e))
+    (λ k l a p e t. All-append Within l (replicate (64 - length l) 0) p (All-replicate Within (64 - length l) 0 h))
+    (λ r. All-replicate Within 64 0 h) left order at
 
 never : {A : Type 0} (r : Refusal) (x : A) → ◌≡◌ {A = Result A Refusal} (Err r) (Ok x) → ⊥
 never r x e = let z : ◌≡◌ {A = ℕ} 0 1 = cc in omega arith
@@ -105,7 +91,7 @@ long-end total left order p h t =
       room = length-padded 64 order (omega arith);
       count =
           ⊎_elim (λ w. inr (omega (arith, eqb-true left 48 w))) (λ w. inl (omega (arith, eqb-true left 0 w)))
-          (one_of (eqb left 48) (eqb left 0) t);
+          (or_cases (eqb left 48) (eqb left 0) t);
     }
 
 pub walk-long : (o : Form) (f : List ℕ) (total left at : ℕ) (order : List ℕ) → total ≤ 64 → length order + left ≡ total
@@ -116,7 +102,7 @@ walk-long o f total left at order h p =
     (λ k l a q e t. long-end total k l q h t)
     (λ r. tt) left order at p
 
-picked : (b : Bool) (x : Result Chain Refusal) (r : Refusal) (c : Chain) → pick_chain b x (Err r) ≡ Ok c
+picked : (b : Bool) (x : Result Chain Refusal) (r : Refusal) (c : Chain) → cond b x (Err r) ≡ Ok c
     → (b ≡ true) × (x ≡ Ok c)
 picked true x r c e = (refl, e)
 picked false x r c e = absurd (never r c e)
@@ -144,9 +130,9 @@ module _ (o : Form) (fit : Fit o) (f : List ℕ) (c : Chain) where
         head = h;
         is = e;
         within =
-            below_at (record_count o f) c.order some
-            (subst (λ (a : Result Chain Refusal). Below (record_count o f) (order_in a)) e
-            (walk-within o f (km_of (record_at o f 0) + 48) 0 (0 ∷ []) some (some, tt)));
+            all-at (λ n. n < record_count o f) c.order some
+            (subst (λ (a : Result Chain Refusal). All (λ n. n < record_count o f) (order_in a)) e
+            (walk-within o f (km_of (record_at o f 0) + 48) 0 (0 ∷ []) some (All-replicate (λ n. n < record_count o f) 1 0 some)));
         long =
             subst (Unrefused (Long (km_of (record_at o f 0) + 49))) e
             (walk-long o f (km_of (record_at o f 0) + 49) (km_of (record_at o f 0) + 48) 0 (0 ∷ []) fits (omega arith));
@@ -156,7 +142,7 @@ module _ (o : Form) (fit : Fit o) (f : List ℕ) (c : Chain) where
   unfolding chain_of
   followed e =
       let walked = walk o f (km_of (record_at o f 0) + 48) (0 ∷ []) 0 in
-      let inner = pick_chain (head_good o (record_at o f 0)) walked (Err Refusal.RecordZero) in
+      let inner = cond (head_good o (record_at o f 0)) walked (Err Refusal.RecordZero) in
       let a = picked (length_good o f) inner Refusal.Length c e in
       let b = picked (head_good o (record_at o f 0)) walked Refusal.RecordZero c a.1 in
       let g = and_parts (eqb (length f % o.size) 0) (leb (2 * o.size) (length f) && leb (length f) (64 * o.size)) a.0 in

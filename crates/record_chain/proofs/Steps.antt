@@ -2,7 +2,7 @@
 use Prim.Native.Nat.{ℕ, zero, suc, ◌+◌, ◌*◌, ◌-◌, ◌≤◌, ◌<◌}
 use mathlib.Core.Path.{◌≡◌, refl, ap, ◌∙◌, sym, subst}
 use mathlib.Core.List.{List, [], ◌∷◌, ◌++◌, append_assoc}
-use mathlib.Core.Bool.{Bool, true, false, ◌&&◌, not}
+use mathlib.Core.Bool.{Bool, true, false, cond, ◌&&◌, not}
 use native.Mathlib.Omega.{arith}
 use native.Mathlib.Numerals.{add-one, sub-one}
 use native.Mathlib.Nat.{mul-le-mul_left, mul-div-le, le-div_iff_mul-le}
@@ -18,7 +18,7 @@ use Rattle.record_chain.specs.declared.Chain.{Chain}
 use Rattle.std.specs.Prelude.{Option, Some, None, Result, Ok, Err}
 use Rattle.records.specs.declared.Form.{Form}
 use Rattle.records.specs.Record.{record_at, kind_of, next_of, all_zero}
-use Rattle.record_chain.specs.Chain.{head_good, km_of, shape_of, record_count, member, step_by, step_of, step_index, walk, ended, answered_chain, padded, pick_chain, sound_by}
+use Rattle.record_chain.specs.Chain.{head_good, km_of, shape_of, record_count, member, step_by, step_of, step_index, walk, ended, answered_chain, padded, sound_by}
 
 -- record n of those that the file has is in it
 pub in-file : (o : Form) (f : List ℕ) (n : ℕ) → n < record_count o f → o.size * n + o.size ≤ length f
@@ -107,7 +107,7 @@ module _ (o : Form) (f order : List ℕ) (at : ℕ) where
   module _ (n left : ℕ) (e : step_of o f order at ≡ Ok (Some n)) (h : left ≡ 0 → ⊥) where
     walk-to : (k : ℕ) → left ≡ suc k
         → walk o f left order at
-        ≡ pick_chain (sound_by o (leb 48 (left - 1)) (record_at o f n)) (walk o f (left - 1) (order ++ (n ∷ [])) n)
+        ≡ cond (sound_by o (leb 48 (left - 1)) (record_at o f n)) (walk o f (left - 1) (order ++ (n ∷ [])) n)
         (Err Refusal.ChainRecord)
     unfolding walk
     walk-to k s = rw (s, e, sub-one)

@@ -1,5 +1,5 @@
 -- The chain of a circuit file: where it leads, and where it is turned away, in the paper's order.
-use Rattle.std.specs.Prelude.{ℕ, zero, suc, ◌+◌, ◌*◌, ◌-◌, ◌/◌, ◌%◌, List, [], ◌∷◌, ◌++◌, Bool, true, false, ◌&&◌, ◌||◌, not, length, get_or, take, drop, replicate, eqb, leb, ltb, Option, Some, None, Result, Ok, Err}
+use Rattle.std.specs.Prelude.{ℕ, zero, suc, ◌+◌, ◌*◌, ◌-◌, ◌/◌, ◌%◌, List, [], ◌∷◌, ◌++◌, Bool, true, false, ◌&&◌, ◌||◌, not, cond, length, get_or, take, drop, replicate, eqb, leb, ltb, Option, Some, None, Result, Ok, Err}
 use Rattle.refusal.specs.declared.Refusal.{Refusal}
 use Rattle.record_chain.specs.declared.Chain.{Chain}
 use Rattle.records.specs.declared.Form.{Form}
@@ -68,13 +68,9 @@ abbrev pub count_in : Result Chain Refusal → ℕ
 count_in (Ok c) = c.count
 count_in (Err r) = 0
 
-abbrev pub pick_chain : Bool → Result Chain Refusal → Result Chain Refusal → Result Chain Refusal
-pick_chain true a b = a
-pick_chain false a b = b
-
 -- a chain that ends where `left` more records were allowed: all 48 of kind 3 are left, or none is
 abbrev pub ended : ℕ → Result Chain Refusal → Result Chain Refusal
-ended left c = pick_chain (eqb left 48 || eqb left 0) c (Err Refusal.ChainRecord)
+ended left c = cond (eqb left 48 || eqb left 0) c (Err Refusal.ChainRecord)
 
 abbrev pub by_step : Result (Option ℕ) Refusal → Result Chain Refusal → (ℕ → Result Chain Refusal) → Result Chain Refusal
 by_step (Ok None) e on = e
@@ -92,12 +88,12 @@ walk o f zero order at = by_step (step_of o f order at) (ended zero (answered_ch
 walk o f (suc left) order at =
     by_step (step_of o f order at) (ended (suc left) (answered_chain order))
     (λ n.
-    pick_chain (sound_by o (leb 48 left) (record_at o f n)) (walk o f left (order ++ (n ∷ [])) n)
+    cond (sound_by o (leb 48 left) (record_at o f n)) (walk o f left (order ++ (n ∷ [])) n)
     (Err Refusal.ChainRecord))
 
 unfoldable pub chain_of : Form → List ℕ → Result Chain Refusal
 chain_of o f =
     let head = record_at o f 0 in
-    pick_chain (length_good o f)
-    (pick_chain (head_good o head) (walk o f (km_of head + 48) (0 ∷ []) 0) (Err Refusal.RecordZero))
+    cond (length_good o f)
+    (cond (head_good o head) (walk o f (km_of head + 48) (0 ∷ []) 0) (Err Refusal.RecordZero))
     (Err Refusal.Length)

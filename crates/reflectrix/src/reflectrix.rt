@@ -9,6 +9,7 @@ use crate::Ionogram;
 use cell_rows::Rows;
 use constants::RZ;
 use refusal::Refusal;
+use std::array::from_fn;
 
 // The Earth's radius times the cosine of each angle of the scan.
 static RCOSD: [f32; 40] = [
@@ -24,7 +25,8 @@ fn angles(ion: Ionogram, nang: usize, cells: &mut [i32])
     requires { (nang ≤ 40) × (30 * nang ≤ length cells.old) }
     ensures { cells.new ≡ angles_into ion cells.old nang }
 {
-    let radii = cell_rows::each(cell_rows::padded(ion.htrue), |h| RZ + h);
+    let htrue = cell_rows::padded(ion.htrue);
+    let radii = from_fn(|i| RZ + htrue[i]);
     let rows = Rows::new(cell_rows::padded(ion.fvert), radii);
     rows.scan(&RCOSD, nang, cells);
 }

@@ -1,12 +1,13 @@
 -- A guess at the digits that passes its test gives the pattern of the root. Assumes nothing.
 use mathlib.Core.Path.{◌≡◌, sym, ap, ap₂, ◌∙◌, subst}
-use Prim.Native.Nat.{ℕ, zero, suc, ◌+◌, ◌-◌, ◌*◌, ◌/◌, ◌%◌, ◌^◌, ◌≤◌, ◌<◌}
-use native.Mathlib.Nat.{mod-lt, zero-lt-suc, mul_assoc}
+use Prim.Native.Nat.{ℕ, ◌+◌, ◌-◌, ◌*◌, ◌/◌, ◌%◌, ◌^◌, ◌≤◌, ◌<◌}
+use native.Mathlib.Nat.{le-add_right, mul_assoc}
 use native.Mathlib.Omega.{arith}
 use lib.Pow.{pow-add}
 use lib.Ieee.{binary32, of_bits}
 use Rattle.scalar.specs.Root.{root, sqrt_of}
 use Rattle.scalar.specs.RootPattern.{radicand, root_digits, root_pattern}
+use Rattle.scalar.proofs.RootDigits.{digits_lt, fourfold}
 use Rattle.scalar.proofs.RoundedRoot.{rounded}
 use Rattle.scalar.proofs.RootPattern.{root-pattern}
 use Rattle.scalar.proofs.Normalise.{pattern_lt}
@@ -20,29 +21,15 @@ m b = 2 ^ 23 + b % 2 ^ 23
 abbrev h : ℕ → ℕ
 h b = b / 2 ^ 23 + 125
 
-m-low : (b : ℕ) → 2 ^ 23 ≤ m b
-m-low b = omega arith
-
-m-high : (b : ℕ) → m b < 2 ^ 24
-m-high b = omega arith
-
 -- what is rooted is a fourth of the radicand
-fourfold : (b : ℕ) → 4 * rooted b ≡ radicand (m b) (h b)
-fourfold b = go (m b) ((b / 2 ^ 23 + 1) % 2) (h b % 2) (same (b / 2 ^ 23)) (mod-lt (b / 2 ^ 23 + 1) (zero-lt-suc 1))
+rooted-is : (b : ℕ) → 4 * rooted b ≡ radicand (m b) (h b)
+rooted-is b = ap (λ (odd : ℕ). 4 * (m b * (2 ^ 23 + odd * 2 ^ 23))) (same (b / 2 ^ 23)) ∙ fourfold (m b) (h b)
   where
     same : (x : ℕ) → (x + 1) % 2 ≡ (x + 125) % 2
     same x = omega arith
 
-    go : (m odd o : ℕ) → odd ≡ o → odd < 2 → 4 * (m * (2 ^ 23 + odd * 2 ^ 23)) ≡ m * 2 ^ (25 + o)
-    go m zero zero e l = omega arith
-    go m (suc zero) (suc zero) e l = omega arith
-    go m zero (suc o) e l = absurd (omega arith)
-    go m (suc odd) zero e l = absurd (omega arith)
-    go m (suc zero) (suc (suc o)) e l = absurd (omega arith)
-    go m (suc (suc odd)) (suc o) e l = absurd (omega arith)
-
 digits_are : (b r : ℕ) → Right b r → r ≡ root_digits (m b) (h b)
-digits_are b r p = rounded (rooted b) r p.0 p.1 ∙ ap (λ (x : ℕ). (root x + 1) / 2) (fourfold b)
+digits_are b r p = rounded (rooted b) r p.0 p.1 ∙ ap (λ (x : ℕ). (root x + 1) / 2) (rooted-is b)
 
 abbrev pub packed_pattern : ℕ → ℕ → ℕ
 packed_pattern b r = (b + 0x3e80_0000) / 2 ^ 24 * 2 ^ 23 + r
@@ -67,11 +54,11 @@ pub right-is-root : (b r : ℕ) → Normal b → Right b r → of_bits binary32 
 right-is-root b r n p =
     let f = field_in b n in
     ap (of_bits binary32) (pattern-is b r p)
-    ∙ sym (root-pattern (m b * 2 ^ (b / 2 ^ 23 - 1)) (m b) (h b) (m-low b) (m-high b) (omega arith) f.1 (units (m b) (b / 2 ^ 23) f.0))
+    ∙ sym (root-pattern (m b * 2 ^ (b / 2 ^ 23 - 1)) (m b) (h b) (le-add_right (2 ^ 23) (b % 2 ^ 23)) (digits_lt b) (omega arith) f.1 (units (m b) (b / 2 ^ 23) f.0))
     ∙ sym (sqrt-normal b n.1 f.0)
 
 pub right-finite : (b r : ℕ) → Normal b → Right b r → packed_pattern b r < 0x7f80_0000
-right-finite b r n p = subst (λ (x : ℕ). x < 0x7f80_0000) (sym (pattern-is b r p)) (pattern_lt (m b) (h b) (m-low b) (m-high b) (field_in b n).1)
+right-finite b r n p = subst (λ (x : ℕ). x < 0x7f80_0000) (sym (pattern-is b r p)) (pattern_lt (m b) (h b) (le-add_right (2 ^ 23) (b % 2 ^ 23)) (digits_lt b) (field_in b n).1)
 
 -- ---- the test by quotients: with S for r * r and n for what is rooted
 pub test-small : (S n r : ℕ) → S < 2 ^ 50 → n < 2 ^ 49 → r < 2 ^ 25 → (S + 2 ^ 62 - n + r) / 2 ^ 62 - (S + 2 ^ 62 - n - r) / 2 ^ 62 ≤ 1

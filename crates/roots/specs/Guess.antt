@@ -1,8 +1,5 @@
 -- A guess at the digits of the root of the f32 with the pattern b, and the test of it, in whole numbers.
-use Rattle.std.specs.Prelude.{List, ◌≡◌, ℕ, ◌+◌, ◌*◌, ◌/◌, ◌%◌, ◌^◌, ◌≤◌, ◌<◌, get_or, Float}
-use Rattle.std.specs.Float.{binary32}
-use Rattle.std.specs.Float.Ieee.{of_bits, to_bits}
-use Rattle.scalar.specs.F32.{at}
+use Rattle.std.specs.Prelude.{List, ℕ, ◌+◌, ◌*◌, ◌/◌, ◌%◌, ◌^◌, ◌≤◌, ◌<◌, get_or}
 
 -- b is the pattern of a normal f32 above zero
 abbrev pub Normal : ℕ → Type 0
@@ -19,7 +16,3 @@ Right b r = (r * r < rooted b + r) × (rooted b ≤ r * r + r)
 -- the first n guesses are right
 abbrev pub AllRight : List ℕ → List ℕ → ℕ → Type 0
 AllRight b g n = (k : ℕ) → k < n → Normal (get_or b k 0) × Right (get_or b k 0) (get_or g k 0 % 2 ^ 25)
-
--- the first n numbers are what their patterns stand for
-abbrev pub HeldByBits : List Float → ℕ → Type 0
-HeldByBits x n = (k : ℕ) → k < n → at x k ≡ of_bits binary32 (to_bits binary32 (at x k))

@@ -1,17 +1,16 @@
-// Forty square roots at a time. Each is guessed with floats and tested by whole numbers, in loops with
-// no branch and no call, so that the compiler makes vector instructions of them. Where one of the
-// forty guesses is not proved right by its test, all are worked out one by one.
+// Forty square roots at a time. Each is guessed with floats and tested by whole numbers, with no branch
+// and no call, so that the compiler makes vector instructions of them. Where one of the forty guesses is
+// not proved right by its test, all are worked out one by one.
 // Stays: lists of forty side by side (patterns b and guesses g), since vector instructions take one kind of number from a list,
 // and a list of records would have to be taken apart first.
 #![tactic(auto)]
 
-ghost use Rattle.std.specs.Prelude.{◌≡◌, ◌%◌, ◌^◌, ◌≤◌, ◌<◌, get_or};
+ghost use Rattle.std.specs.Prelude.{◌≡◌, ◌%◌, ◌^◌, ◌≤◌, ◌<◌};
 ghost use Rattle.std.specs.Float.{binary32};
 ghost use Rattle.std.specs.Float.Ieee.{of_bits, to_bits};
-ghost use Rattle.scalar.specs.F32.{at};
 ghost use Rattle.scalar.specs.Root.{sqrt_of};
-ghost use Rattle.roots.specs.Roots.{put_each, roots_into};
-ghost use Rattle.roots.specs.Guess.{Normal, Right, AllRight, HeldByBits};
+ghost use Rattle.roots.specs.Roots.{roots_into};
+ghost use Rattle.roots.specs.Guess.{Normal, Right, AllRight};
 
 // The pattern of x, which is a number of the format, as it comes by value.
 fn pattern(x: f32) -> u32
@@ -59,22 +58,6 @@ fn packed(b: u32, g: u32) -> f32
     f32::from_bits((b + 0x3e80_0000) / 0x100_0000 * 0x80_0000 + g % 0x200_0000)
 }
 
-// Stays: by `map` of an array it takes three times as long, and of the lists that a `zip` with `iter_mut` leaves a proof knows the
-// lengths alone, which is enough for guesses. So too `pack` and `one_by_one`, loops of a line, which a shared one would be handed.
-fn patterns(x: &[f32; 40], b: &mut [u32; 40])
-    ensures { (b.new ≡ put_each (λ k. to_bits binary32 (at x.now k)) b.old 40) × HeldByBits x.now 40 }
-{
-    for k in 0..40 {
-        b[k] = pattern(x[k]);
-    }
-}
-
-fn guesses(b: &[u32; 40], g: &mut [u32; 40]) {
-    for (g, b) in g.iter_mut().zip(b) {
-        *g = scalar::near_root(folded(*b));
-    }
-}
-
 // How many tests are passed, of two for each.
 fn passed(b: &[u32; 40], g: &[u32; 40]) -> u64
     ensures { result ≡ 80 → AllRight b.now g.now 40 }
@@ -86,34 +69,15 @@ fn passed(b: &[u32; 40], g: &[u32; 40]) -> u64
     n
 }
 
-fn pack(b: &[u32; 40], g: &[u32; 40], out: &mut [f32; 40])
-    requires { AllRight b.now g.now 40 }
-    ensures { out.new ≡ put_each (λ k. sqrt_of (of_bits binary32 (get_or b.now k 0))) out.old 40 }
-{
-    for k in 0..40 {
-        out[k] = packed(b[k], g[k]);
-    }
-}
-
-fn one_by_one(x: &[f32; 40], out: &mut [f32; 40])
-    ensures { out.new ≡ roots_into x.now out.old 40 }
-{
-    for k in 0..40 {
-        out[k] = scalar::sqrt(x[k]);
-    }
-}
-
 // The square root of each, correctly rounded.
 pub fn roots(x: &[f32; 40], out: &mut [f32; 40])
     ensures { out.new ≡ roots_into x.now out.old 40 }
 {
-    let mut b = [0u32; 40];
-    let mut g = [0u32; 40];
-    patterns(x, &mut b);
-    guesses(&b, &mut g);
+    let b: [u32; 40] = std::array::from_fn(|k| pattern(x[k]));
+    let g: [u32; 40] = std::array::from_fn(|k| scalar::near_root(folded(b[k])));
     if passed(&b, &g) == 80 {
-        pack(&b, &g, out);
+        *out = std::array::from_fn(|k| packed(b[k], g[k]));
         return;
     }
-    one_by_one(x, out);
+    *out = std::array::from_fn(|k| scalar::sqrt(x[k]));
 }

@@ -6,7 +6,7 @@ use Prim.Native.Nat.{ℕ, zero, suc, ◌+◌, ◌-◌, ◌*◌, ◌/◌, ◌%◌
 use native.Mathlib.Nat.{le_trans, le_antisymm, suc-mul, mul-pos, eq_of_mul-eq-mul_right, mod-lt, div-add-mod', div-div-eq-div-mul}
 use native.Mathlib.Omega.{arith}
 use lib.IntN.{ℤ}
-use lib.Dec.{T, ltb, eqb, eqb→eq, ltb→lt, nltb→le}
+use lib.Dec.{T, ltb, ltb→lt, nltb→le}
 use lib.Arith.{lt_of_le-ne}
 use lib.Pow.{pow_pos}
 use lib.Ieee.{Float, nan, inf, fin, Format, prec, low, up, down, nearest, round, to_bits}
@@ -14,6 +14,7 @@ use lib.Ieee.Fits.{two, two-le_pos, kept-lt, down_pos}
 use lib.Ieee.Exact.{HasValue}
 use lib.Ieee.Order.{drop, kept}
 use lib.Ieee.Scale.{grid}
+use Rattle.std.proofs.lemmas.Bool.{cases_eq}
 use Rattle.rounding.specs.TiesToEven.{gap, off, limit, Nearest}
 use Rattle.rounding.specs.Laws.{OnlyRound}
 use Rattle.rounding.proofs.Cells.{Out, Cmp, cmp, outside, steps-ge, regroup}
@@ -172,16 +173,9 @@ only f s a c C (fin t m e) (fin u n d) v p q =
     differs : (q' j : ℕ) → n * up d * L ≡ q' * 2 ^ j * down d → (q' * 2 ^ j ≡ N → ⊥) → fin t m e ≡ fin u n d → ⊥
     differs q' j w no_eq i = no_eq (sized (fin u n d) (q' * 2 ^ j) N (q.sign, w) (subst (λ (x : Float). HasValue x s N L) i v))
 
-    decide : (x y : ℕ) → (x ≡ y) ⊎ (x ≡ y → ⊥)
-    decide x y = at (eqb x y) (eqb→eq x y) (λ (i : x ≡ y). subst (λ (z : ℕ). T (eqb x z)) i (lib.Dec.eqb_refl x))
-      where
-        at : (b : Bool) → (T b → x ≡ y) → (x ≡ y → T b) → (x ≡ y) ⊎ (x ≡ y → ⊥)
-        at true h k = inl (h tt)
-        at false h k = inr (λ i. k i)
-
     go : (q' j : ℕ) → n * up d * L ≡ q' * 2 ^ j * down d → (q' * 2 ^ j ≡ N) ⊎ Other (prec f) (a * L) c (q' * 2 ^ j) → fin u n d ≡ fin t m e
     go q' j w (inl i) = one q' j w i
-    go q' j w (inr o) = pick (decide (q' * 2 ^ j) N)
+    go q' j w (inr o) = pick (cases_eq (q' * 2 ^ j) N)
       where
         pick : (q' * 2 ^ j ≡ N) ⊎ (q' * 2 ^ j ≡ N → ⊥) → fin u n d ≡ fin t m e
         pick (inl i) = one q' j w i

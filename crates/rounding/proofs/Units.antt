@@ -6,14 +6,15 @@ use native.Mathlib.Nat.{le_trans, le_of_eq, lt_of_lt_of_le, le_of_suc-le-suc, lt
 use lib.IntN.{ℤ, pos, negsuc}
 use lib.Dec.{T, leb, ltb, eqb, ltb→lt, leb→le}
 use lib.Pow.{pow-add, pow_pos, pow-lt}
-use lib.Ieee.{fin, Format, prec, emax, low, up, down, size, fits, hid, top, to_bits, of_bits}
+use lib.Ieee.{Float, nan, inf, fin, Format, prec, emax, low, up, down, size, fits, hid, top, to_bits, of_bits}
+use lib.Ieee.Exact.{HasValue}
 use lib.Ieee.Digits.{back}
 use lib.Ieee.Fits.{down_pos, and_l, and_r}
 use lib.Ieee.Bits.{of_bits-to_bits}
 use Rattle.rounding.specs.TiesToEven.{gap, off}
 
 -- ---- distances in units
-gap-mul : (x y z : ℕ) → gap (x * z) (y * z) ≡ gap x y * z
+pub gap-mul : (x y z : ℕ) → gap (x * z) (y * z) ≡ gap x y * z
 gap-mul x y z = sym (add-mul (x - y) (y - x) z ∙ ap (λ (a : ℕ). a + (y - x) * z) (one x y) ∙ ap (λ (a : ℕ). x * z - y * z + a) (one y x))
   where
     one : (x y : ℕ) → (x - y) * z ≡ x * z - y * z
@@ -23,7 +24,7 @@ gap-mul x y z = sym (add-mul (x - y) (y - x) z ∙ ap (λ (a : ℕ). a + (y - x)
 abbrev pub dist : Bool → Bool → ℕ → ℕ → ℕ → ℕ
 dist s t M c n = cond (beq s t) (gap (M * c) n) (M * c + n)
 
-abbrev same_sign : (s : Bool) → beq s s ≡ true
+abbrev pub same_sign : (s : Bool) → beq s s ≡ true
 same_sign true = refl
 same_sign false = refl
 
@@ -87,6 +88,11 @@ pattern_of f s N = cond s (top f) 0 + (size N - prec f) * hid f + N / 2 ^ (size 
 pub bits_of : (f : Format) (s : Bool) (m : ℕ) (e : ℤ) (N : ℕ) → m * up e * 2 ^ low f ≡ N * down e → to_bits f (fin s m e) ≡ pattern_of f s N
 unfolding to_bits
 bits_of f s m e N v = ap (λ (n : ℕ). pattern_of f s n) (ap (λ (x : ℕ). x / down e) v ∙ mul-div_cancel N (down_pos e))
+
+pub value-bits : (f : Format) (v : Float) (s : Bool) (N : ℕ) → HasValue v s N (2 ^ low f) → to_bits f v ≡ pattern_of f s N
+value-bits f nan s N h = elim h [ ]
+value-bits f (inf _) s N h = elim h [ ]
+value-bits f (fin t m e) s N h = bits_of f t m e N h.1 ∙ ap (λ (b : Bool). pattern_of f b N) h.0
 
 -- two values that a format holds, of the same sign and size
 pub same-value : (f : Format) (s t : Bool) (m : ℕ) (e : ℤ) (n : ℕ) (d : ℤ) (N : ℕ) → T (fits f (fin s m e)) → T (fits f (fin t n d)) → s ≡ t

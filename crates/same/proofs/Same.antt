@@ -4,8 +4,9 @@ use mathlib.Core.List.{List, [], ◌∷◌}
 use mathlib.Core.Path.{◌≡◌, refl, sym, ap, ap₂, ◌∙◌, subst}
 use Prim.Native.Nat.{ℕ, ◌^◌, ◌<◌}
 use lib.Dec.{T, eqb, eqb→eq, eqb_refl}
-use lib.Ieee.{Float, nan, inf, fin, binary32, is_nan, of_bits, to_bits}
+use lib.Ieee.{Float, nan, binary32, is_nan, of_bits, to_bits}
 use lib.Ieee.Bits.{is_true, of_bits-to_bits, to_bits-of_bits, nan_bits_is, nan_bits_above}
+use Rattle.scalar.proofs.Nan.{nan-only}
 use Rattle.same.specs.Same.{nan_pattern, same_bits, Same, SameAll, F32, AllF32, SameIsEqual}
 
 -- ---- the patterns of NaN
@@ -13,14 +14,8 @@ use Rattle.same.specs.Same.{nan_pattern, same_bits, Same, SameAll, F32, AllF32, 
 pattern-is : (b : ℕ) → nan_pattern b ≡ is_nan (of_bits binary32 b)
 pattern-is b = sym (nan_bits_above binary32 b) ∙ nan_bits_is binary32 b
 
-only_nan : (x : Float) → is_nan x ≡ true → x ≡ nan
-unfolding is_nan
-only_nan nan e = refl
-only_nan (inf s) e = absurd (mathlib.Core.Bool.false≢true e)
-only_nan (fin s m k) e = absurd (mathlib.Core.Bool.false≢true e)
-
 read-nan : (b : ℕ) → nan_pattern b ≡ true → of_bits binary32 b ≡ nan
-read-nan b e = only_nan (of_bits binary32 b) (sym (pattern-is b) ∙ e)
+read-nan b e = nan-only (of_bits binary32 b) (sym (pattern-is b) ∙ e)
 
 -- ---- by words
 
@@ -67,7 +62,7 @@ all-itself (x ∷ xs) = (equal-same x x refl, all-itself xs)
 pub equal-all : (xs ys : List Float) → xs ≡ ys → SameAll xs ys
 equal-all xs ys e = subst (λ (zs : List Float). SameAll xs zs) e (all-itself xs)
 
-all-equal : (xs ys : List Float) → AllF32 xs → AllF32 ys → SameAll xs ys → xs ≡ ys
+pub all-equal : (xs ys : List Float) → AllF32 xs → AllF32 ys → SameAll xs ys → xs ≡ ys
 all-equal [] [] p q t = refl
 all-equal [] (y ∷ ys) p q t = absurd t
 all-equal (x ∷ xs) [] p q t = absurd t

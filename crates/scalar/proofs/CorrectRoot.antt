@@ -1,8 +1,8 @@
 -- For every f32 that is finite and above zero `sqrt_of` is the correctly rounded root (`sqrt-correct`), and nothing else is (`only-root`): the theorem in units, said of fractions. Assumes nothing.
 use mathlib.Core.Path.{◌≡◌, refl, sym, ap, ◌∙◌, subst}
 use mathlib.Core.Bool.{true, false}
-use Prim.Native.Nat.{ℕ, ◌+◌, ◌*◌, ◌/◌, ◌^◌, ◌≤◌, ◌<◌}
-use native.Mathlib.Nat.{lt_irrefl, lt_trans, le_antisymm, le_of_suc-le-suc, lt_of_not-le, add_comm, le_of_eq, lt_of_lt_of_le, lt_of_le_of_lt, mul_comm, mul_assoc, mul_left_comm, mul_right_comm, mul-mul-mul_comm, mul-lt-mul_of_pos_right, lt_of_mul-lt-mul_right, mul-pos, mul-div_cancel, add-mul}
+use Prim.Native.Nat.{ℕ, ◌+◌, ◌*◌, ◌^◌, ◌≤◌, ◌<◌}
+use native.Mathlib.Nat.{lt_irrefl, lt_trans, le_antisymm, le_of_suc-le-suc, lt_of_not-le, add_comm, le_of_eq, lt_of_lt_of_le, lt_of_le_of_lt, mul_comm, mul_assoc, mul_left_comm, mul_right_comm, mul-mul-mul_comm, mul-lt-mul_of_pos_right, lt_of_mul-lt-mul_right, mul-pos, add-mul}
 use lib.Dec.{T}
 use lib.Pow.{pow_pos}
 use lib.Ieee.{Float, nan, inf, fin, binary32, down, fits}
@@ -10,17 +10,18 @@ use lib.Ieee.Fits.{down_pos}
 use lib.Ieee.Scale.{finite}
 use lib.Ieee.Positive.{positive, positive-finite, num, den, den_pos}
 use Rattle.rounding.proofs.Units.{on-grid, same-value, units_of}
-use Rattle.scalar.specs.Root.{sq, in_units, sqrt_of, CorrectRoot}
+use Rattle.scalar.specs.Root.{sq, steps, sqrt_of, CorrectRoot}
 use Rattle.scalar.specs.Laws.{SqrtCorrect, OnlyRoot}
+use Rattle.scalar.proofs.Patterns.{steps-is}
 use Rattle.scalar.proofs.RootInUnits.{IsRoot, sqrt-in-units}
 
 -- the units of a value that the format holds are its fraction times 2 ^ 149, with nothing left over
-exact : (v : Float) → T (fits binary32 v) → T (finite v) → num v * 2 ^ 149 ≡ in_units v * den v
+exact : (v : Float) → T (fits binary32 v) → T (finite v) → num v * 2 ^ 149 ≡ steps v * den v
 exact nan h k = absurd k
 exact (inf s) h k = absurd k
 exact (fin s m e) h k =
     let g = on-grid binary32 s m e h in
-    g.3 ∙ ap (λ (x : ℕ). x * down e) (sym (ap (λ (x : ℕ). x / down e) g.3 ∙ mul-div_cancel (g.0 * 2 ^ g.1) (down_pos e)))
+    g.3 ∙ ap (λ (x : ℕ). x * down e) (sym (steps-is (fin s m e) s (g.0 * 2 ^ g.1) (refl, g.3)))
 
 -- ---- an order of fractions is one of units: a / d and b / e are M / L and N / L
 less : (a b d e M N L : ℕ) → a * L ≡ M * d → b * L ≡ N * e → a * e < b * d → 0 < L → M < N
@@ -65,21 +66,21 @@ in-fractions : (x r : Float) → T (fits binary32 x) → T (positive x) → IsRo
 in-fractions x r h p c = record {
   held = c.held;
   is_positive = c.is_positive;
-  below = λ y k z l. square-less (num y * den r + num r * den y) (den y * den r) (num x) (den x) (in_units y + in_units r) (in_units x) L
-      (sum (num y) (num r) (den y) (den r) (in_units y) (in_units r) L (exact y k z) r-is) x-is (mul-pos (den_pos y) (den_pos r)) (den_pos x)
-      (c.below y k z (less (num y) (num r) (den y) (den r) (in_units y) (in_units r) L (exact y k z) r-is l (pow_pos 149)));
-  above = λ y k z l. square-more (num y * den r + num r * den y) (den y * den r) (num x) (den x) (in_units y + in_units r) (in_units x) L
-      (sum (num y) (num r) (den y) (den r) (in_units y) (in_units r) L (exact y k z) r-is) x-is (mul-pos (den_pos y) (den_pos r)) (den_pos x)
-      (c.above y k z (less (num r) (num y) (den r) (den y) (in_units r) (in_units y) L r-is (exact y k z) l (pow_pos 149)));
+  below = λ y k z l. square-less (num y * den r + num r * den y) (den y * den r) (num x) (den x) (steps y + steps r) (steps x) L
+      (sum (num y) (num r) (den y) (den r) (steps y) (steps r) L (exact y k z) r-is) x-is (mul-pos (den_pos y) (den_pos r)) (den_pos x)
+      (c.below y k z (less (num y) (num r) (den y) (den r) (steps y) (steps r) L (exact y k z) r-is l (pow_pos 149)));
+  above = λ y k z l. square-more (num y * den r + num r * den y) (den y * den r) (num x) (den x) (steps y + steps r) (steps x) L
+      (sum (num y) (num r) (den y) (den r) (steps y) (steps r) L (exact y k z) r-is) x-is (mul-pos (den_pos y) (den_pos r)) (den_pos x)
+      (c.above y k z (less (num r) (num y) (den r) (den y) (steps r) (steps y) L r-is (exact y k z) l (pow_pos 149)));
 }
   where
     L : ℕ
     L = 2 ^ 149
 
-    r-is : num r * 2 ^ 149 ≡ in_units r * den r
+    r-is : num r * 2 ^ 149 ≡ steps r * den r
     r-is = exact r c.held (positive-finite r c.is_positive)
 
-    x-is : num x * 2 ^ 149 ≡ in_units x * den x
+    x-is : num x * 2 ^ 149 ≡ steps x * den x
     x-is = exact x h (positive-finite x p)
 
 pub sqrt-correct : SqrtCorrect
@@ -112,7 +113,7 @@ one (fin false m a) (fin true n b) h k p q e = absurd q
 one (fin false m a) (fin false n b) h k p q e =
     let x = exact (fin false m a) h tt in
     let y = exact (fin false n b) k tt in
-    same-value binary32 false false m a n b (in_units (fin false n b)) h k refl (x ∙ ap (λ (z : ℕ). z * down a) (units_of (num (fin false m a)) (num (fin false n b)) (2 ^ 149) (down b) (down a) (in_units (fin false m a)) (in_units (fin false n b)) (down_pos b) (down_pos a) x y e)) y
+    same-value binary32 false false m a n b (steps (fin false n b)) h k refl (x ∙ ap (λ (z : ℕ). z * down a) (units_of (num (fin false m a)) (num (fin false n b)) (2 ^ 149) (down b) (down a) (steps (fin false m a)) (steps (fin false n b)) (down_pos b) (down_pos a) x y e)) y
 
 pub only-root : OnlyRoot
 only-root x r h p q = let c = sqrt-correct x h p in one r (sqrt_of x) q.held c.held q.is_positive c.is_positive (same_size x r (sqrt_of x) q c)

@@ -1,4 +1,4 @@
--- Literals, NaN, minimum and maximum, truncation and casts, and the correctly rounded square root.
+-- Literals, NaN, minimum and maximum, truncation and casts, the correctly rounded square root, and arrays made by index.
 pub mod Literals
 pub mod Nan
 pub mod Order
@@ -17,3 +17,4 @@ pub mod Patterns
 pub mod SpecialRoots
 pub mod RootInUnits
 pub mod CorrectRoot
+pub mod FromFn

@@ -6,14 +6,19 @@ use native.Mathlib.Nat.{lt_irrefl, zero-mul, mul-one, mul-pos, mul-div_cancel, m
 use native.Mathlib.Omega.{arith}
 use lib.Dec.{leb, eqb, eqb→eq}
 use lib.Pow.{pow_pos}
-use lib.Arith.{lt→nleb}
 use lib.Ieee.{Float, nan, inf, fin, binary32, up, down, odd, of_fields, of_bits}
 use lib.Ieee.Fits.{down_pos}
-use lib.Ieee.Bits.{is_false, cond_no}
+use lib.Ieee.Bits.{cond_no}
 use lib.Ieee.Exact.{HasValue, odd_sign}
-use Rattle.scalar.specs.Root.{root_of_units, sqrt_of}
+use borrow.Author.Tests.{lt-leb}
+use Rattle.scalar.specs.Root.{steps, root_of_units, sqrt_of}
 
--- ---- `sqrt_of` by a value's sign and units
+-- ---- a value in units, and `sqrt_of` by them and its sign
+pub steps-is : (v : Float) (s : Bool) (N : ℕ) → HasValue v s N (2 ^ 149) → steps v ≡ N
+steps-is nan s N h = elim h [ ]
+steps-is (inf _) s N h = elim h [ ]
+steps-is (fin t m e) s N h = ap (λ (x : ℕ). x / down e) h.1 ∙ mul-div_cancel N (down_pos e)
+
 some : (m u l N d : ℕ) → m ≡ 0 → 0 < N → 0 < d → m * u * l ≡ N * d → ⊥
 some m u l N d z n p e = lt_irrefl 0 (subst (λ (x : ℕ). 0 < x) (sym e ∙ ap (λ (x : ℕ). x * u * l) z ∙ ap (λ (x : ℕ). x * l) (zero-mul u) ∙ zero-mul l) (mul-pos n p))
 
@@ -23,7 +28,7 @@ sqrt-at nan N h p = elim h [ ]
 sqrt-at (inf _) N h p = elim h [ ]
 sqrt-at (fin s zero e) N h p = absurd (some 0 (up e) (2 ^ 149) N (down e) refl p (down_pos e) h.1)
 sqrt-at (fin true (suc m) e) N h p = absurd (mathlib.Core.Bool.true≢false h.0)
-sqrt-at (fin false (suc m) e) N h p = ap (λ (x : ℕ). root_of_units x) (ap (λ (x : ℕ). x / down e) h.1 ∙ mul-div_cancel N (down_pos e))
+sqrt-at (fin false (suc m) e) N h p = ap (λ (x : ℕ). root_of_units x) (steps-is (fin false (suc m) e) false N h)
 
 pub sqrt_negative : (v : Float) (N : ℕ) → HasValue v true N (2 ^ 149) → 0 < N → sqrt_of v ≡ nan
 unfolding sqrt_of
@@ -56,7 +61,7 @@ fields-mid s x t h =
 pub plain : (b : ℕ) → b < 2 ^ 31 → of_bits binary32 b ≡ of_fields binary32 false (b / 2 ^ 23) (b % 2 ^ 23)
 plain b h =
     of_bits_is b
-    ∙ ap (λ (s : Bool). of_fields binary32 s (b % 2 ^ 31 / 2 ^ 23) (b % 2 ^ 23)) (is_false (leb (2 ^ 31) b) (lt→nleb (2 ^ 31) b h))
+    ∙ ap (λ (s : Bool). of_fields binary32 s (b % 2 ^ 31 / 2 ^ 23) (b % 2 ^ 23)) (lt-leb (2 ^ 31) b h)
     ∙ ap (λ (x : ℕ). of_fields binary32 false (x / 2 ^ 23) (b % 2 ^ 23)) (mod-eq_of_lt h)
 
 -- ---- the root of a pattern above zero and below +infinity's: by its digits, with the leading one where the exponent's field has it

@@ -5,6 +5,7 @@ use mathlib.Core.Logic.{◌⊎◌, inl, inr}
 use mathlib.Core.Bool.{Bool, true, false, cond}
 use Prim.Native.Nat.{ℕ, zero, suc, ◌+◌, ◌-◌, ◌*◌, ◌/◌, ◌%◌, ◌^◌, ◌≤◌, ◌<◌}
 use native.Mathlib.Nat.{le_trans, le_of_eq, lt_of_lt_of_le, not-suc-le-zero, le_of_suc-le-suc, zero-lt-suc, mul_comm, mul_assoc, mul_left_comm, mul-le-mul_right, mul-lt-mul_of_pos_right, eq_of_mul-eq-mul_right, mul-mul-mul_comm, mul-pos, mod-lt, suc-mul, pow-suc, mul-div-mul_right}
+use native.Mathlib.Numerals.{add-one}
 use native.Mathlib.Omega.{arith}
 use lib.Dec.{T, eqb, eqb→eq}
 use lib.Pow.{pow-add, pow_pos}
@@ -18,6 +19,10 @@ use Rattle.scalar.proofs.WholeRoot.{Root, square, root_is, root_ge, root-lt}
 use Rattle.rounding.proofs.LastDigit.{size_exact}
 use Rattle.scalar.proofs.Closest.{closest-only}
 
+-- a leading digit and the 23 last ones of any number
+pub digits_lt : (b : ℕ) → 2 ^ 23 + b % 2 ^ 23 < 2 ^ 24
+digits_lt b = omega arith
+
 -- ---- A
 abbrev Span : ℕ → Type 0
 Span A = (2 ^ 48 ≤ A) × (A < 2 ^ 50) × (A % 2 ≡ 0)
@@ -29,6 +34,15 @@ span-at m (suc (suc e)) l lo hi = absurd (not-suc-le-zero (le_of_suc-le-suc (le_
 
 pub span : (m h : ℕ) → 2 ^ 23 ≤ m → m < 2 ^ 24 → Span (radicand m h)
 span m h lo hi = span-at m (h % 2) (mod-lt h (zero-lt-suc 1)) lo hi
+
+-- a fourth of it is what the code roots
+pub fourfold : (m h : ℕ) → 4 * (m * (2 ^ 23 + h % 2 * 2 ^ 23)) ≡ radicand m h
+fourfold m h = go (h % 2) (mod-lt h (zero-lt-suc 1))
+  where
+    go : (odd : ℕ) → odd < 2 → 4 * (m * (2 ^ 23 + odd * 2 ^ 23)) ≡ m * 2 ^ (25 + odd)
+    go zero l = omega arith
+    go (suc zero) l = omega arith
+    go (suc (suc odd)) l = absurd (omega arith)
 
 -- a is A * G * G
 halves : (h : ℕ) → 2 ≤ h → h + 23 ≡ 25 + h % 2 + (h / 2 - 1 + (h / 2 - 1))
@@ -145,10 +159,7 @@ module _ (A G Q R : ℕ) (g : 0 < G) (even : A % 2 ≡ 0) (q : Root A Q) (r : Ro
       go (suc zero) e l = at-odd B ((Q + 1) / 2 * (2 * (G * 2))) (Q * G) (four ((Q + 1) / 2) G ∙ ap (λ (x : ℕ). 2 * (x * G)) (odd-c Q e) ∙ ap (λ (x : ℕ). 2 * x) (plus Q)) lo hi (least e B k) (most B k)
         where
           plus : (Q : ℕ) → (Q + 1) * G ≡ Q * G + G
-          plus Q = ap (λ (x : ℕ). x * G) (one Q) ∙ suc-mul Q G
-            where
-              one : (Q : ℕ) → Q + 1 ≡ suc Q
-              one Q = omega arith
+          plus Q = ap (λ (x : ℕ). x * G) (add-one Q) ∙ suc-mul Q G
       go (suc (suc b)) e l = absurd (not-suc-le-zero (le_of_suc-le-suc (le_of_suc-le-suc l)))
 
 -- ---- `round` drops g + 1 digits and keeps (Q + 1) / 2
@@ -182,7 +193,7 @@ module _ (A g Q R L : ℕ) (lp : 0 < L) (even : A % 2 ≡ 0) (q : Root A Q) (r :
       ∙ closest-only B (2 * (G * 2)) ((Q + 1) / 2) four-pos b.0 b.1
 
 -- all of it, at A and Q
-up_one : (h : ℕ) → 2 ≤ h → suc (h / 2 - 1) ≡ h / 2
+pub up_one : (h : ℕ) → 2 ≤ h → suc (h / 2 - 1) ≡ h / 2
 up_one h l = omega arith
 
 pub rounds : (m h : ℕ) → 2 ^ 23 ≤ m → m < 2 ^ 24 → 2 ≤ h

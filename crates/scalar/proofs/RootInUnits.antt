@@ -2,35 +2,35 @@
 -- no value of the format lies inside the cell that holds the root, and the middle of two values is below or above √x as its square is below or above x. Assumes nothing.
 use mathlib.Core.Path.{◌≡◌, refl, sym, ap, ◌∙◌, subst}
 use mathlib.Core.Logic.{◌⊎◌, inl, inr}
-use mathlib.Core.Bool.{Bool, true, false, ◌&&◌}
+use mathlib.Core.Bool.{true, false, ◌&&◌}
 use Prim.Native.Nat.{ℕ, zero, suc, ◌+◌, ◌-◌, ◌*◌, ◌/◌, ◌%◌, ◌^◌, ◌≤◌, ◌<◌}
-use native.Mathlib.Nat.{le_trans, le_of_eq, le_of_lt, le_of_suc-le-suc, lt_of_lt_of_le, lt_of_le_of_lt, zero-lt-suc, eq-or-lt_of_le, mul_comm, mul_assoc, mul_right_comm, mul-le-mul, mul-le-mul_left, mul-le-mul_right, mul-lt-mul_of_pos_right, mul-lt-mul_of_pos_left, lt_of_mul-lt-mul_right, mul-mul-mul_comm, mul-pos, mul-div_cancel, mod-lt, suc-mul, pow-suc, not-suc-le-zero}
+use native.Mathlib.Nat.{le_trans, le_of_eq, le_of_lt, le_of_suc-le-suc, lt_of_lt_of_le, lt_of_le_of_lt, zero-lt-suc, eq-or-lt_of_le, mul_comm, mul_assoc, mul_right_comm, mul-le-mul, mul-le-mul_left, mul-le-mul_right, mul-lt-mul_of_pos_right, mul-lt-mul_of_pos_left, lt_of_mul-lt-mul_right, mul-mul-mul_comm, mul-pos, mod-lt, suc-mul, pow-suc, not-suc-le-zero}
 use native.Mathlib.Omega.{arith}
 use lib.IntN.{ℤ}
 use lib.Dec.{T, leb, ltb, eqb, ltb→lt}
 use lib.Pow.{pow-add, pow_pos}
 use lib.Ieee.{Float, nan, inf, fin, binary32, up, down, fits}
-use lib.Ieee.Fits.{down_pos, up_pos, and_r}
+use lib.Ieee.Fits.{up_pos, and_r}
 use lib.Ieee.Exact.{HasValue}
 use lib.Ieee.Scale.{finite}
 use lib.Ieee.Positive.{positive, positive_of_value, first_pos}
 use Rattle.rounding.proofs.Cells.{Out, cell}
 use Rattle.rounding.proofs.Units.{on-grid}
-use Rattle.scalar.specs.Root.{root, root_of_units, sqrt_of, in_units}
+use Rattle.scalar.specs.Root.{root, root_of_units, sqrt_of, steps}
 use Rattle.scalar.specs.RootPattern.{radicand, root_digits}
 use lib.Count.{count_leading_zeros}
 use Rattle.scalar.proofs.WholeRoot.{Root, root_is}
-use Rattle.scalar.proofs.RootDigits.{span, split, root-low, no_tie}
+use Rattle.scalar.proofs.RootDigits.{span, split, root-low, no_tie, up_one}
 use Rattle.scalar.proofs.RootPattern.{digits_in, root-fits, root-value}
 use Rattle.scalar.proofs.Normalise.{Shifted, shifted, pow_lt_back}
-use Rattle.scalar.proofs.Patterns.{sqrt-at}
+use Rattle.scalar.proofs.Patterns.{steps-is, sqrt-at}
 
 -- r is the correctly rounded root of x, in units: √x is √(x * 2 ^ 149) units
 pub record IsRoot (x r : Float) : Type 0 where
   pub held : T (fits binary32 r)
   pub is_positive : T (positive r)
-  pub below : (y : Float) → T (fits binary32 y) → T (finite y) → in_units y < in_units r → (in_units y + in_units r) * (in_units y + in_units r) < 4 * (in_units x * 2 ^ 149)
-  pub above : (y : Float) → T (fits binary32 y) → T (finite y) → in_units r < in_units y → 4 * (in_units x * 2 ^ 149) < (in_units y + in_units r) * (in_units y + in_units r)
+  pub below : (y : Float) → T (fits binary32 y) → T (finite y) → steps y < steps r → (steps y + steps r) * (steps y + steps r) < 4 * (steps x * 2 ^ 149)
+  pub above : (y : Float) → T (fits binary32 y) → T (finite y) → steps r < steps y → 4 * (steps x * 2 ^ 149) < (steps y + steps r) * (steps y + steps r)
 
 -- ---- a finite value above zero: its units N are q * 2 ^ j with q below 2 ^ 24, and N * 2 ^ 149 is m * 2 ^ (h + 23) with an m of 24 digits
 record Normal (N : ℕ) : Type 0 where
@@ -45,14 +45,11 @@ record Normal (N : ℕ) : Type 0 where
 normal : (q j : ℕ) → 0 < q → q < 2 ^ 24 → q * 2 ^ j < 2 ^ 277 → Normal (q * 2 ^ j)
 normal q j p l b = go (count_leading_zeros 32 q - 8) (shifted q j p l)
   where
-    swap : (q a b : ℕ) → q * a * b ≡ q * b * a
-    swap q a b = omega arith
-
     go : (z : ℕ) → Shifted q j z (q * 2 ^ z) (j + 126 - z) → Normal (q * 2 ^ j)
     go z s =
         let few : 23 + j < 277 + z =
         pow_lt_back (23 + j) (277 + z)
-        (lt_of_le_of_lt (le_trans (le_of_eq (pow-add 2 23 j)) (le_trans (mul-le-mul_right (2 ^ j) s.low) (le_of_eq (swap q (2 ^ z) (2 ^ j)))))
+        (lt_of_le_of_lt (le_trans (le_of_eq (pow-add 2 23 j)) (le_trans (mul-le-mul_right (2 ^ j) s.low) (le_of_eq (mul_right_comm q (2 ^ z) (2 ^ j)))))
         (lt_of_lt_of_le (mul-lt-mul_of_pos_right b (pow_pos z)) (le_of_eq (sym (pow-add 2 277 z))))) in
         record {
           m = q * 2 ^ z;
@@ -71,13 +68,10 @@ square-lt u v h = lt_of_le_of_lt (mul-le-mul_right u (le_of_lt h)) (mul-lt-mul_o
     pos : (u v : ℕ) → u < v → 0 < v
     pos u v h = omega arith
 
-twice : (P : ℕ) → 2 * P * (2 * P) ≡ 4 * (P * P)
-twice P = mul-mul-mul_comm 2 P 2 P
-
 -- with S for the sum, P for Q * G: S ≤ 2 * P gives S * S ≤ 4 * A * G * G, and 2 * P + 2 * G ≤ S gives more
 module _ (A Q G : ℕ) (q : Root A Q) (g : 0 < G) where
   under : (S : ℕ) → S ≤ 2 * (Q * G) → S * S ≤ 4 * (A * (G * G))
-  under S h = le_trans (mul-le-mul h h) (le_trans (le_of_eq (twice (Q * G) ∙ ap (λ (x : ℕ). 4 * x) (mul-mul-mul_comm Q G Q G))) (mul-le-mul_left 4 (mul-le-mul_right (G * G) q.0)))
+  under S h = le_trans (mul-le-mul h h) (le_trans (le_of_eq (mul-mul-mul_comm 2 (Q * G) 2 (Q * G) ∙ ap (λ (x : ℕ). 4 * x) (mul-mul-mul_comm Q G Q G))) (mul-le-mul_left 4 (mul-le-mul_right (G * G) q.0)))
 
   under-sum : (S : ℕ) → S < 2 * (Q * G) → S * S < 4 * (A * (G * G))
   under-sum S h = lt_of_lt_of_le (square-lt S (2 * (Q * G)) h) (under (2 * (Q * G)) (le_of_eq refl))
@@ -85,12 +79,12 @@ module _ (A Q G : ℕ) (q : Root A Q) (g : 0 < G) where
   under-root : (S : ℕ) → S ≤ 2 * (Q * G) → Q * Q < A → S * S < 4 * (A * (G * G))
   under-root S h k =
       lt_of_le_of_lt (mul-le-mul h h)
-      (lt_of_le_of_lt (le_of_eq (twice (Q * G) ∙ ap (λ (x : ℕ). 4 * x) (mul-mul-mul_comm Q G Q G))) (mul-lt-mul_of_pos_left (mul-lt-mul_of_pos_right k (mul-pos g g)) (zero-lt-suc 3)))
+      (lt_of_le_of_lt (le_of_eq (mul-mul-mul_comm 2 (Q * G) 2 (Q * G) ∙ ap (λ (x : ℕ). 4 * x) (mul-mul-mul_comm Q G Q G))) (mul-lt-mul_of_pos_left (mul-lt-mul_of_pos_right k (mul-pos g g)) (zero-lt-suc 3)))
 
   over : (S : ℕ) → 2 * (Q * G + G) ≤ S → 4 * (A * (G * G)) < S * S
   over S h =
       lt_of_lt_of_le (mul-lt-mul_of_pos_left (mul-lt-mul_of_pos_right q.1 (mul-pos g g)) (zero-lt-suc 3))
-      (le_trans (le_of_eq (sym (twice (suc Q * G) ∙ ap (λ (x : ℕ). 4 * x) (mul-mul-mul_comm (suc Q) G (suc Q) G))))
+      (le_trans (le_of_eq (sym (mul-mul-mul_comm 2 (suc Q * G) 2 (suc Q * G) ∙ ap (λ (x : ℕ). 4 * x) (mul-mul-mul_comm (suc Q) G (suc Q) G))))
       (mul-le-mul (le_trans (le_of_eq (ap (λ (x : ℕ). 2 * x) (suc-mul Q G))) h) (le_trans (le_of_eq (ap (λ (x : ℕ). 2 * x) (suc-mul Q G))) h)))
 
 -- ---- the result against Q: N is (Q + 1) / 2 steps of 2 * G, and the cell below the root begins at Q / 2 steps
@@ -135,16 +129,7 @@ module _ (A Q G N W : ℕ) (q : Root A Q) (g : 0 < G) (no-odd-root : Q % 2 ≡ 1
   upper Y (even e w) (inr o) h = over A Q G q g (Y + N) (omega arith)
   upper Y (odd p e w) o h = over A Q G q g (Y + N) (omega arith)
 
--- ---- a value in units
-units-is : (v : Float) (s : Bool) (N : ℕ) → HasValue v s N (2 ^ 149) → in_units v ≡ N
-units-is nan s N h = elim h [ ]
-units-is (inf _) s N h = elim h [ ]
-units-is (fin t m e) s N h = ap (λ (x : ℕ). x / down e) h.1 ∙ mul-div_cancel N (down_pos e)
-
 -- ---- the theorem, of a value of N units
-half_pos : (h : ℕ) → 2 ≤ h → suc (h / 2 - 1) ≡ h / 2
-half_pos h l = omega arith
-
 module _ (x : Float) (N : ℕ) (X : HasValue x false N (2 ^ 149)) (p : 0 < N) (n : Normal N) where
   root-of : IsRoot x (root_of_units N)
   root-of = record {
@@ -203,16 +188,16 @@ module _ (x : Float) (N : ℕ) (X : HasValue x false N (2 ^ 149)) (p : 0 < N) (n
       g-pos = pow_pos (h / 2 - 1)
 
       step_is : 2 ^ (h / 2) ≡ G * 2
-      step_is = ap (λ (y : ℕ). 2 ^ y) (sym (half_pos h least)) ∙ pow-suc 2 (h / 2 - 1)
+      step_is = ap (λ (y : ℕ). 2 ^ y) (sym (up_one h least)) ∙ pow-suc 2 (h / 2 - 1)
 
       par : Parity Q G M W
       par = subst (λ (y : ℕ). Parity Q G (root_digits m h * y) W) (sym step_is) (parity Q G)
 
-      a-is : in_units x * 2 ^ 149 ≡ A * (G * G)
-      a-is = ap (λ (y : ℕ). y * 2 ^ 149) (units-is x false N X) ∙ is ∙ split m h least
+      a-is : steps x * 2 ^ 149 ≡ A * (G * G)
+      a-is = ap (λ (y : ℕ). y * 2 ^ 149) (steps-is x false N X) ∙ is ∙ split m h least
 
-      r-is : in_units r ≡ M
-      r-is = units-is r false M value
+      r-is : steps r ≡ M
+      r-is = steps-is r false M value
 
       no-odd : Q % 2 ≡ 1 → Q * Q < A
       no-odd o = strict (eq-or-lt_of_le (root_is A).0)
@@ -228,26 +213,26 @@ module _ (x : Float) (N : ℕ) (X : HasValue x false N (2 ^ 149)) (p : 0 < N) (n
           go Q l = omega arith
 
       -- any value of the format is outside the cell
-      out : (y : Float) → T (fits binary32 y) → T (finite y) → Out W (G * 2) (in_units y)
+      out : (y : Float) → T (fits binary32 y) → T (finite y) → Out W (G * 2) (steps y)
       out nan k z = absurd z
       out (inf t) k z = absurd z
       out (fin t a e) k z =
           let o = on-grid binary32 t a e k in
-          subst (λ (v : ℕ). Out W (G * 2) v) (sym (units-is (fin t a e) t (o.0 * 2 ^ o.1) (refl, o.3)))
+          subst (λ (v : ℕ). Out W (G * 2) v) (sym (steps-is (fin t a e) t (o.0 * 2 ^ o.1) (refl, o.3)))
           (subst (λ (v : ℕ). Out (Q / 2 * v) v (o.0 * 2 ^ o.1)) step_is (cell 24 (Q / 2) (h / 2) o.0 o.1 (zero-lt-suc 23) (λ _. half-low-Q) o.2))
 
-      go-below : (y : Float) → T (fits binary32 y) → T (finite y) → in_units y < in_units r
-          → (in_units y + in_units r) * (in_units y + in_units r) < 4 * (in_units x * 2 ^ 149)
+      go-below : (y : Float) → T (fits binary32 y) → T (finite y) → steps y < steps r
+          → (steps y + steps r) * (steps y + steps r) < 4 * (steps x * 2 ^ 149)
       go-below y k z l =
-          let Y = in_units y in
-          subst (λ (a : ℕ). (Y + in_units r) * (Y + in_units r) < 4 * a) (sym a-is)
+          let Y = steps y in
+          subst (λ (a : ℕ). (Y + steps r) * (Y + steps r) < 4 * a) (sym a-is)
           (subst (λ (v : ℕ). (Y + v) * (Y + v) < 4 * (A * (G * G))) (sym r-is) (lower A Q G M W (root_is A) g-pos no-odd Y par (out y k z) (subst (λ (v : ℕ). Y < v) r-is l)))
 
-      go-above : (y : Float) → T (fits binary32 y) → T (finite y) → in_units r < in_units y
-          → 4 * (in_units x * 2 ^ 149) < (in_units y + in_units r) * (in_units y + in_units r)
+      go-above : (y : Float) → T (fits binary32 y) → T (finite y) → steps r < steps y
+          → 4 * (steps x * 2 ^ 149) < (steps y + steps r) * (steps y + steps r)
       go-above y k z l =
-          let Y = in_units y in
-          subst (λ (a : ℕ). 4 * a < (Y + in_units r) * (Y + in_units r)) (sym a-is)
+          let Y = steps y in
+          subst (λ (a : ℕ). 4 * a < (Y + steps r) * (Y + steps r)) (sym a-is)
           (subst (λ (v : ℕ). 4 * (A * (G * G)) < (Y + v) * (Y + v)) (sym r-is) (upper A Q G M W (root_is A) g-pos no-odd Y par (out y k z) (subst (λ (v : ℕ). v < Y) r-is l)))
 
 -- ---- of any value that is finite and above zero

@@ -1,17 +1,17 @@
 -- The rounded root of n units: its value, and its pattern, which is the one that the code puts together. Assumes nothing.
 use mathlib.Core.Path.{◌≡◌, refl, sym, ap, ◌∙◌, subst}
 use mathlib.Core.Logic.{◌⊎◌, inl, inr}
-use mathlib.Core.Bool.{Bool, false}
+use mathlib.Core.Bool.{false}
 use Prim.Native.Nat.{ℕ, suc, ◌+◌, ◌-◌, ◌*◌, ◌/◌, ◌^◌, ◌≤◌, ◌<◌}
 use native.Mathlib.Nat.{le_trans, le_of_eq, lt_of_lt_of_le, lt_of_le_of_lt, eq-or-lt_of_le, zero-add, mul-le-mul_right, mul-div_cancel, pow-succ'}
 use native.Mathlib.Omega.{arith}
 use lib.Dec.{T, lit<, lit≤}
 use lib.Pow.{pow-add, pow_pos, pow-lt, shl_lt}
-use lib.Ieee.{nan, inf, Float, fin, binary32, size, units, round, fits, of_bits, to_bits}
+use lib.Ieee.{Float, binary32, size, units, round, fits, of_bits}
 use lib.Ieee.Fits.{round-fits}
 use lib.Ieee.Bits.{of_bits-to_bits}
 use lib.Ieee.Exact.{HasValue, units_val}
-use Rattle.rounding.proofs.Units.{pattern_of, bits_of}
+use Rattle.rounding.proofs.Units.{pattern_of, value-bits}
 use Rattle.rounding.proofs.LastDigit.{size_exact}
 use Rattle.scalar.specs.Root.{root, root_of_units}
 use Rattle.scalar.specs.RootPattern.{radicand, root_digits, root_pattern}
@@ -19,11 +19,6 @@ use Rattle.scalar.proofs.WholeRoot.{root_is}
 use Rattle.scalar.proofs.RootDigits.{handed, span, root-low, root-high, rounds}
 
 -- ---- the pattern of c * 2 ^ k units, for a c of 24 digits: k in the exponent's field, and c's leading digit adds one to it
-value-bits : (v : Float) (s : Bool) (N : ℕ) → HasValue v s N (2 ^ 149) → to_bits binary32 v ≡ pattern_of binary32 s N
-value-bits nan s N h = elim h [ ]
-value-bits (inf _) s N h = elim h [ ]
-value-bits (fin t m e) s N h = bits_of binary32 t m e N h.1 ∙ ap (λ (b : Bool). pattern_of binary32 b N) h.0
-
 drop-24 : (k : ℕ) → suc (23 + k) - 24 ≡ k
 drop-24 k = omega arith
 
@@ -87,4 +82,4 @@ module _ (n m h : ℕ) (lo : 2 ^ 23 ≤ m) (hi : m < 2 ^ 24) (H : 2 ≤ h) (H' :
   root-pattern =
       let d = digits_in m h lo hi in
       sym (of_bits-to_bits binary32 (root_of_units n) root-fits)
-      ∙ ap (λ (x : ℕ). of_bits binary32 x) (value-bits (root_of_units n) false (root_digits m h * 2 ^ (h / 2)) root-value ∙ pattern-at (root_digits m h) (h / 2) d.0 d.1)
+      ∙ ap (λ (x : ℕ). of_bits binary32 x) (value-bits binary32 (root_of_units n) false (root_digits m h * 2 ^ (h / 2)) root-value ∙ pattern-at (root_digits m h) (h / 2) d.0 d.1)

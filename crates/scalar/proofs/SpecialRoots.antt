@@ -8,7 +8,7 @@ use native.Mathlib.Omega.{arith}
 use lib.Dec.{T, leb, ltb, ltb→lt, nltb→le, le→leb}
 use lib.Pow.{pow_pos}
 use lib.Ieee.{Float, nan, inf, binary32, ne, of_fields, of_bits}
-use lib.Ieee.Bits.{is_true}
+use borrow.Author.Tests.{le-leb}
 use Rattle.scalar.specs.Root.{sqrt_of}
 use Rattle.scalar.proofs.Nan.{differs}
 use Rattle.scalar.proofs.Patterns.{sqrt_negative, of_bits_is, plain, fields-low, fields-mid}
@@ -87,5 +87,5 @@ above-inf b lo z hi = go (ltb b (2 ^ 31)) (ltb→lt b (2 ^ 31)) (nltb→le b (2 
         ap (λ (v : Float). sqrt_of v) (plain b (h tt) ∙ ap (λ (x : ℕ). of_fields binary32 false x (b % 2 ^ 23)) (ones b lo (h tt)))
         ∙ top-root false (b % 2 ^ 23) (inr (some b lo (h tt)))
     go false h k =
-        ap (λ (v : Float). sqrt_of v) (of_bits_is b ∙ ap (λ (s : Bool). of_fields binary32 s (b % 2 ^ 31 / 2 ^ 23) (b % 2 ^ 23)) (is_true (leb (2 ^ 31) b) (le→leb (2 ^ 31) b (k tt))))
+        ap (λ (v : Float). sqrt_of v) (of_bits_is b ∙ ap (λ (s : Bool). of_fields binary32 s (b % 2 ^ 31 / 2 ^ 23) (b % 2 ^ 23)) (le-leb (2 ^ 31) b (k tt)))
         ∙ negative-root (b % 2 ^ 31 / 2 ^ 23) (b % 2 ^ 23) (field b) (rest b (k tt) hi z)

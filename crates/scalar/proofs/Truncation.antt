@@ -3,7 +3,7 @@ use mathlib.Core.Path.{◌≡◌, refl, sym, ap, ap₂, ◌∙◌, subst}
 use mathlib.Core.Logic.{◌⊎◌, inl, inr}
 use mathlib.Core.Bool.{Bool, true, false, not, cond, true≢false, false≢true}
 use Prim.Native.Nat.{ℕ, zero, suc, ◌+◌, ◌-◌, ◌*◌, ◌/◌, ◌%◌, ◌^◌, ◌≤◌, ◌<◌, min}
-use native.Mathlib.Nat.{le_of_eq, le_trans, lt_of_lt_of_le, eq-or-lt_of_le, mul_comm, mul_assoc, mul-le-mul, mul-div-mul_right, div-eq_of_lt, le-div_iff_mul-le, div-lt_iff_lt-mul}
+use native.Mathlib.Nat.{le_of_eq, le-add_right, le_trans, lt_of_lt_of_le, eq-or-lt_of_le, mul_comm, mul_assoc, mul-le-mul, mul-div-mul_right, div-eq_of_lt, le-div_iff_mul-le, div-lt_iff_lt-mul}
 use native.Mathlib.Omega.{arith}
 use lib.IntN.{ℤ, pos, negsuc, neg_ℤ}
 use lib.Dec.{T, leb, ltb, eqb-suc-zero, ltb→lt, nltb→le}
@@ -44,9 +44,6 @@ trunc-at (fin false m e) false N h = ap (λ (q : ℕ). kept false q) (whole (m *
 -- ---- by the fields: the digits d, and x, which is the exponent's field less one
 digits-high : (t : ℕ) → t < 2 ^ 23 → 2 ^ 23 + t < 2 ^ 24
 digits-high t h = omega arith
-
-digits_low : (t : ℕ) → 2 ^ 23 ≤ 2 ^ 23 + t
-digits_low t = omega arith
 
 none : (s : Bool) → kept s 0 ≡ pos 0
 none true = refl
@@ -93,7 +90,7 @@ from_end s (suc x) t lo hi n = go (eq-or-lt_of_le hi)
         ∙ infinite s t (subst (λ (y : ℕ). T (not (is_nan (of_fields binary32 s y t)))) e n)
     go (inr k) =
         trunc-at (of_fields binary32 s (suc x) t) s ((2 ^ 23 + t) * 2 ^ x) (fields-mid s x t k)
-        ∙ at-end s ((2 ^ 23 + t) * 2 ^ x / 2 ^ 149) (reaches (2 ^ 23 + t) x (digits_low t) (omega arith))
+        ∙ at-end s ((2 ^ 23 + t) * 2 ^ x / 2 ^ 149) (reaches (2 ^ 23 + t) x (le-add_right (2 ^ 23) t) (omega arith))
 
 -- below it, with the leading digit at the top of 32
 abbrev shifted : ℕ → ℕ → ℕ

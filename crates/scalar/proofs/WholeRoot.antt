@@ -2,7 +2,7 @@
 use mathlib.Core.Path.{◌≡◌, sym, ap, ◌∙◌, subst}
 use mathlib.Core.Bool.{Bool, true, false, not, cond}
 use Prim.Native.Nat.{ℕ, zero, suc, ◌+◌, ◌*◌, ◌/◌, ◌^◌, ◌≤◌, ◌<◌, zero-le}
-use native.Mathlib.Nat.{le_trans, le_of_eq, lt_of_lt_of_le, le_of_suc-le-suc, lt_of_not-le, not-le_of_lt, le_antisymm, zero-lt-suc, mul_comm, mul_assoc, mul-le-mul, suc-mul, mul-suc, pow-suc, pow-le-pow_left, div-lt_iff_lt-mul}
+use native.Mathlib.Nat.{le_trans, le_of_eq, lt_of_lt_of_le, le_of_suc-le-suc, lt_of_not-le, not-le_of_lt, le_antisymm, zero-lt-suc, mul-mul-mul_comm, mul-le-mul, suc-mul, mul-suc, pow-suc, pow-le-pow_left, div-lt_iff_lt-mul}
 use native.Mathlib.Omega.{arith}
 use lib.Dec.{T, leb, leb→le, nleb→lt, lit≤}
 use lib.Ieee.{size}
@@ -18,17 +18,11 @@ square r = suc-mul r (suc r) ∙ ap (λ (x : ℕ). x + suc r) (mul-suc r r) ∙ 
     go : (q r : ℕ) → q + r + suc r ≡ q + 2 * r + 1
     go q r = omega arith
 
-double : (s : ℕ) → 2 * s * (2 * s) ≡ 4 * (s * s)
-double s = mul_assoc 2 s (2 * s) ∙ ap (λ (x : ℕ). 2 * x) (mul_comm s (2 * s) ∙ mul_assoc 2 s s) ∙ go (s * s)
-  where
-    go : (q : ℕ) → 2 * (2 * q) ≡ 4 * q
-    go q = omega arith
-
 -- from the root s of n / 4 to that of n: 2 * s or one more
 step : (n s : ℕ) → Root (n / 4) s → (2 * s * (2 * s) ≤ n) × (n < suc (suc (2 * s)) * suc (suc (2 * s)))
 step n s h = (
-  le_trans (le_of_eq (double s)) (low (s * s) h.0),
-  subst (λ (x : ℕ). n < x) (sym (square (suc (2 * s)) ∙ ap (λ (x : ℕ). x + 2 * suc (2 * s) + 1) (square (2 * s) ∙ ap (λ (x : ℕ). x + 2 * (2 * s) + 1) (double s)))) (high (s * s) s (subst (λ (x : ℕ). n / 4 < x) (square s) h.1)),
+  le_trans (le_of_eq (mul-mul-mul_comm 2 s 2 s)) (low (s * s) h.0),
+  subst (λ (x : ℕ). n < x) (sym (square (suc (2 * s)) ∙ ap (λ (x : ℕ). x + 2 * suc (2 * s) + 1) (square (2 * s) ∙ ap (λ (x : ℕ). x + 2 * (2 * s) + 1) (mul-mul-mul_comm 2 s 2 s)))) (high (s * s) s (subst (λ (x : ℕ). n / 4 < x) (square s) h.1)),
 )
   where
     low : (q : ℕ) → q ≤ n / 4 → 4 * q ≤ n
@@ -62,3 +56,7 @@ root-lt n r s h k = lt_of_not-le (λ (g : s ≤ r). not-le_of_lt k (le_trans (mu
 
 pub root-only : (n r : ℕ) → Root n r → r ≡ root n
 root-only n r h = le_antisymm (root_ge n (root n) r (root_is n).1 h.0) (root_ge n r (root n) h.1 (root_is n).0)
+
+-- of two numbers the one with the larger square is larger
+pub square-back : (a b : ℕ) → a * a ≤ b * b → a ≤ b
+square-back a b h = root_ge (b * b) b a (omega arith) h

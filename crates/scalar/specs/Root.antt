@@ -16,10 +16,10 @@ unfolding root_in
 root n = root_in (size n) n
 
 -- The unit is the smallest f32 above zero, 2 ^ -149. The size of every finite f32 is a whole number of units.
-abbrev pub in_units : Float → ℕ
-in_units nan = 0
-in_units (inf s) = 0
-in_units (fin s m e) = m * up e * 2 ^ 149 / down e
+abbrev pub steps : Float → ℕ
+steps nan = 0
+steps (inf s) = 0
+steps (fin s m e) = m * up e * 2 ^ 149 / down e
 
 -- The root of n units is √(n * 2 ^ 149) units. Its whole part is r, and what is left of the root, if anything is, is handed to `round` as half a unit.
 unfoldable pub root_of_units : ℕ → Float
@@ -36,7 +36,7 @@ sqrt_of nan = nan
 sqrt_of (inf s) = cond s nan (inf false)
 sqrt_of (fin s zero e) = fin s zero e
 sqrt_of (fin true (suc m) e) = nan
-sqrt_of (fin false (suc m) e) = root_of_units (in_units (fin false (suc m) e))
+sqrt_of (fin false (suc m) e) = root_of_units (steps (fin false (suc m) e))
 
 -- r is the correctly rounded root of x, both finite and above zero: said with squares, since there are no real numbers here. A finite value v is num v / den v in size.
 -- `below` and `above`: no f32 y is as near to √x as r is, since ((y + r) / 2) ^ 2 < x for every y below r, and x < ((y + r) / 2) ^ 2 for every y above r.

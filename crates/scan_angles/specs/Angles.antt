@@ -54,8 +54,3 @@ scan_by false amind id = Ok (angle_count_of amind (get_or NANGX (id - 1) 0))
 
 unfoldable pub sang_of : Float → Float → Result ℕ Refusal
 sang_of gcdkm amind = let id = distance_step_of gcdkm in scan_by (eqb id 0) amind id
-
--- the count, 0 beside a refusal
-abbrev pub scan_value : Result ℕ Refusal → ℕ
-scan_value (Ok n) = n
-scan_value (Err r) = 0

@@ -5,6 +5,7 @@ use native.Mathlib.Nat.{le_trans, le_of_eq, le_refl, add-zero, add-suc, mul-one,
 use native.Mathlib.Omega.{arith}
 use lib.Pow.{pow-add}
 use Rattle.series.specs.Series.{full, num, one}
+use Rattle.series.proofs.Terms.{full-suc, num-suc}
 use Rattle.series.proofs.Cauchy.{fac, S, D, Tri, Sq, S-last, tri-sq, sq-tri, sq-product, W-const, W_ext, W-diag, D-zero, D-scale}
 
 -- what full d i lacks to full d (i + o)
@@ -24,14 +25,6 @@ full-pow d (suc k) = omega (arith, ap (λ (x : ℕ). x * (d * suc k)) (full-pow 
 
 pub at-P : (d P i : ℕ) → i ≤ P → full d i * co d i (P - i) ≡ full d P
 at-P d P i h = full-co d i (P - i) ∙ ap (full d) (omega arith)
-
-full-suc : (d k : ℕ) → full d (suc k) ≡ full d k * (d * suc k)
-unfolding full
-full-suc d k = refl
-
-num-suc : (c : ℕ → ℕ) (n d k : ℕ) → num c n d (suc k) ≡ num c n d k * (d * suc k) + c (suc k) * n ^ suc k
-unfolding num
-num-suc c n d k = refl
 
 num-zero : (c : ℕ → ℕ) (n d : ℕ) → num c n d 0 ≡ c 0
 unfolding num
@@ -74,10 +67,7 @@ module _ (c : ℕ → ℕ) (a b d P : ℕ) where
   layer N l =
       let A : fac N * D a b (λ i j. d ^ N * h i j) N ≡ (a + b) ^ N * (full d P * full d P * c N) =
       sym (W-diag a b (λ i j. d ^ N * h i j) N) ∙ W_ext a b (λ i j. fac i * fac j * (d ^ N * h i j)) (λ i j. full d P * full d P * c N) N (on-diagonal N l) ∙ W-const a b (full d P * full d P * c N) N in
-      ap (λ (x : ℕ). x * D a b h N) (full-pow d N) ∙ swap (d ^ N) (fac N) (D a b h N) ∙ ap (λ (x : ℕ). fac N * x) (sym (D-scale a b (d ^ N) h N)) ∙ A
-    where
-      swap : (x y z : ℕ) → x * y * z ≡ y * (x * z)
-      swap x y z = simp (mul_assoc, mul_comm, mul_left_comm)
+      ap (λ (x : ℕ). x * D a b h N) (full-pow d N) ∙ mul_assoc (d ^ N) (fac N) (D a b h N) ∙ mul_left_comm (d ^ N) (fac N) (D a b h N) ∙ ap (λ (x : ℕ). fac N * x) (sym (D-scale a b (d ^ N) h N)) ∙ A
 
   -- the triangle is the partial sum at a + b
   pub tri-num : (M : ℕ) → M ≤ P → Tri a b h M * full d M ≡ num c (a + b) d M * (full d P * full d P)

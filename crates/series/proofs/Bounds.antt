@@ -76,17 +76,14 @@ enc-scaled y d q M l₀ l₁ l₂ l₃ h₀ h₁ h₂ h₃ E =
     high : (r h k : ℕ) → M * num (class r) y d k ≤ h * full d k → M * num (class r) (y * q) (d * q) k ≤ h * full (d * q) k
     high r h k a = subst₂ (λ (f x : ℕ). M * x ≤ h * f) (sym (full-scale d q k)) (sym (num-scale (class r) y d q k)) (up h (full d k) (num (class r) y d k) (q ^ k) a)
 
+scaled : (n c s a b e f : ℕ) → a * c + b * n ≤ e * c + f * n → a * s * c + b * s * n ≤ e * s * c + f * s * n
+scaled n c s a b e f h = omega (arith, mul-le-mul_right s h)
+
 pub le-scaled : (y d n c q : ℕ) → SinLe y d n c → SinLe (y * q) (d * q) n c
-le-scaled y d n c q L = (L.0, λ k h. rw (num-scale (class 1) y d q k, num-scale (class 2) y d q k, num-scale (class 3) y d q k, num-scale (class 0) y d q k) (go (q ^ k) (num (class 1) y d k) (num (class 2) y d k) (num (class 3) y d k) (num (class 0) y d k) (L.1 k h)))
-  where
-    go : (s a b e f : ℕ) → a * c + b * n ≤ e * c + f * n → a * s * c + b * s * n ≤ e * s * c + f * s * n
-    go s a b e f h = omega (arith, mul-le-mul_right s h)
+le-scaled y d n c q L = (L.0, λ k h. rw (num-scale (class 1) y d q k, num-scale (class 2) y d q k, num-scale (class 3) y d q k, num-scale (class 0) y d q k) (scaled n c (q ^ k) (num (class 1) y d k) (num (class 2) y d k) (num (class 3) y d k) (num (class 0) y d k) (L.1 k h)))
 
 pub ge-scaled : (y d n c q : ℕ) → SinGe y d n c → SinGe (y * q) (d * q) n c
-ge-scaled y d n c q L = (L.0, λ k h. rw (num-scale (class 1) y d q k, num-scale (class 2) y d q k, num-scale (class 3) y d q k, num-scale (class 0) y d q k) (go (q ^ k) (num (class 3) y d k) (num (class 0) y d k) (num (class 1) y d k) (num (class 2) y d k) (L.1 k h)))
-  where
-    go : (s a b e f : ℕ) → a * c + b * n ≤ e * c + f * n → a * s * c + b * s * n ≤ e * s * c + f * s * n
-    go s a b e f h = omega (arith, mul-le-mul_right s h)
+ge-scaled y d n c q L = (L.0, λ k h. rw (num-scale (class 1) y d q k, num-scale (class 2) y d q k, num-scale (class 3) y d q k, num-scale (class 0) y d q k) (scaled n c (q ^ k) (num (class 3) y d k) (num (class 0) y d k) (num (class 1) y d k) (num (class 2) y d k) (L.1 k h)))
 
 -- ---- and of x only its value
 swap-frac : (a b e f n c n' c' : ℕ) → 0 < c → n' * c ≡ n * c' → a * c + b * n ≤ e * c + f * n → a * c' + b * n' ≤ e * c' + f * n'

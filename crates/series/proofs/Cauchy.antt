@@ -2,8 +2,9 @@
 -- And the binomial theorem, in the form that a diagonal's terms a ^ i / i! * b ^ j / j! come to (a + b) ^ N / N!.
 use mathlib.Core.Path.{◌≡◌, refl, ap, ap₂, ◌∙◌}
 use Prim.Native.Nat.{ℕ, zero, suc, ◌+◌, ◌*◌, ◌^◌, ◌≤◌}
-use native.Mathlib.Nat.{le_trans, le_of_eq, le_refl, add-le-add, zero-add, suc-add, one-mul, mul_assoc, mul_comm, mul_left_comm, mul-add, add-mul, add_assoc, add_comm, add_left_comm, mul-le-mul_left, pow-suc, pow-succ', pow-zero, le_of_suc-le-suc}
+use native.Mathlib.Nat.{le_trans, le_of_eq, le_refl, add-le-add, zero-add, suc-add, mul_assoc, mul_comm, mul_left_comm, mul-add, add-mul, add_assoc, add_comm, add_left_comm, mul-le-mul_left, pow-suc, pow-succ', pow-zero, le_of_suc-le-suc}
 use native.Mathlib.Omega.{arith}
+use Rattle.series.proofs.Terms.{pow-1}
 
 ruleset ring = (mul-add, add-mul, mul_assoc, mul_comm, mul_left_comm, add_assoc, add_comm, add_left_comm)
 
@@ -30,13 +31,10 @@ unfoldable pub Sq : (a b : ℕ) (h : ℕ → ℕ → ℕ) (L : ℕ) → ℕ → 
 Sq a b h L zero = S b (h 0) L
 Sq a b h L (suc M) = S b (h 0) L + a * Sq a b (λ i. h (suc i)) L M
 
-pow-one : (b : ℕ) → b ^ 1 ≡ b
-pow-one b = pow-suc b 0 ∙ ap (λ (x : ℕ). x * b) (pow-zero b) ∙ one-mul b
-
 module _ (a b : ℕ) where
   pub S-last : (w : ℕ → ℕ) (M : ℕ) → S b w (suc M) ≡ S b w M + b ^ suc M * w (suc M)
   unfolding S
-  S-last w zero = omega (arith, ap (λ (x : ℕ). x * w 1) (pow-one b))
+  S-last w zero = omega (arith, ap (λ (x : ℕ). x * w 1) (pow-1 b))
   S-last w (suc M) =
       let t = S b (λ i. w (suc i)) M in
       let e : S b (λ i. w (suc i)) (suc M) ≡ t + b ^ suc M * w (suc (suc M)) = S-last (λ i. w (suc i)) M in
@@ -122,7 +120,7 @@ module _ (a b : ℕ) where
   -- one letter b more
   D-right : (h : ℕ → ℕ → ℕ) (N : ℕ) → D a b (λ i j. j * h i j) (suc N) ≡ b * D a b (λ i j. suc j * h i (suc j)) N
   unfolding D
-  D-right h zero = omega (arith, ap (λ (x : ℕ). x * (1 * h 0 1)) (pow-one b))
+  D-right h zero = omega (arith, ap (λ (x : ℕ). x * (1 * h 0 1)) (pow-1 b))
   D-right h (suc N) = omega (arith, ap (λ (x : ℕ). a * x) (D-right (λ i. h (suc i)) N), ap (λ (x : ℕ). x * (suc (suc N) * h 0 (suc (suc N)))) (pow-succ' b (suc N)))
 
   D-left : (h : ℕ → ℕ → ℕ) (N : ℕ) → D a b (λ i j. i * h i j) (suc N) ≡ a * D a b (λ i j. suc i * h (suc i) j) N

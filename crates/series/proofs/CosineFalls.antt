@@ -1,11 +1,22 @@
 -- Up to 2 the cosine falls: with y < z ≤ 2, the terms z ^ k - y ^ k over k! of the class 0 come to at most two thirds of those two places before of the class 2, since z ^ (k + 2) - y ^ (k + 2) is at most 8 * (z ^ k - y ^ k) from k = 2 on.
 use mathlib.Core.Path.{◌≡◌, refl, ap}
 use Prim.Native.Nat.{ℕ, zero, suc, ◌+◌, ◌*◌, ◌^◌, ◌≤◌, ◌<◌}
-use native.Mathlib.Nat.{le_trans, le_of_eq, mul-pos, mul-le-mul, mul-le-mul_left, mul-le-mul_right, pow-suc, pow-zero}
+use native.Mathlib.Nat.{le_trans, le_of_eq, mul-pos, mul-le-mul, mul-le-mul_left, mul-le-mul_right, pow-suc, pow-zero, le-add_right, le-add_left, lt_of_lt_of_le}
 use native.Mathlib.Omega.{arith}
 use native.Mathlib.Numerals.{unary_clauses}
 use Rattle.series.specs.Series.{num, class}
 use Rattle.series.specs.Rises.{CosineFalls}
+use Rattle.series.proofs.Terms.{square-le}
+
+-- ---- steps of both proofs
+pub half : (A P : ℕ) → P ≤ A → 2 * P ≤ A + P
+half A P i = omega arith
+
+pub turn : (h p' p y : ℕ) → p' ≡ p * y → h * p' ≡ y * (h * p)
+turn h p' p y a = omega (arith, ap (λ (x : ℕ). h * x) a)
+
+pub two-terms : (b f g u v : ℕ) → b * f * g ≤ (b * f + u) * g + v
+two-terms b f g u v = omega arith
 
 module _ (y h : ℕ) where
   -- (y + h) ^ k - y ^ k
@@ -38,33 +49,18 @@ module _ (y h d : ℕ) where
   module _ (small : y + h ≤ 2 * d) where
     gap-two : (k : ℕ) → gap y h (suc (suc (suc (suc k)))) ≤ 8 * (d * d) * gap y h (suc (suc k))
     unfolding gap
-    gap-two k = go (gap y h (suc k)) (y ^ k) (y ^ suc k) (y ^ suc (suc k)) (y ^ suc (suc (suc k))) (pow-suc y k) (pow-suc y (suc k)) (pow-suc y (suc (suc k))) (first (gap y h k) (y ^ k))
+    gap-two k = go (gap y h (suc k)) (y ^ k) (y ^ suc k) (y ^ suc (suc k)) (y ^ suc (suc (suc k))) (pow-suc y k) (pow-suc y (suc k)) (pow-suc y (suc (suc k))) (le-add_left (h * y ^ k) ((y + h) * gap y h k))
       where
-        first : (g p : ℕ) → h * p ≤ (y + h) * g + h * p
-        first g p = omega arith
-
         go : (g p₀ p p' p'' : ℕ) → p ≡ p₀ * y → p' ≡ p * y → p'' ≡ p' * y → h * p₀ ≤ g → (y + h) * ((y + h) * ((y + h) * g + h * p) + h * p') + h * p'' ≤ 8 * (d * d) * ((y + h) * g + h * p)
         go g p₀ p p' p'' o a b i =
             let G = (y + h) * g + h * p in
-            let s : (y + h) * (y + h) * G ≤ 4 * (d * d) * G = mul-le-mul_right G (square (y + h) small) in
-            let t : h * p * (y * (y + h)) ≤ h * p * (4 * (d * d)) = mul-le-mul_left (h * p) (le_trans (mul-le-mul_right (y + h) (more y h)) (square (y + h) small)) in
-            let u : h * p * (y * y) ≤ h * p * (4 * (d * d)) = mul-le-mul_left (h * p) (le_trans (mul-le-mul (more y h) (more y h)) (square (y + h) small)) in
-            let l : h * p ≤ (y + h) * g = le_trans (le_of_eq (turn h p p₀ y o)) (le_trans (mul-le-mul_left y i) (mul-le-mul_right g (more y h))) in
+            let s : (y + h) * (y + h) * G ≤ 4 * (d * d) * G = mul-le-mul_right G (square-le (y + h) d small) in
+            let t : h * p * (y * (y + h)) ≤ h * p * (4 * (d * d)) = mul-le-mul_left (h * p) (le_trans (mul-le-mul_right (y + h) (le-add_right y h)) (square-le (y + h) d small)) in
+            let u : h * p * (y * y) ≤ h * p * (4 * (d * d)) = mul-le-mul_left (h * p) (le_trans (mul-le-mul (le-add_right y h) (le-add_right y h)) (square-le (y + h) d small)) in
+            let l : h * p ≤ (y + h) * g = le_trans (le_of_eq (turn h p p₀ y o)) (le_trans (mul-le-mul_left y i) (mul-le-mul_right g (le-add_right y h))) in
             let v : 2 * (h * p) * (4 * (d * d)) ≤ G * (4 * (d * d)) = mul-le-mul_right (4 * (d * d)) (half ((y + h) * g) (h * p) l) in
             sum G ((y + h) * (y + h) * G) (h * p * (y * (y + h))) (h * p * (y * y)) (h * p) (d * d) s t u v (opened g p p' p'' a b)
           where
-            square : (x : ℕ) → x ≤ 2 * d → x * x ≤ 4 * (d * d)
-            square x l = omega (arith, mul-le-mul l l)
-
-            more : (a b : ℕ) → a ≤ a + b
-            more a b = omega arith
-
-            half : (A P : ℕ) → P ≤ A → 2 * P ≤ A + P
-            half A P i = omega arith
-
-            turn : (h p' p y : ℕ) → p' ≡ p * y → h * p' ≡ y * (h * p)
-            turn h p' p y a = omega (arith, ap (λ (x : ℕ). h * x) a)
-
             sum : (G a b c e D : ℕ) {x : ℕ} → a ≤ 4 * D * G → b ≤ e * (4 * D) → c ≤ e * (4 * D) → 2 * e * (4 * D) ≤ G * (4 * D) → x ≡ a + b + c → x ≤ 8 * D * G
             sum G a b c e D s t u v i = omega (arith, s, t, u, v, i)
 
@@ -89,10 +85,7 @@ module _ (y h d : ℕ) where
 
     grow : (k : ℕ) → rise (class 2) k * (d * suc k) * (d * suc (suc k)) ≤ rise (class 2) (suc (suc k))
     unfolding rise
-    grow k = go (rise (class 2) k) (d * suc k) (d * suc (suc k)) (class 2 (suc k) * gap y h (suc k)) (class 2 (suc (suc k)) * gap y h (suc (suc k)))
-      where
-        go : (b f g u v : ℕ) → b * f * g ≤ (b * f + u) * g + v
-        go b f g u v = omega arith
+    grow k = two-terms (rise (class 2) k) (d * suc k) (d * suc (suc k)) (class 2 (suc k) * gap y h (suc k)) (class 2 (suc (suc k)) * gap y h (suc (suc k)))
 
     module _ (D : 0 < d) (H : 0 < h) where
       second : 0 < gap y h 2
@@ -108,10 +101,7 @@ module _ (y h d : ℕ) where
         where
           go : (a b : ℕ) → 0 < b → 0 < a + 1 * b
           go a b p = omega arith
-      some (suc k) = go (rise (class 2) (suc (suc k)) * (d * suc (suc (suc k)))) (class 2 (suc (suc (suc k))) * gap y h (suc (suc (suc k)))) (mul-pos (some k) (mul-pos D (omega arith)))
-        where
-          go : (a b : ℕ) → 0 < a → 0 < a + b
-          go a b p = omega arith
+      some (suc k) = lt_of_lt_of_le (mul-pos (some k) (mul-pos D (omega arith))) (le-add_right (rise (class 2) (suc (suc k)) * (d * suc (suc (suc k)))) (class 2 (suc (suc (suc k))) * gap y h (suc (suc (suc k)))))
 
       fewer : (k : ℕ) → rise (class 0) (suc (suc k)) < rise (class 2) (suc (suc k))
       fewer k = go (rise (class 0) (suc (suc k))) (rise (class 2) k * (d * suc k) * (d * suc (suc k))) (rise (class 2) (suc (suc k))) (later k) (grow k) (some k)

@@ -1,7 +1,7 @@
 -- The terms of the power series fall below every fraction, since from twice the argument on each is at most half the one before.
 use mathlib.Core.Path.{◌≡◌, ap₂, ◌∙◌, subst}
 use Prim.Native.Nat.{ℕ, zero, suc, ◌+◌, ◌*◌, ◌^◌, ◌≤◌, ◌<◌}
-use native.Mathlib.Nat.{le_trans, le_of_eq, le_dest, add-zero, add-suc, mul_comm, mul-le-mul, mul-le-mul_left, mul-le-mul_right, le_of_mul-le-mul_right, pow-suc}
+use native.Mathlib.Nat.{le_trans, le_of_eq, le_dest, add-zero, add-suc, mul_comm, mul-le-mul, mul-le-mul_left, mul-le-mul_right, le_of_mul-le-mul_right, pow-suc, mul_assoc}
 use native.Mathlib.Omega.{arith}
 use lib.Pow.{pow_pos}
 use Rattle.series.specs.Series.{full}
@@ -32,13 +32,10 @@ module _ (n d M : ℕ) (D : 0 < d) where
     where
       go : (p p' t t' f c : ℕ) → p' ≡ p * n → t' ≡ t * 2 → 2 * n ≤ c → M * p * t ≤ C * f → M * p' * t' ≤ C * (f * c)
       go p p' t t' f c e g h k =
-          le_trans (le_of_eq (ap₂ (λ (x y : ℕ). M * x * y) e g ∙ turn M p n t)) (le_trans (mul-le-mul k h) (le_of_eq (turn' C f c)))
+          le_trans (le_of_eq (ap₂ (λ (x y : ℕ). M * x * y) e g ∙ turn M p n t)) (le_trans (mul-le-mul k h) (le_of_eq (mul_assoc C f c)))
         where
           turn : (M p n t : ℕ) → M * (p * n) * (t * 2) ≡ M * p * t * (2 * n)
           turn M p n t = omega arith
-
-          turn' : (C f c : ℕ) → C * f * c ≡ C * (f * c)
-          turn' C f c = omega arith
 
   small_at : (o : ℕ) → C ≤ o → M * n ^ (A + o) ≤ full d (A + o)
   small_at o h = le_of_mul-le-mul_right {k = 2 ^ o} (le_trans (halving o) (le_trans (mul-le-mul_right (full d (A + o)) (le_trans h (below_power o))) (le_of_eq (mul_comm (2 ^ o) (full d (A + o)))))) (pow_pos o)

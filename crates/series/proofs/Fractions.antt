@@ -3,14 +3,8 @@ use mathlib.Core.Path.{◌≡◌, sym, ap, ap₂, ◌∙◌}
 use Prim.Native.Nat.{ℕ, zero, suc, ◌+◌, ◌*◌, ◌^◌, ◌≤◌}
 use native.Mathlib.Nat.{mul-one, pow-suc, pow-zero, le_refl, add-le-add, mul-le-mul_left, mul-le-mul_right, pow-le-pow_left}
 use native.Mathlib.Omega.{arith}
+use Rattle.std.proofs.lemmas.Nat.{mul-pow}
 use Rattle.series.specs.Series.{full, num}
-
-mul-pow : (n q k : ℕ) → (n * q) ^ k ≡ n ^ k * q ^ k
-mul-pow n q zero = pow-zero (n * q) ∙ sym (ap₂ (λ (x y : ℕ). x * y) (pow-zero n) (pow-zero q))
-mul-pow n q (suc k) = pow-suc (n * q) k ∙ ap (λ (x : ℕ). x * (n * q)) (mul-pow n q k) ∙ go (n ^ k) (q ^ k) ∙ sym (ap₂ (λ (x y : ℕ). x * y) (pow-suc n k) (pow-suc q k))
-  where
-    go : (x y : ℕ) → x * y * (n * q) ≡ x * n * (y * q)
-    go x y = omega arith
 
 pub full-scale : (d q k : ℕ) → full (d * q) k ≡ full d k * q ^ k
 unfolding full

@@ -1,4 +1,5 @@
 -- Addition theorems, enclosures and bounds of the power series.
+pub mod Terms
 pub mod Pairs
 mod Cauchy
 pub mod Addition

@@ -44,18 +44,15 @@ Kcos k = (2 * k + 1) * (2 * k + 2)
 abbrev pub Kat : ℕ → ℕ → ℕ
 Kat o k = (2 * k + (o + 1)) * (2 * k + (o + 2))
 
+-- the exponent of the first term
 abbrev pub shift : Kind → ℕ
 shift sine = 1
 shift cosine = 0
 
--- the first term at n / d, as a fraction
-abbrev pub top : Kind → ℕ → ℕ
-top sine n = n
-top cosine n = 1
-
-abbrev pub bottom : Kind → ℕ → ℕ
-bottom sine d = d
-bottom cosine d = 1
+-- the first term at n / d is start n / start d
+abbrev pub start : Kind → ℕ → ℕ
+start sine n = n
+start cosine n = 1
 
 -- ---- j pairs of terms are the terms of the exponential series up to number 4 j, by their classes modulo 4
 -- the sums s at n / d and those up to number k, as fractions: what is added, what is taken off, and the next term

@@ -1,12 +1,13 @@
 -- Were y above z, with y ≤ 2: a sine rises from z to y while the cosine at y is not negative, and a cosine falls, against what is said of the two. For the tangent the cosine at y is not negative because the sine is positive.
-use mathlib.Core.Path.{◌≡◌, sym, ap, subst}
+use mathlib.Core.Path.{◌≡◌, sym, subst}
 use mathlib.Core.Logic.{◌⊎◌, inl, inr}
 use Prim.Native.Nat.{ℕ, zero, suc, ◌+◌, ◌*◌, ◌^◌, ◌≤◌, ◌<◌}
-use native.Mathlib.Nat.{le_dest, mul-pos, mul-le-mul_left, mul-le-mul_right, mul-lt-mul_of_pos_right, pow-suc, pow-zero}
+use native.Mathlib.Nat.{le_dest, mul-pos, mul-le-mul_left, mul-le-mul_right, mul-lt-mul_of_pos_right, lt_of_lt_of_le, le-add_right}
 use native.Mathlib.Omega.{arith}
 use Rattle.cases.proofs.Cases.{split}
 use Rattle.series.specs.Series.{full, num, class, SinLe, SinGe, SineAtMost, SineAtLeast, CosineNotNegative, CosineNotPositive}
 use Rattle.series.specs.Rises.{SinePins, TangentPins}
+use Rattle.series.proofs.Terms.{pow-1}
 use Rattle.series.proofs.CosineFalls.{cosine-falls}
 use Rattle.series.proofs.SineRises.{sine-rises}
 use Rattle.series.proofs.SineSign.{thirds}
@@ -14,14 +15,11 @@ use Rattle.series.proofs.SineSign.{thirds}
 -- ---- the sine is positive from 0 to 2
 first_pos : (y d k : ℕ) → 0 < y → 0 < d → 0 < num (class 1) y d (suc k)
 unfolding num class
-first_pos y d zero Y D = go (y ^ 0) (y ^ 1) (pow-zero y) (pow-suc y 0)
+first_pos y d zero Y D = go (y ^ 1) (pow-1 y)
   where
-    go : (p q : ℕ) → p ≡ 1 → q ≡ p * y → 0 < 0 * (d * 1) + 1 * q
-    go p q e f = omega (arith, ap (λ (x : ℕ). x * y) e)
-first_pos y d (suc k) Y D = go (num (class 1) y d (suc k) * (d * suc (suc k))) (class 1 (suc (suc k)) * y ^ suc (suc k)) (mul-pos (first_pos y d k Y D) (mul-pos D (omega arith)))
-  where
-    go : (a b : ℕ) → 0 < a → 0 < a + b
-    go a b p = omega arith
+    go : (q : ℕ) → q ≡ y → 0 < 0 * (d * 1) + 1 * q
+    go q e = omega arith
+first_pos y d (suc k) Y D = lt_of_lt_of_le (mul-pos (first_pos y d k Y D) (mul-pos D (omega arith))) (le-add_right (num (class 1) y d (suc k) * (d * suc (suc k))) (class 1 (suc (suc k)) * y ^ suc (suc k)))
 
 sine-positive : (y d k : ℕ) → 0 < y → 0 < d → y ≤ 2 * d → num (class 3) y d (suc (suc k)) < num (class 1) y d (suc (suc k))
 sine-positive y d k Y D h = go (num (class 3) y d (suc (suc k))) (num (class 1) y d (suc (suc k))) (thirds y d D h k) (first_pos y d (suc k) Y D)

@@ -1,13 +1,13 @@
 -- cos² + sin² = 1, in the positive parts: e_0² + e_1² + e_2² + e_3² = 1 + 2 * (e_0 * e_2 + e_1 * e_3), as inequalities of enclosures.
 use mathlib.Core.Path.{◌≡◌, refl, sym, ap, ap₂, ◌∙◌, fun_ext}
 use Prim.Native.Nat.{ℕ, zero, suc, ◌+◌, ◌-◌, ◌*◌, ◌^◌, ◌≤◌, ◌<◌}
-use native.Mathlib.Nat.{le_trans, le_of_eq, le_refl, suc-add, mul_assoc, mul_comm, mul_left_comm, mul-le-mul, mul-le-mul_left, mul-le-mul_right, mul-pos, eq_of_mul-eq-mul_right, le_of_mul-le-mul_right, add_comm}
+use native.Mathlib.Nat.{le_trans, le_of_eq, le_refl, suc-add, mul_assoc, mul_comm, mul_left_comm, mul-le-mul_left, mul-le-mul_right, mul-pos, eq_of_mul-eq-mul_right, le_of_mul-le-mul_right, add_comm}
 use native.Mathlib.Omega.{arith}
 use Rattle.series.specs.Series.{full, num, class, one}
 use Rattle.series.proofs.Cauchy.{fac, S, D, Tri, Sq, tri-sq, sq-tri, sq-product, W, W_ext, W-diag, D-scale}
 use Rattle.series.proofs.Addition.{co, row-num, full-pos, full-pow, at-P, on-diagonal}
-use Rattle.series.proofs.Quarters.{law, Sq-add}
-use Rattle.series.proofs.Waves.{Enc4}
+use Rattle.series.proofs.Quarters.{law, Sq-add, spread}
+use Rattle.series.proofs.Waves.{Enc4, pair, pair', sum4}
 
 -- the class of i - j: i + 3 j
 abbrev gap : ℕ → ℕ → ℕ → ℕ
@@ -78,13 +78,10 @@ module _ (a d P : ℕ) (dp : 0 < d) where
 
   diagonal : (r N : ℕ) → N ≤ P → full d N * D a a (g r) N ≡ full d P * full d P * W a a (gap r) N
   diagonal r N l =
-      ap (λ (x : ℕ). x * D a a (g r) N) (full-pow d N) ∙ swap (d ^ N) (fac N) (D a a (g r) N) ∙ ap (λ (x : ℕ). fac N * x) (sym (D-scale a a (d ^ N) (g r) N))
+      ap (λ (x : ℕ). x * D a a (g r) N) (full-pow d N) ∙ mul_assoc (d ^ N) (fac N) (D a a (g r) N) ∙ mul_left_comm (d ^ N) (fac N) (D a a (g r) N) ∙ ap (λ (x : ℕ). fac N * x) (sym (D-scale a a (d ^ N) (g r) N))
       ∙ sym (W-diag a a (λ i j. d ^ N * g r i j) N)
       ∙ W_ext a a (λ i j. fac i * fac j * (d ^ N * g r i j)) (λ i j. full d P * full d P * gap r i j) N (λ i j e. weigh N l (gap r i j) i j e)
       ∙ W-scale a (full d P * full d P) (gap r) N
-    where
-      swap : (x y w : ℕ) → x * y * w ≡ y * (x * w)
-      swap x y w = simp (mul_assoc, mul_comm, mul_left_comm)
 
   same : (N : ℕ) → suc N ≤ P → D a a (g 0) (suc N) ≡ D a a (g 2) (suc N)
   same N l =
@@ -99,9 +96,6 @@ module _ (a d P : ℕ) (dp : 0 < d) where
   unfolding Tri class
   tri zero l = omega (arith, ap₂ (λ (x y : ℕ). x * y) v-zero v-zero)
   tri (suc M) l = omega (arith, tri M (omega arith), same M l)
-
-  spread : (x y p q r s t u m n k : ℕ) → k ≡ p * q + r * s + t * u + m * n → x * y * k ≡ x * p * (y * q) + x * r * (y * s) + x * t * (y * u) + x * m * (y * n)
-  spread x y p q r s t u m n k h = omega (arith, ap (λ (o : ℕ). x * y * o) h)
 
   abbrev R : ℕ → ℕ → ℕ
   R s M = S a (λ i. v i * class s i) M
@@ -121,15 +115,6 @@ module _ (a d P : ℕ) (dp : 0 < d) where
   row : (s M : ℕ) → M ≤ P → R s M * full d M ≡ num (class s) a d M * full d P
   row s M l = row-num (class s) a 0 d P M l
 
-prod : (l k m q x y : ℕ) → l * q ≤ m * x → k * q ≤ m * y → l * k * (q * q) ≤ m * m * (x * y)
-prod l k m q x y a b = omega (arith, mul-le-mul a b)
-
-prod' : (m x y h k q : ℕ) → m * x ≤ h * q → m * y ≤ k * q → x * y * (m * m) ≤ q * q * (h * k)
-prod' m x y h k q a b = omega (arith, mul-le-mul a b)
-
-sum4 : (w k a b c d a' b' c' d' : ℕ) → a * w ≤ k * a' → b * w ≤ k * b' → c * w ≤ k * c' → d * w ≤ k * d' → (a + b + c + d) * w ≤ k * (a' + b' + c' + d')
-sum4 w k a b c d a' b' c' d' e f g h = omega arith
-
 finish-1 : (L H x y m q : ℕ) → 0 < q → L * (q * q) ≤ m * m * x → y * (m * m) ≤ q * q * H → x ≤ y + q * q → L ≤ m * m + H
 finish-1 L H x y m q p a b c = le_of_mul-le-mul_right {k = q * q} (omega (arith, a, b, mul-le-mul_left (m * m) c)) (mul-pos p p)
 
@@ -142,12 +127,12 @@ pub pythagoras : (a d m l₀ l₁ l₂ l₃ h₀ h₁ h₂ h₃ : ℕ) → 0 < d
     × (m * m + (l₀ * l₂ + l₁ * l₃ + l₂ * l₀ + l₃ * l₁) ≤ h₀ * h₀ + h₁ * h₁ + h₂ * h₂ + h₃ * h₃)
 pythagoras a d m l₀ l₁ l₂ l₃ h₀ h₁ h₂ h₃ dp E = (
   finish-1 (l₀ * l₀ + l₁ * l₁ + l₂ * l₂ + l₃ * l₃) (h₀ * h₂ + h₁ * h₃ + h₂ * h₀ + h₃ * h₁) (r 0 M * r 0 M + r 1 M * r 1 M + r 2 M * r 2 M + r 3 M * r 3 M) (r 0 P * r 2 P + r 1 P * r 3 P + r 2 P * r 0 P + r 3 P * r 1 P) m (full d P) (full-pos d P dp)
-      (sum4 (q * q) (m * m) (l₀ * l₀) (l₁ * l₁) (l₂ * l₂) (l₃ * l₃) (r 0 M * r 0 M) (r 1 M * r 1 M) (r 2 M * r 2 M) (r 3 M * r 3 M) (prod l₀ l₀ m q (r 0 M) (r 0 M) lo0 lo0) (prod l₁ l₁ m q (r 1 M) (r 1 M) lo1 lo1) (prod l₂ l₂ m q (r 2 M) (r 2 M) lo2 lo2) (prod l₃ l₃ m q (r 3 M) (r 3 M) lo3 lo3))
-      (sum4 (m * m) (q * q) (r 0 P * r 2 P) (r 1 P * r 3 P) (r 2 P * r 0 P) (r 3 P * r 1 P) (h₀ * h₂) (h₁ * h₃) (h₂ * h₀) (h₃ * h₁) (prod' m (r 0 P) (r 2 P) h₀ h₂ q hi0 hi2) (prod' m (r 1 P) (r 3 P) h₁ h₃ q hi1 hi3) (prod' m (r 2 P) (r 0 P) h₂ h₀ q hi2 hi0) (prod' m (r 3 P) (r 1 P) h₃ h₁ q hi3 hi1))
+      (sum4 (q * q) (m * m) (l₀ * l₀) (l₁ * l₁) (l₂ * l₂) (l₃ * l₃) (r 0 M * r 0 M) (r 1 M * r 1 M) (r 2 M * r 2 M) (r 3 M * r 3 M) (pair l₀ q m (r 0 M) l₀ q m (r 0 M) lo0 lo0) (pair l₁ q m (r 1 M) l₁ q m (r 1 M) lo1 lo1) (pair l₂ q m (r 2 M) l₂ q m (r 2 M) lo2 lo2) (pair l₃ q m (r 3 M) l₃ q m (r 3 M) lo3 lo3))
+      (sum4 (m * m) (q * q) (r 0 P * r 2 P) (r 1 P * r 3 P) (r 2 P * r 0 P) (r 3 P * r 1 P) (h₀ * h₂) (h₁ * h₃) (h₂ * h₀) (h₃ * h₁) (pair' m (r 0 P) h₀ q m (r 2 P) h₂ hi0 hi2) (pair' m (r 1 P) h₁ q m (r 3 P) h₃ hi1 hi3) (pair' m (r 2 P) h₂ q m (r 0 P) h₀ hi2 hi0) (pair' m (r 3 P) h₃ q m (r 1 P) h₁ hi3 hi1))
       (go-1 (Sq a a (g a d P dp 0) M M) (Sq a a (g a d P dp 2) P P) (Tri a a (g a d P dp 0) P) (Tri a a (g a d P dp 2) P) (sq a d P dp 0 0 1 2 3 split-0 M) (sq a d P dp 2 2 3 0 1 split-2 P) (sq-tri a a (g a d P dp 0) M M) (tri a d P dp P (le_refl P)) (tri-sq a a (g a d P dp 2) P P (le_refl P))),
   finish-2 (l₀ * l₂ + l₁ * l₃ + l₂ * l₀ + l₃ * l₁) (h₀ * h₀ + h₁ * h₁ + h₂ * h₂ + h₃ * h₃) (r 0 M * r 2 M + r 1 M * r 3 M + r 2 M * r 0 M + r 3 M * r 1 M) (r 0 P * r 0 P + r 1 P * r 1 P + r 2 P * r 2 P + r 3 P * r 3 P) m (full d P) (full-pos d P dp)
-      (sum4 (q * q) (m * m) (l₀ * l₂) (l₁ * l₃) (l₂ * l₀) (l₃ * l₁) (r 0 M * r 2 M) (r 1 M * r 3 M) (r 2 M * r 0 M) (r 3 M * r 1 M) (prod l₀ l₂ m q (r 0 M) (r 2 M) lo0 lo2) (prod l₁ l₃ m q (r 1 M) (r 3 M) lo1 lo3) (prod l₂ l₀ m q (r 2 M) (r 0 M) lo2 lo0) (prod l₃ l₁ m q (r 3 M) (r 1 M) lo3 lo1))
-      (sum4 (m * m) (q * q) (r 0 P * r 0 P) (r 1 P * r 1 P) (r 2 P * r 2 P) (r 3 P * r 3 P) (h₀ * h₀) (h₁ * h₁) (h₂ * h₂) (h₃ * h₃) (prod' m (r 0 P) (r 0 P) h₀ h₀ q hi0 hi0) (prod' m (r 1 P) (r 1 P) h₁ h₁ q hi1 hi1) (prod' m (r 2 P) (r 2 P) h₂ h₂ q hi2 hi2) (prod' m (r 3 P) (r 3 P) h₃ h₃ q hi3 hi3))
+      (sum4 (q * q) (m * m) (l₀ * l₂) (l₁ * l₃) (l₂ * l₀) (l₃ * l₁) (r 0 M * r 2 M) (r 1 M * r 3 M) (r 2 M * r 0 M) (r 3 M * r 1 M) (pair l₀ q m (r 0 M) l₂ q m (r 2 M) lo0 lo2) (pair l₁ q m (r 1 M) l₃ q m (r 3 M) lo1 lo3) (pair l₂ q m (r 2 M) l₀ q m (r 0 M) lo2 lo0) (pair l₃ q m (r 3 M) l₁ q m (r 1 M) lo3 lo1))
+      (sum4 (m * m) (q * q) (r 0 P * r 0 P) (r 1 P * r 1 P) (r 2 P * r 2 P) (r 3 P * r 3 P) (h₀ * h₀) (h₁ * h₁) (h₂ * h₂) (h₃ * h₃) (pair' m (r 0 P) h₀ q m (r 0 P) h₀ hi0 hi0) (pair' m (r 1 P) h₁ q m (r 1 P) h₁ hi1 hi1) (pair' m (r 2 P) h₂ q m (r 2 P) h₂ hi2 hi2) (pair' m (r 3 P) h₃ q m (r 3 P) h₃ hi3 hi3))
       (go-2 (Sq a a (g a d P dp 2) M M) (Sq a a (g a d P dp 0) P P) (Tri a a (g a d P dp 0) P) (Tri a a (g a d P dp 2) P) (sq a d P dp 2 2 3 0 1 split-2 M) (sq a d P dp 0 0 1 2 3 split-0 P) (sq-tri a a (g a d P dp 2) M M) (tri a d P dp P (le_refl P)) (tri-sq a a (g a d P dp 0) P P (le_refl P))),
 )
   where

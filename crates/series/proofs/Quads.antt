@@ -1,9 +1,10 @@
 -- Sine and cosine by pairs of terms are sine and cosine by the classes modulo 4 of the exponential series: j pairs are the terms up to number 4 j.
 use mathlib.Core.Path.{◌≡◌, refl, sym, ap, ap₂, ◌∙◌, subst}
 use Prim.Native.Nat.{ℕ, zero, suc, ◌+◌, ◌*◌, ◌^◌}
-use native.Mathlib.Nat.{mul_assoc, pow-suc, pow-zero, one-mul}
+use native.Mathlib.Nat.{mul_assoc, pow-suc, pow-zero}
 use native.Mathlib.Omega.{arith}
 use Rattle.series.specs.Series.{full, num, class}
+use Rattle.series.proofs.Terms.{pow-1, full-suc}
 use Rattle.series.proofs.Pairs.{Sums, grow, sums, Ksin, Kcos, SinSame, CosSame}
 
 -- 4 j
@@ -24,10 +25,6 @@ class-at (suc j) = class-at j
 full-4 : (d k : ℕ) → full d (suc (suc (suc (suc k)))) ≡ full d k * (d * suc k) * (d * suc (suc k)) * (d * suc (suc (suc k))) * (d * suc (suc (suc (suc k))))
 unfolding full
 full-4 d k = refl
-
-pub full-1 : (d k : ℕ) → full d (suc k) ≡ full d k * (d * suc k)
-unfolding full
-full-1 d k = refl
 
 -- four terms with the weights c₁ .. c₄
 abbrev four : (N d₁ d₂ d₃ d₄ y₁ y₂ y₃ y₄ c₁ c₂ c₃ c₄ : ℕ) → ℕ
@@ -157,9 +154,6 @@ module _ (P Q A D N N' F y v d₁ g h f : ℕ) (p : P * F ≡ N * D) (q : Q * F 
       go : (E G B : ℕ) → f * d₅ ≡ G → A * E ≡ y * D → A * v * v * (E * f * d₅) ≡ y * v * v * (D * G)
       go E G B e a = omega (arith, ap (λ (x : ℕ). A * v * v * E * x) e, ap (λ (x : ℕ). x * (v * v * G)) a)
 
-pow-1 : (n : ℕ) → n ^ 1 ≡ n
-pow-1 n = pow-suc n 0 ∙ ap (λ (x : ℕ). x * n) (pow-zero n) ∙ one-mul n
-
 sin-start : (n d : ℕ) → SinSame n d 0 (record { den = d; next = n; plus = 0; minus = 0 })
 unfolding num full class
 sin-start n d = record { plus = omega arith; minus = omega arith; next = go (n ^ 1) (pow-1 n) }
@@ -181,7 +175,7 @@ sin-grow n d j s I =
     let h = d * d * Ksin (2 * j + 1) in
     let G = sin-g n d j in
     let H = sin-h n d j in
-    let A : s.next * (F * e₁) ≡ n ^ suc k * s.den = ap (λ (x : ℕ). s.next * x) (sym (full-1 d k)) ∙ I.next in
+    let A : s.next * (F * e₁) ≡ n ^ suc k * s.den = ap (λ (x : ℕ). s.next * x) (sym (full-suc d k)) ∙ I.next in
     let W : full d (quad (suc j)) ≡ F * e₁ * (e₂ * e₃ * e₄) = full-next n d j ∙ regroup F e₁ e₂ e₃ e₄ in
     record {
       plus = ap (λ (x : ℕ). (s.plus + s.next) * (g * h) * x) W
@@ -190,7 +184,7 @@ sin-grow n d j s I =
       minus = ap (λ (x : ℕ). (s.minus * (g * h) + s.next * (n * n) * h) * x) W
           ∙ minus-step s.plus s.minus s.next s.den (num (class 1) n d k) (num (class 3) n d k) F (n ^ suc k) (n * n) e₁ g h (e₂ * e₃ * e₄) I.plus I.minus A e₄ (ap (λ (x : ℕ). x * e₄) (sym G))
           ∙ ap (λ (x : ℕ). x * (s.den * (g * h))) (ap₂ (λ (x z : ℕ). (num (class 3) n d k * (e₁ * x) + z) * e₄) G (sym (pow-2 n (suc k))) ∙ flat (num (class 3) n d k) e₁ e₂ e₃ e₄ (n ^ suc (suc (suc k))) ∙ sym (next-3 n d j));
-      next = ap (λ (x : ℕ). s.next * (n * n) * (n * n) * x) (full-1 d (quad (suc j)) ∙ ap (λ (x : ℕ). x * e₅) W)
+      next = ap (λ (x : ℕ). s.next * (n * n) * (n * n) * x) (full-suc d (quad (suc j)) ∙ ap (λ (x : ℕ). x * e₅) W)
           ∙ next-step s.plus s.minus s.next s.den (num (class 1) n d k) (num (class 3) n d k) F (n ^ suc k) (n * n) e₁ g h (e₂ * e₃ * e₄) I.plus I.minus A e₅ (mul_assoc (e₂ * e₃) e₄ e₅ ∙ ap₂ (λ (x z : ℕ). x * z) (sym G) (sym H))
           ∙ ap (λ (x : ℕ). x * (s.den * (g * h))) (sym (pow-4 n (suc k)));
     }

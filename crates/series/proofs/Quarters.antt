@@ -31,13 +31,13 @@ module _ (a b : ℕ) where
   Sq-add f g L zero = S-add (f 0) (g 0) L
   Sq-add f g L (suc M) = omega (arith, S-add (f 0) (g 0) L, ap (λ (x : ℕ). a * x) (Sq-add (λ i. f (suc i)) (λ i. g (suc i)) L M))
 
+pub spread : (x y p q r s t u m n k : ℕ) → k ≡ p * q + r * s + t * u + m * n → x * y * k ≡ x * p * (y * q) + x * r * (y * s) + x * t * (y * u) + x * m * (y * n)
+spread x y p q r s t u m n k h = omega (arith, ap (λ (o : ℕ). x * y * o) h)
+
 -- a weight of i + j that is a sum of four products
 module _ (c f₀ g₀ f₁ g₁ f₂ g₂ f₃ g₃ : ℕ → ℕ) (e : (i j : ℕ) → c (i + j) ≡ f₀ i * g₀ j + f₁ i * g₁ j + f₂ i * g₂ j + f₃ i * g₃ j) (a b d : ℕ) (dp : 0 < d) where
   abbrev v : ℕ → ℕ → ℕ
   v P i = co d i (P - i)
-
-  spread : (x y p q r s t u m n k : ℕ) → k ≡ p * q + r * s + t * u + m * n → x * y * k ≡ x * p * (y * q) + x * r * (y * s) + x * t * (y * u) + x * m * (y * n)
-  spread x y p q r s t u m n k h = omega (arith, ap (λ (o : ℕ). x * y * o) h)
 
   sq-four : (P L M : ℕ) → Sq a b (h c a b d P) L M
       ≡ S a (λ i. v P i * f₀ i) M * S b (λ i. v P i * g₀ i) L + S a (λ i. v P i * f₁ i) M * S b (λ i. v P i * g₁ i) L + S a (λ i. v P i * f₂ i) M * S b (λ i. v P i * g₂ i) L + S a (λ i. v P i * f₃ i) M * S b (λ i. v P i * g₃ i) L

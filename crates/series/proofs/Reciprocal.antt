@@ -45,9 +45,17 @@ quotient a b d lo hi m lo' hi' m' D R B =
     up F x y s P p q r =
         le_of_mul-le-mul_right {k = F} (omega (arith, mul-le-mul_right (m' * F) p, mul-le-mul_left (hi * m') r, mul-le-mul_left (hi * x) q)) P
 
+-- x / f is between lo / m and hi / m, and so within u / v of r / v
+pub close : (m lo hi v r u x f : ℕ) → 0 < m → r * m ≤ v * lo + u * m → v * hi ≤ (r + u) * m → lo * f ≤ m * x → m * x ≤ hi * f → Close v r 0 u x 0 f
+close m lo hi v r u x f P a b p q =
+    record {
+      low = le_of_mul-le-mul_right {k = m} (omega (arith, mul-le-mul_right f a, mul-le-mul_left v p)) P;
+      high = le_of_mul-le-mul_right {k = m} (omega (arith, mul-le-mul_right f b, mul-le-mul_left v q)) P;
+    }
+
 -- from an enclosure to all later partial sums
 pub from-rec : (n d lo hi m v r u : ℕ) → 0 < d → 0 < m → Rec n d lo hi m → r * m ≤ v * lo + u * m → v * hi ≤ (r + u) * m → (N : ℕ) × ((k : ℕ) → N ≤ k → Close v r 0 u (full d k) 0 (num one n d k))
-from-rec n d lo hi m v r u D P R a b = (R.at, λ k l. close (num one n d k) (full d k) (R.low k) (high-at k l))
+from-rec n d lo hi m v r u D P R a b = (R.at, λ k l. close m lo hi v r u (full d k) (num one n d k) P a b (R.low k) (high-at k l))
   where
     high-at : (k : ℕ) → R.at ≤ k → m * full d k ≤ hi * num one n d k
     high-at k l =
@@ -57,10 +65,3 @@ from-rec n d lo hi m v r u D P R a b = (R.at, λ k l. close (num one n d k) (ful
       where
         go : (f x g y : ℕ) → 0 < f → m * f ≤ hi * x → x * g ≤ y * f → m * g ≤ hi * y
         go f x g y F p q = le_of_mul-le-mul_right {k = f} (omega (arith, mul-le-mul_right g p, mul-le-mul_left hi q)) F
-
-    close : (x f : ℕ) → lo * x ≤ m * f → m * f ≤ hi * x → Close v r 0 u f 0 x
-    close x f p q =
-        record {
-          low = le_of_mul-le-mul_right {k = m} (omega (arith, mul-le-mul_right x a, mul-le-mul_left v p)) P;
-          high = le_of_mul-le-mul_right {k = m} (omega (arith, mul-le-mul_right x b, mul-le-mul_left v q)) P;
-        }

@@ -2,11 +2,12 @@
 -- smaller than those two places before of the class 3, since lack (m + 2) is at most 18 * lack m from m = 3 on, where (m + 1) * (m + 2) is 20 or more.
 use mathlib.Core.Path.{◌≡◌, ap, ◌∙◌}
 use Prim.Native.Nat.{ℕ, zero, suc, ◌+◌, ◌*◌, ◌^◌, ◌≤◌, ◌<◌}
-use native.Mathlib.Nat.{le_trans, le_of_eq, mul-pos, mul-le-mul, mul-le-mul_left, mul-le-mul_right, pow-suc, pow-zero}
+use native.Mathlib.Nat.{le_trans, le_of_eq, mul-pos, mul-le-mul, mul-le-mul_left, mul-le-mul_right, pow-suc, pow-zero, le-add_right, le-add_left, mul_left_comm, mul_assoc, lt_of_lt_of_le}
 use native.Mathlib.Omega.{arith}
 use Rattle.series.specs.Series.{num, class}
 use Rattle.series.specs.Rises.{SineRises}
-use Rattle.series.proofs.CosineFalls.{gap, gap_is}
+use Rattle.series.proofs.Terms.{square-le}
+use Rattle.series.proofs.CosineFalls.{gap, gap_is, half, turn, two-terms}
 
 module _ (y h : ℕ) where
   unfoldable lack : ℕ → ℕ
@@ -60,28 +61,16 @@ module _ (y h d : ℕ) where
     -- from 3 on, lack (m + 2) is at most 18 times lack m
     lack-two : (m : ℕ) → lack y h (suc (suc (suc (suc (suc m))))) ≤ 18 * (d * d) * lack y h (suc (suc (suc m)))
     unfolding lack gap
-    lack-two m = go (lack y h (suc (suc m))) (gap y h (suc m)) (gap y h m) (y ^ m) (y ^ suc m) (y ^ suc (suc m)) (y ^ suc (suc (suc m))) (pow-suc y m) (pow-suc y (suc m)) (pow-suc y (suc (suc m))) (first (gap y h m) (y ^ m))
+    lack-two m = go (lack y h (suc (suc m))) (gap y h (suc m)) (gap y h m) (y ^ m) (y ^ suc m) (y ^ suc (suc m)) (y ^ suc (suc (suc m))) (pow-suc y m) (pow-suc y (suc m)) (pow-suc y (suc (suc m))) (le-add_left (h * y ^ m) ((y + h) * gap y h m))
       where
-        first : (g p : ℕ) → h * p ≤ (y + h) * g + h * p
-        first g p = omega arith
-
         go : (l g₁ g₀ p p₁ p₂ p₃ : ℕ) → p₁ ≡ p * y → p₂ ≡ p₁ * y → p₃ ≡ p₂ * y → h * p ≤ g₁
             → (y + h) * ((y + h) * ((y + h) * l + h * ((y + h) * g₁ + h * p₁)) + h * ((y + h) * ((y + h) * g₁ + h * p₁) + h * p₂)) + h * ((y + h) * ((y + h) * ((y + h) * g₁ + h * p₁) + h * p₂) + h * p₃)
             ≤ 18 * (d * d) * ((y + h) * l + h * ((y + h) * g₁ + h * p₁))
         go l g₁ g₀ p p₁ p₂ p₃ a b c e =
-            bound (y + h) (h * p₁) ((y + h) * g₁ + h * p₁) ((y + h) * l) (more y h) small
-            (half ((y + h) * g₁) (h * p₁) (le_trans (le_of_eq (turn h p₁ p y a)) (le_trans (mul-le-mul_left y e) (mul-le-mul_right g₁ (more y h)))))
+            bound (y + h) (h * p₁) ((y + h) * g₁ + h * p₁) ((y + h) * l) (le-add_right y h) small
+            (half ((y + h) * g₁) (h * p₁) (le_trans (le_of_eq (turn h p₁ p y a)) (le_trans (mul-le-mul_left y e) (mul-le-mul_right g₁ (le-add_right y h)))))
             (opened (y + h) l ((y + h) * g₁ + h * p₁) (h * p₁) (h * p₂) (h * p₃) (turn h p₂ p₁ y b) (turn h p₃ p₂ y c))
           where
-            more : (a b : ℕ) → a ≤ a + b
-            more a b = omega arith
-
-            half : (A P : ℕ) → P ≤ A → 2 * P ≤ A + P
-            half A P i = omega arith
-
-            turn : (h p' p y : ℕ) → p' ≡ p * y → h * p' ≡ y * (h * p)
-            turn h p' p y a = omega (arith, ap (λ (x : ℕ). h * x) a)
-
             -- with z = y + h, G the gap and P = h * p₁
             opened : (z l G P Q R : ℕ) → Q ≡ y * P → R ≡ y * Q → (z * (z * (z * l + h * G) + h * (z * G + Q)) + h * (z * (z * G + Q) + R)) ≡ z * z * (z * l + h * G) + h * (2 * (z * z * G) + 2 * (z * (y * P)) + y * (y * P))
             opened z l G P Q R a b = omega (arith, ap (λ (x : ℕ). z * h * x) a, ap (λ (x : ℕ). h * x) b, ap (λ (x : ℕ). h * y * x) a)
@@ -94,30 +83,18 @@ module _ (y h d : ℕ) where
                 (mul-le-mul_left h (mul-le-mul_left z (mul-le-mul_right P m)))
                 (mul-le-mul_left h (mul-le-mul m (mul-le-mul_right P m)))
                 (le_trans (le_of_eq (twice h z P)) (mul-le-mul_left h (mul-le-mul_left (z * z) t)))
-                (le_trans (le_of_eq (swap h (z * z) G)) (mul-le-mul_left (z * z) (over L (h * G))))
-                (le_trans (mul-le-mul_right (L + h * G) (square z s)) (le_of_eq (group (d * d) (L + h * G)))))
+                (le_trans (le_of_eq (mul_left_comm h (z * z) G)) (mul-le-mul_left (z * z) (le-add_left (h * G) L)))
+                (le_trans (mul-le-mul_right (L + h * G) (square-le z d s)) (le_of_eq (mul_assoc 4 (d * d) (L + h * G)))))
                 (le_of_eq (eighteen (d * d) (L + h * G)))
               where
                 eighteen : (D W : ℕ) → 18 * (D * W) ≡ 18 * D * W
                 eighteen D W = omega arith
-
-                square : (x : ℕ) → x ≤ 2 * d → x * x ≤ 4 * (d * d)
-                square x l = omega (arith, mul-le-mul l l)
 
                 apart : (W A B C : ℕ) → W + h * (2 * A + 2 * B + C) ≡ W + (2 * (h * A) + 2 * (h * B) + h * C)
                 apart W A B C = omega arith
 
                 twice : (h z P : ℕ) → 2 * (h * (z * (z * P))) ≡ h * (z * z * (2 * P))
                 twice h z P = omega arith
-
-                swap : (h Z G : ℕ) → h * (Z * G) ≡ Z * (h * G)
-                swap h Z G = omega arith
-
-                over : (L M : ℕ) → M ≤ L + M
-                over L M = omega arith
-
-                group : (D W : ℕ) → 4 * D * W ≡ 4 * (D * W)
-                group D W = omega arith
 
                 sum : (W A B C E D : ℕ) {x : ℕ} → x ≡ W + (2 * A + 2 * B + C) → B ≤ E → C ≤ E → 2 * E ≤ A → A ≤ W → W ≤ 4 * D → x ≤ 18 * D
                 sum W A B C E D a b c e f g = omega arith
@@ -141,10 +118,7 @@ module _ (y h d : ℕ) where
 
     grow : (k : ℕ) → lacks (class 3) k * (d * suc k) * (d * suc (suc k)) ≤ lacks (class 3) (suc (suc k))
     unfolding lacks
-    grow k = go (lacks (class 3) k) (d * suc k) (d * suc (suc k)) (class 3 (suc k) * lack y h (suc k)) (class 3 (suc (suc k)) * lack y h (suc (suc k)))
-      where
-        go : (b f g u v : ℕ) → b * f * g ≤ (b * f + u) * g + v
-        go b f g u v = omega arith
+    grow k = two-terms (lacks (class 3) k) (d * suc k) (d * suc (suc k)) (class 3 (suc k) * lack y h (suc k)) (class 3 (suc (suc k)) * lack y h (suc (suc k)))
 
     module _ (D : 0 < d) (H : 0 < h) where
       third : 0 < lack y h 3
@@ -160,10 +134,7 @@ module _ (y h d : ℕ) where
         where
           go : (a b : ℕ) → 0 < b → 0 < a + 1 * b
           go a b p = omega arith
-      some (suc k) = go (lacks (class 3) (suc (suc (suc k))) * (d * suc (suc (suc (suc k))))) (class 3 (suc (suc (suc (suc k)))) * lack y h (suc (suc (suc (suc k))))) (mul-pos (some k) (mul-pos D (omega arith)))
-        where
-          go : (a b : ℕ) → 0 < a → 0 < a + b
-          go a b p = omega arith
+      some (suc k) = lt_of_lt_of_le (mul-pos (some k) (mul-pos D (omega arith))) (le-add_right (lacks (class 3) (suc (suc (suc k))) * (d * suc (suc (suc (suc k))))) (class 3 (suc (suc (suc (suc k)))) * lack y h (suc (suc (suc (suc k))))))
 
       fewer : (k : ℕ) → lacks (class 1) (suc (suc (suc k))) < lacks (class 3) (suc (suc (suc k)))
       fewer k = go (lacks (class 1) (suc (suc (suc k)))) (lacks (class 3) (suc k) * (d * suc (suc k)) * (d * suc (suc (suc k)))) (lacks (class 3) (suc (suc (suc k)))) (later (suc k)) (grow (suc k)) (some k)

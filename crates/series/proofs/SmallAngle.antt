@@ -1,26 +1,12 @@
 -- The four classes of the exponential series at a small angle w / B, in units of 1 / B: five terms and a bound of the rest.
-use mathlib.Core.Path.{◌≡◌, ap, ◌∙◌}
+use mathlib.Core.Path.{◌≡◌}
 use Prim.Native.Nat.{ℕ, zero, suc, ◌+◌, ◌*◌, ◌/◌, ◌^◌, ◌≤◌, ◌<◌}
-use native.Mathlib.Nat.{le_of_lt, le_refl, mul-pos, div-mul-le_self, lt-div-mul-add, mul-le-mul_right, pow-suc, pow-zero, one-mul}
+use native.Mathlib.Nat.{le_of_lt, le_refl, mul-pos, div-mul-le_self, lt-div-mul-add, mul-le-mul_right}
 use native.Mathlib.Omega.{arith}
 use Rattle.series.specs.Series.{full, num, class}
+use Rattle.series.proofs.Terms.{pow-1, pow-2, pow-3, pow-4, pow-5}
 use Rattle.series.proofs.Weighted.{above}
 use Rattle.series.proofs.Waves.{Enc4}
-
-pow-1 : (w : ℕ) → w ^ 1 ≡ w
-pow-1 w = pow-suc w 0 ∙ ap (λ (x : ℕ). x * w) (pow-zero w) ∙ one-mul w
-
-pow-2 : (w : ℕ) → w ^ 2 ≡ w * w
-pow-2 w = pow-suc w 1 ∙ ap (λ (x : ℕ). x * w) (pow-1 w)
-
-pow-3 : (w : ℕ) → w ^ 3 ≡ w * w * w
-pow-3 w = pow-suc w 2 ∙ ap (λ (x : ℕ). x * w) (pow-2 w)
-
-pow-4 : (w : ℕ) → w ^ 4 ≡ w * w * w * w
-pow-4 w = pow-suc w 3 ∙ ap (λ (x : ℕ). x * w) (pow-3 w)
-
-pow-5 : (w : ℕ) → w ^ 5 ≡ w * w * w * w * w
-pow-5 w = pow-suc w 4 ∙ ap (λ (x : ℕ). x * w) (pow-4 w)
 
 pub class-le : (r k : ℕ) → class r k ≤ 1
 unfolding class

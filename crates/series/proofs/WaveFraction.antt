@@ -1,11 +1,11 @@
 -- The series of sine and cosine see only the value of their fraction: over n * c / (d * c) each sum is multiplied by one weight.
-use mathlib.Core.Path.{◌≡◌, refl, ap, ap₂, ◌∙◌, subst₂}
+use mathlib.Core.Path.{◌≡◌, refl, ap, ap₂, ◌∙◌, subst₂, sym}
 use Prim.Native.Nat.{ℕ, zero, suc, ◌+◌, ◌*◌, ◌≤◌, ◌<◌}
-use native.Mathlib.Nat.{le_trans, mul_assoc, mul_comm, mul_left_comm, mul-le-mul_right, mul-pos, le_of_mul-le-mul_right}
+use native.Mathlib.Nat.{le_trans, mul_assoc, mul_comm, mul_left_comm, mul-le-mul_right, mul-pos, le_of_mul-le-mul_right, add-mul}
 use native.Mathlib.Omega.{arith}
 use lib.Dec.{lit<}
 use Rattle.series.specs.Series.{Close, Kind, sine, cosine}
-use Rattle.series.proofs.Pairs.{Sums, grow, sums, Limit, top, bottom}
+use Rattle.series.proofs.Pairs.{Sums, grow, sums, Limit, start}
 
 pub record Times (w : ℕ) (s s' : Sums) : Type 0 where
   pub den : s'.den ≡ s.den * w
@@ -24,20 +24,14 @@ module _ (K : ℕ → ℕ) (n d c : ℕ) where
   next-go A w = simp (mul_assoc, mul_comm, mul_left_comm)
 
   plus-go : (P A w g h g' h' : ℕ) → g' ≡ g * (c * c) → h' ≡ h * (c * c) → (P * w + A * w) * (g' * h') ≡ (P + A) * (g * h) * (w * (c * c * (c * c)))
-  plus-go P A w g h g' h' e f = ap (λ (x : ℕ). x * (g' * h')) (go P A w) ∙ den-go (P + A) w g h g' h' e f
-    where
-      go : (x y z : ℕ) → x * z + y * z ≡ (x + y) * z
-      go x y z = omega arith
+  plus-go P A w g h g' h' e f = ap (λ (x : ℕ). x * (g' * h')) (sym (add-mul P A w)) ∙ den-go (P + A) w g h g' h' e f
 
   minus-go : (Q A w g h g' h' : ℕ) → g' ≡ g * (c * c) → h' ≡ h * (c * c) → Q * w * (g' * h') + A * w * (n * c * (n * c)) * h' ≡ (Q * (g * h) + A * (n * n) * h) * (w * (c * c * (c * c)))
   minus-go Q A w g h g' h' e f =
-      ap₂ (λ (x y : ℕ). x + y) (den-go Q w g h g' h' e f) (ap (λ (y : ℕ). A * w * (n * c * (n * c)) * y) f ∙ one) ∙ two (Q * (g * h)) (A * (n * n) * h) (w * (c * c * (c * c)))
+      ap₂ (λ (x y : ℕ). x + y) (den-go Q w g h g' h' e f) (ap (λ (y : ℕ). A * w * (n * c * (n * c)) * y) f ∙ one) ∙ sym (add-mul (Q * (g * h)) (A * (n * n) * h) (w * (c * c * (c * c))))
     where
       one : A * w * (n * c * (n * c)) * (h * (c * c)) ≡ A * (n * n) * h * (w * (c * c * (c * c)))
       one = simp (mul_assoc, mul_comm, mul_left_comm)
-
-      two : (x y z : ℕ) → x * z + y * z ≡ (x + y) * z
-      two x y z = omega arith
 
   grow-times : (j w : ℕ) (s s' : Sums) → Times w s s' → Times (w * (c * c * (c * c))) (grow K n d j s) (grow K (n * c) (d * c) j s')
   grow-times j w s s' t =
@@ -54,29 +48,24 @@ module _ (K : ℕ → ℕ) (n d c : ℕ) where
         minus = ap₂ (λ (x y : ℕ). x * (g' * h') + y * (n * c * (n * c)) * h') t.minus t.next ∙ minus-go s.minus s.next w g h g' h' e f;
       }
 
-  base : Kind → ℕ
-  base sine = c
-  base cosine = 1
-
   weight : Kind → ℕ → ℕ
-  weight w zero = base w
+  weight w zero = start w c
   weight w (suc j) = weight w j * (c * c * (c * c))
 
-  base-pos : 0 < c → (w : Kind) → 0 < base w
-  unfolding base
-  base-pos p sine = p
-  base-pos p cosine = lit< tt
+  start-pos : 0 < c → (w : Kind) → 0 < start w c
+  start-pos p sine = p
+  start-pos p cosine = lit< tt
 
   weight-pos : 0 < c → (w : Kind) (j : ℕ) → 0 < weight w j
   unfolding weight
-  weight-pos p w zero = base-pos p w
+  weight-pos p w zero = start-pos p w
   weight-pos p w (suc j) = mul-pos (weight-pos p w j) (mul-pos (mul-pos p p) (mul-pos p p))
 
-  times : (w : Kind) (j : ℕ) → Times (weight w j) (sums K n d (top w n) (bottom w d) j) (sums K (n * c) (d * c) (top w (n * c)) (bottom w (d * c)) j)
-  unfolding sums weight base
+  times : (w : Kind) (j : ℕ) → Times (weight w j) (sums K n d (start w n) (start w d) j) (sums K (n * c) (d * c) (start w (n * c)) (start w (d * c)) j)
+  unfolding sums weight
   times sine zero = record { den = refl; next = refl; plus = omega arith; minus = omega arith }
   times cosine zero = record { den = refl; next = refl; plus = refl; minus = refl }
-  times w (suc j) = grow-times j (weight w j) (sums K n d (top w n) (bottom w d) j) (sums K (n * c) (d * c) (top w (n * c)) (bottom w (d * c)) j) (times w j)
+  times w (suc j) = grow-times j (weight w j) (sums K n d (start w n) (start w d) j) (sums K (n * c) (d * c) (start w (n * c)) (start w (d * c)) j) (times w j)
 
 -- closeness is the same over a denominator w times as large
 pub close_up : (m r t u p q c p' q' c' w : ℕ) → p' ≡ p * w → q' ≡ q * w → c' ≡ c * w → Close m r t u p q c → Close m r t u p' q' c'
@@ -95,27 +84,27 @@ close_down m r t u p q c p' q' c' w P e f g k =
 
 -- from n / d to an equal fraction n' / d'
 module _ (w : Kind) (K : ℕ → ℕ) (n d n' d' : ℕ) (D : 0 < d) (e : n' * d ≡ n * d') where
-  join : (i : ℕ) → Times (weight K n' d' d w i) (sums K n' d' (top w n') (bottom w d') i) (sums K (n * d') (d * d') (top w (n * d')) (bottom w (d * d')) i)
-  join i = subst₂ (λ (x y : ℕ). Times (weight K n' d' d w i) (sums K n' d' (top w n') (bottom w d') i) (sums K x y (top w x) (bottom w y) i)) e (mul_comm d' d) (times K n' d' d w i)
+  join : (i : ℕ) → Times (weight K n' d' d w i) (sums K n' d' (start w n') (start w d') i) (sums K (n * d') (d * d') (start w (n * d')) (start w (d * d')) i)
+  join i = subst₂ (λ (x y : ℕ). Times (weight K n' d' d w i) (sums K n' d' (start w n') (start w d') i) (sums K x y (start w x) (start w y) i)) e (mul_comm d' d) (times K n' d' d w i)
 
   sum-two : (x y z w u : ℕ) → x ≡ y * w → z ≡ u * w → x + z ≡ (y + u) * w
   sum-two x y z w u p q = omega arith
 
-  pub same-limit : (j m r t u : ℕ) → Limit K n d (top w n) (bottom w d) j m r t u → Limit K n' d' (top w n') (bottom w d') j m r t u
+  pub same-limit : (j m r t u : ℕ) → Limit K n d (start w n) (start w d) j m r t u → Limit K n' d' (start w n') (start w d') j m r t u
   same-limit j m r t u L =
       record {
         even = λ i h.
-            let a = sums K n d (top w n) (bottom w d) i in
-            let b = sums K (n * d') (d * d') (top w (n * d')) (bottom w (d * d')) i in
-            let c = sums K n' d' (top w n') (bottom w d') i in
+            let a = sums K n d (start w n) (start w d) i in
+            let b = sums K (n * d') (d * d') (start w (n * d')) (start w (d * d')) i in
+            let c = sums K n' d' (start w n') (start w d') i in
             let p = times K n d d' w i in
             let q = join i in
             close_down m r t u c.plus c.minus c.den b.plus b.minus b.den (weight K n' d' d w i) (weight-pos K n' d' d D w i) q.plus q.minus q.den
             (close_up m r t u a.plus a.minus a.den b.plus b.minus b.den (weight K n d d' w i) p.plus p.minus p.den (L.even i h));
         odd = λ i h.
-            let a = sums K n d (top w n) (bottom w d) i in
-            let b = sums K (n * d') (d * d') (top w (n * d')) (bottom w (d * d')) i in
-            let c = sums K n' d' (top w n') (bottom w d') i in
+            let a = sums K n d (start w n) (start w d) i in
+            let b = sums K (n * d') (d * d') (start w (n * d')) (start w (d * d')) i in
+            let c = sums K n' d' (start w n') (start w d') i in
             let p = times K n d d' w i in
             let q = join i in
             close_down m r t u (c.plus + c.next) c.minus c.den (b.plus + b.next) b.minus b.den (weight K n' d' d w i) (weight-pos K n' d' d D w i)

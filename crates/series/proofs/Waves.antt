@@ -19,13 +19,13 @@ pub record Enc4 (n d m l₀ l₁ l₂ l₃ h₀ h₁ h₂ h₃ : ℕ) : Type 0 w
   pub high3 : (k : ℕ) → m * num (class 3) n d k ≤ h₃ * full d k
 
 -- ---- at a sum of arguments
-pair : (p f m x q g m' y : ℕ) → p * f ≤ m * x → q * g ≤ m' * y → p * q * (f * g) ≤ m * m' * (x * y)
+pub pair : (p f m x q g m' y : ℕ) → p * f ≤ m * x → q * g ≤ m' * y → p * q * (f * g) ≤ m * m' * (x * y)
 pair p f m x q g m' y a b = omega (arith, mul-le-mul a b)
 
-pair' : (m x p f m' y q : ℕ) → m * x ≤ p * f → m' * y ≤ q * f → x * y * (m * m') ≤ f * f * (p * q)
+pub pair' : (m x p f m' y q : ℕ) → m * x ≤ p * f → m' * y ≤ q * f → x * y * (m * m') ≤ f * f * (p * q)
 pair' m x p f m' y q a b = omega (arith, mul-le-mul a b)
 
-sum4 : (w k a b c d a' b' c' d' : ℕ) → a * w ≤ k * a' → b * w ≤ k * b' → c * w ≤ k * c' → d * w ≤ k * d' → (a + b + c + d) * w ≤ k * (a' + b' + c' + d')
+pub sum4 : (w k a b c d a' b' c' d' : ℕ) → a * w ≤ k * a' → b * w ≤ k * b' → c * w ≤ k * c' → d * w ≤ k * d' → (a + b + c + d) * w ≤ k * (a' + b' + c' + d')
 sum4 w k a b c d a' b' c' d' e f g h = omega arith
 
 join-low : (S Y w k F s : ℕ) → 0 < w → S * w ≤ k * Y → Y * F ≤ s * w → S * F ≤ k * s

@@ -1,8 +1,8 @@
 // The plasma frequency squared at a height: the largest of the five shapes, each 0 outside its own range.
 // Both values of a shape are worked out before one is picked, but for the tail, which calls `exp` only
 // where it counts.
-// Stays: the shapes, `self`, are read together with the height `h` and are no one thing: the loop has the same shapes at
-// fifty heights.
+// Stays: the shapes, `self`, are read together with the height `h` and are no one thing: fifty heights are read with the same
+// shapes.
 ghost use Rattle.std.specs.Prelude.{◌≡◌};
 ghost use Rattle.shape_densities.specs.Density.{fnval_of, parabola_of, fne_of, fnd_of, fn1_of, fn2_of, candidates_by, largest_of};
 

@@ -60,13 +60,6 @@ impl Curves {
         ensures { result ≡ map (density_of self) htr }
     {
         let fnd = self.tails(htr);
-        let mut fnsq = htr;
-        // Stays: a turn writes one list from two, and of what `iter_mut` under a zip leaves a proof knows the
-        // lengths alone.
-        for ih in 0..50 {
-            let d = self.candidates(fnd[ih], htr[ih]).largest();
-            fnsq[ih] = d;
-        }
-        fnsq
+        std::array::from_fn(|ih| self.candidates(fnd[ih], htr[ih]).largest())
     }
 }

@@ -55,7 +55,7 @@ fn first(c: Candidates, density: f32) -> Mark
     Mark::F2
 }
 
-// Stays: the shapes c and the height h are no one thing: the loop has the same shapes at fifty heights.
+// Stays: the shapes c and the height h are no one thing: fifty heights are read with the same shapes.
 fn mark_at(c: Curves, fnd: f32, h: f32) -> Mark
     requires { fnd ≡ fnd_of c h }
     ensures { result ≡ mark_of c h }
@@ -79,13 +79,7 @@ fn marks_on(c: Curves, htr: [f32; 50]) -> [Mark; 50]
     ensures { result ≡ map (mark_of c) htr }
 {
     let fnd = c.tails(htr);
-    let mut marks = no_marks();
-    // Stays: a turn writes one list from two, and of what `iter_mut` under a zip leaves a proof knows the
-    // lengths alone.
-    for ih in 0..50 {
-        marks[ih] = mark_at(c, fnd[ih], htr[ih]);
-    }
-    marks
+    std::array::from_fn(|ih| mark_at(c, fnd[ih], htr[ih]))
 }
 
 // Slot k as `lecden` is to find it: of a slot that it has prepared F1 may be another shape.

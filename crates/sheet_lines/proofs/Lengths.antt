@@ -12,9 +12,10 @@ use Rattle.muf.specs.declared.MufHour.{MufHour}
 use Rattle.reflectrix.specs.declared.Ionogram.{Ionogram}
 use Rattle.circuit_sheet.specs.declared.Sheet.{Sheet}
 use Rattle.circuit_sheet.specs.declared.SlotRows.{SlotRows}
+use Rattle.circuit_sheet.specs.CircuitSheet.{no_slot_rows}
 use Rattle.mark_text.proofs.Lengths.{marks-most}
 use Rattle.sheet_rows.specs.SheetRows.{bits_field, row_fields, row_line}
-use Rattle.sheet_lines.specs.SheetLines.{muf_word, call_word, slot_word, muf_fields, natural, muf_line, call_line, slot_line, slot_text, nothing, slot_text_at, answered_text}
+use Rattle.sheet_lines.specs.SheetLines.{muf_word, call_word, slot_word, muf_fields, natural, muf_line, call_line, slot_line, slot_text, slot_text_at, answered_text}
 
 bits : (x : Float) → AtMost (bits_field x) 9
 unfolding bits_field
@@ -48,6 +49,6 @@ slot rows k h =
 pub answered-most : (s : Sheet) → s.slots ≤ 3 → AtMost (answered_text s) 7773
 unfolding answered_text
 answered-most s h =
-    let slots = times (slot_text_at s.rows) 2557 s.slots (λ k l. slot (get_or s.rows k nothing) k (omega arith)) in
+    let slots = times (slot_text_at s.rows) 2557 s.slots (λ k l. slot (get_or s.rows k no_slot_rows) k (omega arith)) in
     let t = muf-line s.hour then call_line_lem s.hour then slots in
     record { most = omega (arith, t.most) }

@@ -4,6 +4,7 @@ use Rattle.lines.specs.Text.{space, line_feed, decimal_of, field_of, joined}
 use Rattle.muf.specs.declared.MufHour.{MufHour}
 use Rattle.circuit_sheet.specs.declared.Sheet.{Sheet}
 use Rattle.circuit_sheet.specs.declared.SlotRows.{SlotRows}
+use Rattle.circuit_sheet.specs.CircuitSheet.{no_slot_rows}
 use Rattle.figures.specs.Figure.{figure_of}
 use Rattle.figure_text.specs.FigureText.{figure_text}
 use Rattle.mark_text.specs.MarkText.{marks_text}
@@ -42,12 +43,8 @@ slot_line k = slot_word ++ (decimal_of k ++ (line_feed ∷ []))
 unfoldable pub slot_text : SlotRows → ℕ → List ℕ
 slot_text rows k = slot_line k ++ (joined (row_line rows.ion) 30 ++ marks_text rows.marks)
 
--- past the end, where no code reads
-abbrev pub nothing : SlotRows
-nothing = record { ion = record { fvert = []; hprim = []; htrue = []; afac = []; segment = [] }; marks = [] }
-
 abbrev pub slot_text_at : List SlotRows → ℕ → List ℕ
-slot_text_at rows k = slot_text (get_or rows k nothing) k
+slot_text_at rows k = slot_text (get_or rows k no_slot_rows) k
 
 unfoldable pub answered_text : Sheet → List ℕ
 answered_text s = muf_line s.hour ++ (call_line s.hour ++ joined (slot_text_at s.rows) s.slots)

@@ -22,6 +22,7 @@ fn put_mufs<const N: usize>(page: &mut Page<N>, h: &MufHour)
 }
 
 // The mode, which is 1 to 3.
+// Stays: a number, for the reason at `muf::Mode`.
 fn mode(h: &MufHour) -> u64
     ensures { result ≡ natural h.now.modmuf }
 {
@@ -68,6 +69,7 @@ fn put_slot<const N: usize>(page: &mut Page<N>, slot: &SlotRows, k: usize)
 }
 
 // Stays: beside `put_slots` of `show_page`, since a function over what is put of a slot would take a contract longer than this loop.
+// That a sheet has three slots at most is asked, for the reason at `circuit_sheet::Sheet`.
 fn put_slots<const N: usize>(page: &mut Page<N>, s: &Sheet)
     requires { s.now.slots ≤ 3 }
     ensures { page.new ≡ with_text N page.old (joined (slot_text_at s.now.rows) s.now.slots) }

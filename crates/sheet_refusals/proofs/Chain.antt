@@ -1,14 +1,14 @@
 -- A chain is refused for its length, its record 0, a step or a record.
-use Rattle.std.specs.Prelude.{Bool, true, false, ◌||◌, List, [], ◌∷◌, ◌++◌, ℕ, zero, suc, ◌+◌, not, ◌&&◌, leb, ltb, eqb, Option, Some, None, Result, Ok, Err, IfErr}
+use Rattle.std.specs.Prelude.{Bool, true, false, cond, ◌||◌, List, [], ◌∷◌, ◌++◌, ℕ, zero, suc, ◌+◌, not, ◌&&◌, leb, ltb, eqb, Option, Some, None, Result, Ok, Err, IfErr}
 use Rattle.refusal.specs.declared.Refusal.{Refusal}
 use Rattle.records.specs.declared.Form.{Form}
 use Rattle.records.specs.Record.{record_at, next_of}
 use Rattle.record_chain.specs.declared.Chain.{Chain}
-use Rattle.record_chain.specs.Chain.{record_count, length_good, head_good, km_of, member, step_by, step_of, pick_chain, ended, answered_chain, by_step, sound_by, walk, chain_of}
+use Rattle.record_chain.specs.Chain.{record_count, length_good, head_good, km_of, member, step_by, step_of, ended, answered_chain, by_step, sound_by, walk, chain_of}
 
 -- of what is refused P holds
 module _ (P : Refusal → Type 0) (long : P Refusal.Length) (head : P Refusal.RecordZero) (step : P Refusal.ChainStep) (rec : P Refusal.ChainRecord) where
-  pick-in : (b : Bool) (x y : Result Chain Refusal) → IfErr x P → IfErr y P → IfErr (pick_chain b x y) P
+  pick-in : (b : Bool) (x y : Result Chain Refusal) → IfErr x P → IfErr y P → IfErr (cond b x y) P
   pick-in true x y p q = p
   pick-in false x y p q = q
 
@@ -34,7 +34,7 @@ module _ (P : Refusal → Type 0) (long : P Refusal.Length) (head : P Refusal.Re
   walk-in o f zero order at = stepped (step_of o f order at) (ended zero (answered_chain order)) (λ n. Err Refusal.ChainRecord) (step-of o f order at) (ended-in zero order) (λ n. rec)
   walk-in o f (suc left) order at =
       stepped (step_of o f order at) (ended (suc left) (answered_chain order))
-      (λ n. pick_chain (sound_by o (leb 48 left) (record_at o f n)) (walk o f left (order ++ (n ∷ [])) n) (Err Refusal.ChainRecord))
+      (λ n. cond (sound_by o (leb 48 left) (record_at o f n)) (walk o f left (order ++ (n ∷ [])) n) (Err Refusal.ChainRecord))
       (step-of o f order at) (ended-in (suc left) order)
       (λ n. pick-in (sound_by o (leb 48 left) (record_at o f n)) (walk o f left (order ++ (n ∷ [])) n) (Err Refusal.ChainRecord) (walk-in o f left (order ++ (n ∷ [])) n) rec)
 
@@ -42,5 +42,5 @@ module _ (P : Refusal → Type 0) (long : P Refusal.Length) (head : P Refusal.Re
   unfolding chain_of
   chain-in o f =
       let w = walk o f (km_of (record_at o f 0) + 48) (0 ∷ []) 0 in
-      let h = pick_chain (head_good o (record_at o f 0)) w (Err Refusal.RecordZero) in
+      let h = cond (head_good o (record_at o f 0)) w (Err Refusal.RecordZero) in
       pick-in (length_good o f) h (Err Refusal.Length) (pick-in (head_good o (record_at o f 0)) w (Err Refusal.RecordZero) (walk-in o f (km_of (record_at o f 0) + 48) (0 ∷ []) 0) head) long

@@ -3,6 +3,7 @@ use Rattle.std.specs.Prelude.{◌≡◌, ℕ, ◌*◌, ◌-◌, ◌≤◌, ◌<�
 use Rattle.std.specs.Float.{binary32}
 use Rattle.std.specs.Float.Ieee.{of_bits}
 use mathlib.Core.Path.{refl, subst}
+use Rattle.std.proofs.lemmas.Bool.{and_parts}
 use Rattle.refusal.specs.declared.Refusal.{Refusal}
 use Rattle.records.specs.Record.{form64}
 use Rattle.record_chain.specs.declared.Chain.{Chain}
@@ -40,13 +41,9 @@ unfolding answered_of
 muf-then (Ok a) s nang h k = (h.0, h.1, k)
 muf-then (Err r) s nang h k = h
 
-pub first_of : (a b : Bool) → (a && b) ≡ true → a ≡ true
-first_of true b e = refl
-first_of false b e = e
-
 pub deciles-right : (ks d a b : ℕ) → lists_reach ks d a b ≡ true → eqb d 576 ≡ true
 unfolding lists_reach
-deciles-right ks d a b e = first_of (eqb d 576) (ltb ks a) (first_of (eqb d 576 && ltb ks a) (ltb ks b) e)
+deciles-right ks d a b e = (and_parts (eqb d 576) (ltb ks a) (and_parts (eqb d 576 && ltb ks a) (ltb ks b) e).0).0
 
 scanned-good : (c : Circuit) (nang : ℕ) → lists_reach (controlling_of (slots_of c)) (length (map (of_bits binary32) c.deciles)) (length (take c.km (column_of c.points 13))) (length (take c.km (column_of c.points 14))) ≡ true → Good (scanned_of c nang)
 unfolding scanned_of muf_of member

@@ -6,7 +6,7 @@ use Rattle.circuit_sheet.specs.declared.Sheet.{Sheet}
 use Rattle.circuit_sheet.specs.CircuitSheet.{sheet_of}
 unfoldable pub use Rattle.sheet_rows.specs.SheetRows.{row_line}
 unfoldable pub use Rattle.sheet_lines.specs.SheetLines.{muf_line, call_line, slot_line, slot_text, answered_text}
-pub use Rattle.sheet_lines.specs.SheetLines.{call_word, nothing, slot_text_at}
+pub use Rattle.sheet_lines.specs.SheetLines.{call_word, slot_text_at}
 
 abbrev pub sheet_text_by : Result Sheet Refusal → List ℕ
 sheet_text_by (Ok s) = answered_text s

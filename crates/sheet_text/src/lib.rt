@@ -40,8 +40,7 @@ pub fn answer(file: &[u8]) -> Result<Page<ROOM>, Refusal>
 }
 
 // What is printed of the file: of a refused one the refusal.
-// Stays: beside `show_text` and `plot_text`, each of a line or two over its own answer; a function over what is put of either
-// case is no plainer.
+// Stays: beside `show_text` and `plot_text`, as said at `show_text`.
 pub fn sheet_text(file: &[u8]) -> Page<ROOM>
     ensures { result ≡ sheet_text file.now }
 {

@@ -11,7 +11,7 @@ use Rattle.run_text.proofs.Lengths.{runs-most}
 use Rattle.reason_text.proofs.Lengths.{reason-most}
 use Rattle.circuit_sheet.specs.declared.Sheet.{Sheet}
 use Rattle.circuit_sheet.specs.declared.SlotRows.{SlotRows}
-use Rattle.sheet_text.specs.SheetText.{nothing}
+use Rattle.circuit_sheet.specs.CircuitSheet.{no_slot_rows}
 use Rattle.show_page.specs.Page.{slot_page, slot_page_at, legend, page_text, refusal_text}
 
 slot : (rows : SlotRows) (k : ℕ) → k < 3 → AtMost (slot_page rows k) 2840
@@ -23,7 +23,7 @@ slot rows k h =
 pub page-most : (s : Sheet) → s.slots ≤ 3 → AtMost (page_text s) 9000
 unfolding page_text
 page-most s h =
-    let slots = times (slot_page_at s.rows) 2840 s.slots (λ k l. slot (get_or s.rows k nothing) k (omega arith)) in
+    let slots = times (slot_page_at s.rows) 2840 s.slots (λ k l. slot (get_or s.rows k no_slot_rows) k (omega arith)) in
     let t = mufs-most s.hour then slots then word legend in
     record { most = omega (arith, t.most) }
 

@@ -9,7 +9,7 @@ use Rattle.run_text.specs.RunText.{runs_text}
 use Rattle.reason_text.specs.ReasonText.{reason_of}
 use Rattle.circuit_sheet.specs.declared.Sheet.{Sheet}
 use Rattle.circuit_sheet.specs.declared.SlotRows.{SlotRows}
-use Rattle.sheet_text.specs.SheetText.{nothing}
+use Rattle.circuit_sheet.specs.CircuitSheet.{no_slot_rows}
 
 unfoldable pub slot_page : SlotRows → ℕ → List ℕ
 slot_page rows k =
@@ -21,7 +21,7 @@ slot_page rows k =
     ++ runs_text rows.marks))))
 
 abbrev pub slot_page_at : List SlotRows → ℕ → List ℕ
-slot_page_at rows k = slot_page (get_or rows k nothing) k
+slot_page_at rows k = slot_page (get_or rows k no_slot_rows) k
 
 abbrev pub legend : List ℕ
 legend = ascii "\nSegment n lies between heights n + 1 and n + 2 of the slot's profile;\ntop: no segment holds the true height; -: none was looked for.\n"

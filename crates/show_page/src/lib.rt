@@ -23,6 +23,7 @@ fn put_slot<const N: usize>(page: &mut Page<N>, rows: &SlotRows, k: usize)
 }
 
 // Stays: beside `put_slots` of `sheet_lines`, since a function over what is put of a slot would take a contract longer than this loop.
+// That a sheet has three slots at most is asked, for the reason at `circuit_sheet::Sheet`.
 fn put_slots<const N: usize>(page: &mut Page<N>, s: &Sheet)
     requires { s.now.slots ≤ 3 }
     ensures { page.new ≡ with_text N page.old (joined (slot_page_at s.now.rows) s.now.slots) }

@@ -9,8 +9,9 @@ use lines::Page;
 // The bytes of a page: one of three slots has room.
 pub const ROOM: usize = 9216;
 
-// Stays: beside `sheet_text` and `plot_text`, each of a line or two over its own answer; a function over what is put of either
-// case is no plainer.
+// Stays: beside `sheet_text` and `plot_text`. One function of the three, `page_of(answer: Result<T, Refusal>, put: F, refused: G) ->
+// Page<N>`, would be handed both arms as closures at each call, and would have to say by `F.pre` that a sheet of three slots at most
+// is put, which holds of an answer alone, and by `F.post` and `G.post` what each puts.
 pub fn show_text(file: &[u8]) -> Page<ROOM>
     ensures { result ≡ show_text file.now }
 {

@@ -83,7 +83,7 @@ fn tail_of(s: Slot) -> Tail
     Tail { hex, alp, fsq }
 }
 
-// Stays: number by number, since `Curves` has them flat, for the loop over fifty heights that reads them.
+// Stays: number by number, since `Curves` has them flat: fifty heights are read with the same ones.
 fn curves_of(s: Slot, v: Valley, f: F1Shape, t: Tail) -> Curves
     ensures { result ≡ curves_of s v f t }
 {

@@ -18,7 +18,8 @@ fn empty(n: usize) -> IonoState
     s
 }
 
-// Stays: s and k are the Rust's `state` and the number of one of its points.
+// Stays: s and k are the Rust's `state` and the number of one of its points, which here and at `layer_from` is asked to be below 5: the
+// tables have five rows, and a type of the number would be made at each turn or call and opened for the index.
 fn set_point(mut s: IonoState, k: usize, p: LayerParams) -> IonoState
     requires { k < 5 }
     ensures { result ≡ point_set s k p }
@@ -29,7 +30,10 @@ fn set_point(mut s: IonoState, k: usize, p: LayerParams) -> IonoState
     s
 }
 
-// Stays: s and n, here and at `settle_slots`, are the Rust's state and the bound of its loops.
+// Stays: s and n, here and at `settle_slots`, are the Rust's state and the bound of its loops. Five places and a count, here and
+// at `from_layers`, are what a circuit and the exports have: over a slice each caller would cut its five, and the definition, which
+// reads point k of all that are handed in, would be one of the list cut off. That n is 5 at most is asked, since `from_layers` has
+// just tested it, to refuse more.
 fn set_points(s: IonoState, params: [LayerParams; 5], n: usize) -> IonoState
     requires { n ≤ 5 }
     ensures { result ≡ points_set s params n }
@@ -63,7 +67,6 @@ fn layer_from(mut s: IonoState, k: usize, p: usize, i: usize) -> IonoState
     s
 }
 
-// Stays: two and three slots apart, as in the Rust.
 fn two_slots(mut s: IonoState) -> IonoState
     ensures { result ≡ two_slots s }
 {
@@ -73,14 +76,13 @@ fn two_slots(mut s: IonoState) -> IonoState
     layer_from(s2, 1, 2, 1)
 }
 
-fn three_slots(mut s: IonoState) -> IonoState
+// The three copies of two slots, and four more.
+fn three_slots(s: IonoState) -> IonoState
     ensures { result ≡ three_slots s }
 {
-    s.kfx = 3;
-    let s1 = layer_from(s, 0, 1, 2);
-    let s2 = layer_from(s1, 1, 2, 0);
-    let s3 = layer_from(s2, 1, 2, 1);
-    let s4 = layer_from(s3, 1, 2, 2);
+    let mut t = two_slots(s);
+    t.kfx = 3;
+    let s4 = layer_from(t, 1, 2, 2);
     let s5 = layer_from(s4, 2, 4, 0);
     let s6 = layer_from(s5, 2, 4, 1);
     layer_from(s6, 2, 3, 2)

@@ -23,6 +23,7 @@ fn e_grid(fv: [f32; 30], fi0: f32) -> [f32; 30]
     fill(l, 3, 4, step)
 }
 
+// Stays: fi0 and fi2, here and at `fvert`, are two of a slot's frequencies, and the caller has the slot.
 fn nose_grid(fv: [f32; 30], fi0: f32, fi2: f32) -> [f32; 30]
     ensures { result ≡ nose_grid fv fi0 fi2 }
 {
@@ -51,6 +52,7 @@ fn f_grid(fv: [f32; 30], fi1: f32) -> [f32; 30]
     fill(g, 20, 5, above)
 }
 
+// Stays: fi0, fi1 and fi2, as at `nose_grid`.
 pub fn fvert(fi0: f32, fi1: f32, fi2: f32) -> [f32; 30]
     ensures { result ≡ fvert_of fi0 fi1 fi2 }
 {

@@ -55,7 +55,7 @@ fn by_profile(t: Tested, fv: [f32; 30]) -> Ionogram
     let mut hprim = [0.0; 30];
     let mut htrue = [0.0; 30];
     let mut segment = [0; 30];
-    // Stays: three columns are written at a row.
+    // Stays: three columns are written at a row; by `std::array::from_fn` the rows would be made first, and each column of them.
     for i in 0..30 {
         let h = heights::gethp_read(p, exact, fv[i]);
         hprim[i] = h.hp;
@@ -86,7 +86,7 @@ fn true_rows(s: IonoState, fv: [f32; 30]) -> TrueColumns
     let mut htrue = [0.0; 30];
     htrue[..10].copy_from_slice(&HTE);
     let mut segment = [50; 30];
-    // Stays: two columns are written at a row.
+    // Stays: two columns are written at a row, as in `by_profile`.
     for i in 0..20 {
         let h = true_by_profile(s, fv[10 + i]);
         htrue[10 + i] = h.value;
@@ -95,16 +95,13 @@ fn true_rows(s: IonoState, fv: [f32; 30]) -> TrueColumns
     TrueColumns { htrue, segment }
 }
 
-// Stays: as the `hp` of `parabolic` in layer_mufs; the Rust writes it out in each of its two modules.
 fn virtual_by_parabola(s: IonoState, k: usize, f: f32) -> f32
     requires { k < 3 }
     ensures { result ≡ virtual_by_parabola s k f }
 {
     let e = 3 * k;
     let f2 = 3 * k + 2;
-    let bend = parabolas::bendy_at(s.fi[f2], s.yi[f2], f);
-    let lag = parabolas::pen_at(s.fi[e], s.yi[e], f);
-    s.hi[f2] - s.yi[f2] + bend + (lag - 2.0 * s.yi[e])
+    parabolas::height_over_e(s.fi[e], s.yi[e], s.fi[f2], s.yi[f2], s.hi[f2], f)
 }
 
 // Ten rows of a table, and the twenty after them, each by its frequency.
@@ -114,7 +111,9 @@ fn rows_from_ten<F: Fn(f32) -> f32>(start: [f32; 10], fv: [f32; 30], row: F) -> 
 {
     let mut rows = [0.0; 30];
     rows[..10].copy_from_slice(&start);
-    // Stays: a turn writes one list from the place of another.
+    // Stays: the definition stores row after row, as this loop does. Tried: of `rows[10..].iter_mut().zip(&fv[10..])` the invariant has
+    // no name for what is written so far; by `from_fn`, with a test for the first ten, the proof reads the stores place by place, by
+    // lemmas as long as itself, and did not close.
     for i in 0..20 {
         rows[10 + i] = row(fv[10 + i]);
     }

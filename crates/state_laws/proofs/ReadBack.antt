@@ -5,11 +5,11 @@ use mathlib.Core.Path.{◌≡◌, refl, sym, ap, ◌∙◌, subst}
 use Prim.Native.Nat.{ℕ, zero, suc, ◌+◌, ◌-◌, ◌<◌, ◌≤◌}
 use native.Mathlib.Nat.{mod-eq_of_lt}
 use native.Mathlib.Omega.{arith}
-use borrow.Author.Tests.{lt-ltb, le-ltb, ltb-true, ltb-false, leb-true}
+use borrow.Author.Tests.{lt-ltb, le-ltb, ltb-true, ltb-false, leb-true, eqb-true, eqb-false, ne_eqb}
 use lib.Dec.{T, ltb, leb, eqb}
 use lib.IntN.{ℤ, pos, negsuc}
 use lib.ListN.{get_or, length, take, drop, set, length-map, length-append, length-drop, length-set, get_or-append}
-use lib.Seq.{length-take-le, get_or-take, get_or-drop, get_or-append-add, get_or-set_same, get_or-set_other, ext_get_or}
+use lib.Seq.{length-take-le, get_or-take, get_or-drop, get_or-append-add, get_or-set_other, ext_get_or}
 use lib.Signed.{mag}
 use lib.Ieee.{Float, nan, binary32, fits, of_bits, to_bits}
 use lib.Ieee.Bits.{of_bits-to_bits, of_bits-fits}
@@ -24,6 +24,7 @@ use Rattle.port_state.specs.State.{state_of, tables_into, profile_into, counts_i
 use Rattle.state_laws.specs.ReadBack.{Floats, WordsSuffice, StateReadBack, WordsSufficeRead}
 use Rattle.state_laws.proofs.Owners.{owner-read-back}
 use Rattle.std.proofs.lemmas.Bool.{and_parts}
+use Rattle.std.proofs.lemmas.Grind.{get_or-set_at}
 use Rattle.std.proofs.lemmas.List.{get_or-map}
 
 -- ---- lists
@@ -81,74 +82,30 @@ signed_back (negsuc n) h = ap (λ (b : Bool). signed_by b (0xffff_ffff - n)) (le
 
 -- ---- the whole
 
--- the seven words that are stored one by one, over any words p
-module _ (p : List ℕ) (a b c d e f g : ℕ) (room : 155 ≤ length p) where
-  abbrev s1 : List ℕ
-  s1 = set p 45 a
+-- words stored one by one over the words w, each with its place, the last one first; and the word that is at place j then
+abbrev stored : List (ℕ × ℕ) → List ℕ → List ℕ
+stored [] w = w
+stored (p ∷ ps) w = set (stored ps w) p.0 p.1
 
-  abbrev s2 : List ℕ
-  s2 = set s1 46 b
+abbrev last_at : List (ℕ × ℕ) → ℕ → ℕ → ℕ
+last_at [] j word = word
+last_at (p ∷ ps) j word = cond (eqb j p.0) p.1 (last_at ps j word)
 
-  abbrev s3 : List ℕ
-  s3 = set s2 147 c
+stored-length : (ps : List (ℕ × ℕ)) (w : List ℕ) → length (stored ps w) ≡ length w
+stored-length [] w = refl
+stored-length (p ∷ ps) w = length-set (stored ps w) p.0 p.1 ∙ stored-length ps w
 
-  abbrev s4 : List ℕ
-  s4 = set s3 151 d
+set-word : (w : List ℕ) (i j v : ℕ) → j < length w → word (set w i v) j ≡ cond (eqb j i) v (word w j)
+set-word w i j v h = by (eqb j i) refl
+  where
+    by : (b : Bool) → eqb j i ≡ b → word (set w i v) j ≡ cond b v (word w j)
+    by true e = let k = eqb-true j i e in get_or-set_at w i j v 0 k (omega arith)
+    by false e = get_or-set_other w i j v 0 (eqb-false j i e)
 
-  abbrev s5 : List ℕ
-  s5 = set s4 152 e
-
-  abbrev s6 : List ℕ
-  s6 = set s5 153 f
-
-  abbrev s7 : List ℕ
-  s7 = set s6 154 g
-
-  m1 : length s1 ≡ length p
-  m1 = length-set p 45 a
-
-  m2 : length s2 ≡ length p
-  m2 = length-set s1 46 b ∙ m1
-
-  m3 : length s3 ≡ length p
-  m3 = length-set s2 147 c ∙ m2
-
-  m4 : length s4 ≡ length p
-  m4 = length-set s3 151 d ∙ m3
-
-  m5 : length s5 ≡ length p
-  m5 = length-set s4 152 e ∙ m4
-
-  m6 : length s6 ≡ length p
-  m6 = length-set s5 153 f ∙ m5
-
-  m7 : length s7 ≡ length p
-  m7 = length-set s6 154 g ∙ m6
-
-  stored_other : (j : ℕ) → (j ≡ 45 → ⊥) → (j ≡ 46 → ⊥) → (j ≡ 147 → ⊥) → (j ≡ 151 → ⊥) → (j ≡ 152 → ⊥) → (j ≡ 153 → ⊥) → (j ≡ 154 → ⊥) → word s7 j ≡ word p j
-  stored_other j h1 h2 h3 h4 h5 h6 h7 =
-      get_or-set_other s6 154 j g 0 h7 ∙ get_or-set_other s5 153 j f 0 h6 ∙ get_or-set_other s4 152 j e 0 h5 ∙ get_or-set_other s3 151 j d 0 h4 ∙ get_or-set_other s2 147 j c 0 h3 ∙ get_or-set_other s1 46 j b 0 h2 ∙ get_or-set_other p 45 j a 0 h1
-
-  at-45 : word s7 45 ≡ a
-  at-45 = get_or-set_other s6 154 45 g 0 (λ e. omega arith) ∙ get_or-set_other s5 153 45 f 0 (λ e. omega arith) ∙ get_or-set_other s4 152 45 e 0 (λ e. omega arith) ∙ get_or-set_other s3 151 45 d 0 (λ e. omega arith) ∙ get_or-set_other s2 147 45 c 0 (λ e. omega arith) ∙ get_or-set_other s1 46 45 b 0 (λ e. omega arith) ∙ get_or-set_same p 45 a 0 (omega arith)
-
-  at-46 : word s7 46 ≡ b
-  at-46 = let m = m1 in get_or-set_other s6 154 46 g 0 (λ e. omega arith) ∙ get_or-set_other s5 153 46 f 0 (λ e. omega arith) ∙ get_or-set_other s4 152 46 e 0 (λ e. omega arith) ∙ get_or-set_other s3 151 46 d 0 (λ e. omega arith) ∙ get_or-set_other s2 147 46 c 0 (λ e. omega arith) ∙ get_or-set_same s1 46 b 0 (omega arith)
-
-  at-147 : word s7 147 ≡ c
-  at-147 = let m = m2 in get_or-set_other s6 154 147 g 0 (λ e. omega arith) ∙ get_or-set_other s5 153 147 f 0 (λ e. omega arith) ∙ get_or-set_other s4 152 147 e 0 (λ e. omega arith) ∙ get_or-set_other s3 151 147 d 0 (λ e. omega arith) ∙ get_or-set_same s2 147 c 0 (omega arith)
-
-  at-151 : word s7 151 ≡ d
-  at-151 = let m = m3 in get_or-set_other s6 154 151 g 0 (λ e. omega arith) ∙ get_or-set_other s5 153 151 f 0 (λ e. omega arith) ∙ get_or-set_other s4 152 151 e 0 (λ e. omega arith) ∙ get_or-set_same s3 151 d 0 (omega arith)
-
-  at-152 : word s7 152 ≡ e
-  at-152 = let m = m4 in get_or-set_other s6 154 152 g 0 (λ e. omega arith) ∙ get_or-set_other s5 153 152 f 0 (λ e. omega arith) ∙ get_or-set_same s4 152 e 0 (omega arith)
-
-  at-153 : word s7 153 ≡ f
-  at-153 = let m = m5 in get_or-set_other s6 154 153 g 0 (λ e. omega arith) ∙ get_or-set_same s5 153 f 0 (omega arith)
-
-  at-154 : word s7 154 ≡ g
-  at-154 = let m = m6 in get_or-set_same s6 154 g 0 (omega arith)
+stored-at : (ps : List (ℕ × ℕ)) (w : List ℕ) (j : ℕ) → j < length w → word (stored ps w) j ≡ last_at ps j (word w j)
+stored-at [] w j h = refl
+stored-at (p ∷ ps) w j h =
+    set-word (stored ps w) p.0 j p.1 (rw stored-length h) ∙ ap (λ (x : ℕ). cond (eqb j p.0) p.1 x) (stored-at ps w j h)
 
 module _ (s : IonoState) (w : List ℕ) (ok : WordsSuffice s) (room : 155 ≤ length w) where
   abbrev t1 : List ℕ
@@ -187,22 +144,27 @@ module _ (s : IonoState) (w : List ℕ) (ok : WordsSuffice s) (room : 155 ≤ le
   l6 : length p3 ≡ length w
   l6 = let l = l5 in into-length p2 148 3 s.fsecv ok.fsecv-floats.0 (omega arith) ∙ l
 
-  room-p3 : 155 ≤ length p3
-  room-p3 = let l = l6 in omega arith
+  abbrev puts : List (ℕ × ℕ)
+  puts =
+      (154, flag_of s.exact_virtual_height) ∷ (153, word_of_owner s.owner) ∷ (152, flag_of s.ielect) ∷ (151, word_of s.iedp) ∷ (147, flag_of s.htr_rises) ∷ (46, count_word s.kfx) ∷ (45, count_word s.km) ∷ []
 
   abbrev u : List ℕ
-  u = s7 p3 (count_word s.km) (count_word s.kfx) (flag_of s.htr_rises) (word_of s.iedp) (flag_of s.ielect) (word_of_owner s.owner) (flag_of s.exact_virtual_height) room-p3
+  u = stored puts p3
 
   is-u : state_into s w ≡ u
   unfolding state_into exact_into owner_into flags_into counts_into profile_into tables_into
   is-u = refl
 
   u-length : length u ≡ length w
-  u-length = m7 p3 (count_word s.km) (count_word s.kfx) (flag_of s.htr_rises) (word_of s.iedp) (flag_of s.ielect) (word_of_owner s.owner) (flag_of s.exact_virtual_height) room-p3 ∙ l6
+  u-length = stored-length puts p3 ∙ l6
+
+  u-word : (j : ℕ) → j < 155 → word u j ≡ last_at puts j (word p3 j)
+  u-word j h = let l = l6 in stored-at puts p3 j (omega arith)
 
   -- a word below 148 that is none of the seven is as p2 has it; below 97 as p1 has it; below 47 as t3 has it
   from-p3 : (j : ℕ) → (j ≡ 45 → ⊥) → (j ≡ 46 → ⊥) → (j ≡ 147 → ⊥) → j < 151 → word u j ≡ word p3 j
-  from-p3 j h1 h2 h3 h = stored_other p3 (count_word s.km) (count_word s.kfx) (flag_of s.htr_rises) (word_of s.iedp) (flag_of s.ielect) (word_of_owner s.owner) (flag_of s.exact_virtual_height) room-p3 j h1 h2 h3 (λ e. omega arith) (λ e. omega arith) (λ e. omega arith) (λ e. omega arith)
+  from-p3 j h1 h2 h3 h =
+      u-word j (omega arith) ∙ rw (ne_eqb j 154 (λ e. omega arith), ne_eqb j 153 (λ e. omega arith), ne_eqb j 152 (λ e. omega arith), ne_eqb j 151 (λ e. omega arith), ne_eqb j 147 h3, ne_eqb j 46 h2, ne_eqb j 45 h1)
 
   from-p2 : (j : ℕ) → (j ≡ 45 → ⊥) → (j ≡ 46 → ⊥) → j < 147 → word u j ≡ word p2 j
   from-p2 j h1 h2 h = let l = l5 in from-p3 j h1 h2 (λ e. omega arith) (omega arith) ∙ into-before p2 148 3 s.fsecv ok.fsecv-floats.0 (omega arith) j (omega arith)
@@ -238,25 +200,25 @@ module _ (s : IonoState) (w : List ℕ) (ok : WordsSuffice s) (room : 155 ≤ le
   fsecv-back = let l = u-length in let m = l5 in floats-are u 148 3 s.fsecv ok.fsecv-floats (omega arith) (λ i h. from-p3 (148 + i) (λ e. omega arith) (λ e. omega arith) (λ e. omega arith) (omega arith) ∙ into-same p2 148 3 s.fsecv ok.fsecv-floats.0 (omega arith) i h)
 
   km-back : word u 45 ≡ s.km
-  km-back = at-45 p3 (count_word s.km) (count_word s.kfx) (flag_of s.htr_rises) (word_of s.iedp) (flag_of s.ielect) (word_of_owner s.owner) (flag_of s.exact_virtual_height) room-p3 ∙ mod-eq_of_lt ok.km-small
+  km-back = u-word 45 (omega arith) ∙ mod-eq_of_lt ok.km-small
 
   kfx-back : word u 46 ≡ s.kfx
-  kfx-back = at-46 p3 (count_word s.km) (count_word s.kfx) (flag_of s.htr_rises) (word_of s.iedp) (flag_of s.ielect) (word_of_owner s.owner) (flag_of s.exact_virtual_height) room-p3 ∙ mod-eq_of_lt ok.kfx-small
+  kfx-back = u-word 46 (omega arith) ∙ mod-eq_of_lt ok.kfx-small
 
   rises-back : yes_of (word u 147) ≡ s.htr_rises
-  rises-back = ap yes_of (at-147 p3 (count_word s.km) (count_word s.kfx) (flag_of s.htr_rises) (word_of s.iedp) (flag_of s.ielect) (word_of_owner s.owner) (flag_of s.exact_virtual_height) room-p3) ∙ flag-back s.htr_rises
+  rises-back = ap yes_of (u-word 147 (omega arith)) ∙ flag-back s.htr_rises
 
   iedp-back : signed_of (word u 151) ≡ s.iedp
-  iedp-back = ap signed_of (at-151 p3 (count_word s.km) (count_word s.kfx) (flag_of s.htr_rises) (word_of s.iedp) (flag_of s.ielect) (word_of_owner s.owner) (flag_of s.exact_virtual_height) room-p3) ∙ signed_back s.iedp ok.iedp-small
+  iedp-back = ap signed_of (u-word 151 (omega arith)) ∙ signed_back s.iedp ok.iedp-small
 
   ielect-back : yes_of (word u 152) ≡ s.ielect
-  ielect-back = ap yes_of (at-152 p3 (count_word s.km) (count_word s.kfx) (flag_of s.htr_rises) (word_of s.iedp) (flag_of s.ielect) (word_of_owner s.owner) (flag_of s.exact_virtual_height) room-p3) ∙ flag-back s.ielect
+  ielect-back = ap yes_of (u-word 152 (omega arith)) ∙ flag-back s.ielect
 
   owner-back : owner_of_word (word u 153) ≡ s.owner
-  owner-back = ap owner_of_word (at-153 p3 (count_word s.km) (count_word s.kfx) (flag_of s.htr_rises) (word_of s.iedp) (flag_of s.ielect) (word_of_owner s.owner) (flag_of s.exact_virtual_height) room-p3) ∙ owner-read-back s.owner ok.owner-small
+  owner-back = ap owner_of_word (u-word 153 (omega arith)) ∙ owner-read-back s.owner ok.owner-small
 
   exact-back : yes_of (word u 154) ≡ s.exact_virtual_height
-  exact-back = ap yes_of (at-154 p3 (count_word s.km) (count_word s.kfx) (flag_of s.htr_rises) (word_of s.iedp) (flag_of s.ielect) (word_of_owner s.owner) (flag_of s.exact_virtual_height) room-p3) ∙ flag-back s.exact_virtual_height
+  exact-back = ap yes_of (u-word 154 (omega arith)) ∙ flag-back s.exact_virtual_height
 
   u-back : state_of u ≡ s
   unfolding state_of

@@ -6,8 +6,7 @@ use lib.Ieee.{Float}
 use Rattle.std.specs.Prelude.{Result, Ok, Err, IfOk}
 use Rattle.refusal.specs.declared.Refusal.{Refusal}
 use Rattle.scalar.specs.F32.{at}
-use Rattle.same.specs.Same.{AllF32, SameAll}
-use Rattle.same.proofs.Same.{same-is-equal}
+use Rattle.same.proofs.Same.{same-equal, all-equal}
 use Rattle.layers.specs.declared.IonoState.{IonoState}
 use Rattle.layers.specs.declared.LayerMuf.{LayerMuf}
 use Rattle.layers.specs.declared.EsParams.{EsParams}
@@ -20,9 +19,6 @@ use Rattle.call_lists.specs.SameLists.{Pairwise, SameLine, SameHour, SameRecord,
 use Rattle.statement_checks.specs.Bits.{LineF32, HourF32, RecordF32, EsF32, RowsF32, AnswerF32, SlotF32, StateF32, BitsAreAll}
 
 -- ---- lists
-
-numbers : (xs ys : List Float) → AllF32 xs → AllF32 ys → SameAll xs ys → xs ≡ ys
-numbers = same-is-equal.all-equal
 
 place : (xs ys : List Float) → xs ≡ ys → (i : ℕ) → at xs i ≡ at ys i
 place xs ys e i = ap (λ (l : List Float). at l i) e
@@ -37,33 +33,33 @@ each {A} F R f (x ∷ xs) (y ∷ ys) p q t = ap₂ (λ (z : A) (zs : List A). z 
 
 line-equal : (l m : LayerMuf) → LineF32 l → LineF32 m → SameLine l m → l ≡ m
 line-equal l m p q t =
-    let e = place (l.sigl ∷ l.sigu ∷ l.delmuf ∷ l.hpmuf ∷ l.htmuf ∷ l.fvmuf ∷ l.afmuf ∷ l.yfot ∷ l.ymuf ∷ l.yhpf ∷ []) (m.sigl ∷ m.sigu ∷ m.delmuf ∷ m.hpmuf ∷ m.htmuf ∷ m.fvmuf ∷ m.afmuf ∷ m.yfot ∷ m.ymuf ∷ m.yhpf ∷ []) (numbers _ _ p q t.0) in
+    let e = place (l.sigl ∷ l.sigu ∷ l.delmuf ∷ l.hpmuf ∷ l.htmuf ∷ l.fvmuf ∷ l.afmuf ∷ l.yfot ∷ l.ymuf ∷ l.yhpf ∷ []) (m.sigl ∷ m.sigu ∷ m.delmuf ∷ m.hpmuf ∷ m.htmuf ∷ m.fvmuf ∷ m.afmuf ∷ m.yfot ∷ m.ymuf ∷ m.yhpf ∷ []) (all-equal _ _ p q t.0) in
     λ i. record { sigl = e 0 i; sigu = e 1 i; delmuf = e 2 i; hpmuf = e 3 i; htmuf = e 4 i; fvmuf = e 5 i; afmuf = e 6 i; nhopmf = t.1 i; yfot = e 7 i; ymuf = e 8 i; yhpf = e 9 i }
 
 hour-equal : (h g : MufHour) → HourF32 h → HourF32 g → SameHour h g → h ≡ g
 hour-equal h g p q t =
-    let e = place (h.emuf ∷ h.f1muf ∷ h.f2muf ∷ h.esmuf ∷ h.allmuf ∷ h.fot ∷ h.hpf ∷ h.angmuf ∷ []) (g.emuf ∷ g.f1muf ∷ g.f2muf ∷ g.esmuf ∷ g.allmuf ∷ g.fot ∷ g.hpf ∷ g.angmuf ∷ []) (numbers _ _ p.numbers q.numbers t.0) in
+    let e = place (h.emuf ∷ h.f1muf ∷ h.f2muf ∷ h.esmuf ∷ h.allmuf ∷ h.fot ∷ h.hpf ∷ h.angmuf ∷ []) (g.emuf ∷ g.f1muf ∷ g.f2muf ∷ g.esmuf ∷ g.allmuf ∷ g.fot ∷ g.hpf ∷ g.angmuf ∷ []) (all-equal _ _ p.numbers q.numbers t.0) in
     let lines = each LineF32 SameLine line-equal h.layers g.layers p.lines q.lines t.2 in
     λ i. record { emuf = e 0 i; f1muf = e 1 i; f2muf = e 2 i; esmuf = e 3 i; allmuf = e 4 i; fot = e 5 i; hpf = e 6 i; angmuf = e 7 i; modmuf = t.1 i; layers = lines i; ks = t.3 i }
 
 record-equal : (e d : EsParams) → RecordF32 e → RecordF32 d → SameRecord e d → e ≡ d
 record-equal e d p q t =
-    let fs = numbers e.fs d.fs p.1 q.1 t.0 in
-    let hs = same-is-equal.same-equal e.hs d.hs p.0 q.0 t.1 in
+    let fs = all-equal e.fs d.fs p.1 q.1 t.0 in
+    let hs = same-equal e.hs d.hs p.0 q.0 t.1 in
     λ i. record { fs = fs i; hs = hs i }
 
 es-equal : (es ds : EsRows) → EsF32 es → EsF32 ds → SameEs es ds → es ≡ ds
-es-equal (flat es) (flat ds) p q t = ap flat (numbers es ds p q t)
+es-equal (flat es) (flat ds) p q t = ap flat (all-equal es ds p q t)
 es-equal (flat es) (records ds) p q t = absurd t
 es-equal (records es) (flat ds) p q t = absurd t
 es-equal (records es) (records ds) p q t = ap records (each RecordF32 SameRecord record-equal es ds p q t)
 
 rows-equal : (i j : Ionogram) → RowsF32 i → RowsF32 j → SameRows i j → i ≡ j
 rows-equal i j p q t =
-    let fvert = numbers i.fvert j.fvert p.fvert q.fvert t.0 in
-    let hprim = numbers i.hprim j.hprim p.hprim q.hprim t.1 in
-    let htrue = numbers i.htrue j.htrue p.htrue q.htrue t.2 in
-    let afac = numbers i.afac j.afac p.afac q.afac t.3 in
+    let fvert = all-equal i.fvert j.fvert p.fvert q.fvert t.0 in
+    let hprim = all-equal i.hprim j.hprim p.hprim q.hprim t.1 in
+    let htrue = all-equal i.htrue j.htrue p.htrue q.htrue t.2 in
+    let afac = all-equal i.afac j.afac p.afac q.afac t.3 in
     λ k. record { fvert = fvert k; hprim = hprim k; htrue = htrue k; afac = afac k; segment = t.4 k }
 
 -- ---- answers, slots, states
@@ -94,17 +90,17 @@ answer-equal (of_nominal h) (of_nominal g) p q t = ap of_nominal (result-equal H
 
 slot-equal : (p q : Slot) → SlotF32 p → SlotF32 q → SameSlot p q → p ≡ q
 slot-equal p q f g t =
-    let e = place (p.fi0 ∷ p.fi1 ∷ p.fi2 ∷ p.yi0 ∷ p.yi1 ∷ p.yi2 ∷ p.hi0 ∷ p.hi1 ∷ p.hi2 ∷ p.fsec ∷ []) (q.fi0 ∷ q.fi1 ∷ q.fi2 ∷ q.yi0 ∷ q.yi1 ∷ q.yi2 ∷ q.hi0 ∷ q.hi1 ∷ q.hi2 ∷ q.fsec ∷ []) (numbers _ _ f g t) in
+    let e = place (p.fi0 ∷ p.fi1 ∷ p.fi2 ∷ p.yi0 ∷ p.yi1 ∷ p.yi2 ∷ p.hi0 ∷ p.hi1 ∷ p.hi2 ∷ p.fsec ∷ []) (q.fi0 ∷ q.fi1 ∷ q.fi2 ∷ q.yi0 ∷ q.yi1 ∷ q.yi2 ∷ q.hi0 ∷ q.hi1 ∷ q.hi2 ∷ q.fsec ∷ []) (all-equal _ _ f g t) in
     λ i. record { fi0 = e 0 i; fi1 = e 1 i; fi2 = e 2 i; yi0 = e 3 i; yi1 = e 4 i; yi2 = e 5 i; hi0 = e 6 i; hi1 = e 7 i; hi2 = e 8 i; fsec = e 9 i }
 
 state-equal : (u v : IonoState) → StateF32 u → StateF32 v → SameState u v → u ≡ v
 state-equal u v p q t =
-    let fi = numbers u.fi v.fi p.fi q.fi t.fi-same in
-    let yi = numbers u.yi v.yi p.yi q.yi t.yi-same in
-    let hi = numbers u.hi v.hi p.hi q.hi t.hi-same in
-    let htr = numbers u.htr v.htr p.htr q.htr t.profile-same.0 in
-    let fnsq = numbers u.fnsq v.fnsq p.fnsq q.fnsq t.profile-same.1 in
-    let fsecv = numbers u.fsecv v.fsecv p.fsecv q.fsecv t.fsecv-same in
+    let fi = all-equal u.fi v.fi p.fi q.fi t.fi-same in
+    let yi = all-equal u.yi v.yi p.yi q.yi t.yi-same in
+    let hi = all-equal u.hi v.hi p.hi q.hi t.hi-same in
+    let htr = all-equal u.htr v.htr p.htr q.htr t.profile-same.0 in
+    let fnsq = all-equal u.fnsq v.fnsq p.fnsq q.fnsq t.profile-same.1 in
+    let fsecv = all-equal u.fsecv v.fsecv p.fsecv q.fsecv t.fsecv-same in
     λ i. record {
       fi = fi i;
       yi = yi i;

@@ -14,16 +14,10 @@ use Rattle.layers.specs.declared.IonoState.{IonoState}
 use Rattle.layers.specs.declared.LayerMuf.{LayerMuf}
 use Rattle.layer_mufs.specs.declared.PathNumbers.{PathNumbers}
 use Rattle.call_lists.specs.Calls.{EsRows, Call, a_muf, a_sheet, a_nominal, answered, picked_slot}
-use Rattle.call_lists.specs.Lists.{Every}
 use Rattle.call_lists.specs.PaperWords.{is_muf, is_sheet_of, mufs_in, sheets_in, InWords}
+use Rattle.call_lists.proofs.PaperWords.{every-so}
+use Rattle.std.proofs.lemmas.Bool.{false≢true, and_right}
 use Rattle.statement_checks.specs.Words.{WordsAsRead, MarkStands}
-
-false-true : false ≡ true → ⊥
-false-true e = let z : ◌≡◌ {A = ℕ} 0 1 = ap one_if e in omega arith
-
-every-so : {A : Type 0} (P Q : A → Type 0) (xs : List A) → Every P xs → ((x : A) → P x → Q x) → Every Q xs
-every-so P Q [] p f = tt
-every-so P Q (x ∷ xs) p f = (f x p.0, every-so P Q xs p.1 f)
 
 one-most : (b : Bool) → one_if b ≤ 1
 one-most true = omega arith
@@ -31,27 +25,17 @@ one-most false = omega arith
 
 -- ---- a call that is neither counted as a MUF nor as a sheet
 
-added : (a n m : ℕ) → a ≡ 0 → n ≤ m → a + n ≤ m
-added a n m e h = omega arith
-
-added-zero : (a n : ℕ) → a ≡ 0 → n ≡ 0 → a + n ≡ 0
-added-zero a n e h = omega arith
-
 kept : (s : IonoState) (c : Call) (calls : List Call) → is_muf c ≡ false → ((k : ℕ) → is_sheet_of s k c ≡ false) → InWords s calls → InWords s (c ∷ calls)
 unfolding mufs_in sheets_in
 kept s c calls m n w =
     record {
-      one-muf = added (one_if (is_muf c)) (mufs_in calls) 1 (ap one_if m) w.one-muf;
-      one-sheet = λ k. added (one_if (is_sheet_of s k c)) (sheets_in s k calls) 1 (ap one_if (n k)) (w.one-sheet k);
+      one-muf = omega (arith, ap one_if m);
+      one-sheet = λ k. omega (arith, ap one_if (n k), w.one-sheet k);
       none-of-its-pick = (
-        λ e k p. absurd (false-true (sym m ∙ e)),
-        every-so _ _ calls w.none-of-its-pick (λ d h e k p. added-zero (one_if (is_sheet_of s k c)) (sheets_in s k calls) (ap one_if (n k)) (h e k p)),
+        λ e k p. absurd (false≢true (sym m ∙ e)),
+        every-so _ _ calls w.none-of-its-pick (λ d h e k p. omega (arith, ap one_if (n k), h e k p)),
       );
     }
-
-and-false : (b c : Bool) → c ≡ false → (b && c) ≡ false
-and-false true c e = e
-and-false false c e = refl
 
 -- ---- two calls
 
@@ -75,7 +59,7 @@ muf-and-sheet s es f2d clat clck c k nang layers cells h =
       one-sheet = λ i. let z = one-most (eqb k i && a) in omega arith;
       none-of-its-pick = (
         λ e i p. let z = other k i (eqb k i) a refl (λ (d : k ≡ i). h (p ∙ ap Some (sym d))) in omega arith,
-        (λ e i p. absurd (false-true e), tt),
+        (λ e i p. absurd (false≢true e), tt),
       );
     }
 
@@ -85,14 +69,14 @@ two-sheets s j k m n layers lines cells rows h =
     record {
       one-muf = omega arith;
       one-sheet = λ i. one_of j k i (eqb j i) (eqb k i) (answered s (a_sheet j m layers cells)) (answered s (a_sheet k n lines rows)) refl refl h;
-      none-of-its-pick = (λ e i p. absurd (false-true e), (λ e i p. absurd (false-true e), tt));
+      none-of-its-pick = (λ e i p. absurd (false≢true e), (λ e i p. absurd (false≢true e), tt));
     }
 
 pub words-as-read : WordsAsRead
 words-as-read =
     record {
       nominal = λ s calls points f2m3 es km gcd gcdkm w. kept s (a_nominal points f2m3 es km gcd gcdkm) calls refl (λ k. refl) w;
-      refused = λ s calls k nang layers cells e w. kept s (a_sheet k nang layers cells) calls refl (λ i. and-false (eqb k i) (answered s (a_sheet k nang layers cells)) e) w;
+      refused = λ s calls k nang layers cells e w. kept s (a_sheet k nang layers cells) calls refl (λ i. and_right (eqb k i) (answered s (a_sheet k nang layers cells)) e) w;
       muf-and-sheet = muf-and-sheet;
       two-sheets = two-sheets;
     }

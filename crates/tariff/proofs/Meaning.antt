@@ -4,13 +4,14 @@ use mathlib.Core.List.{List, [], ◌∷◌}
 use mathlib.Core.Path.{◌≡◌, refl, ap, sym}
 use Prim.Native.Nat.{ℕ, zero, suc, ◌+◌, ◌*◌, ◌/◌, ◌%◌, ◌≤◌, ◌<◌}
 use native.Mathlib.Nat.{le_antisymm, mul-le-mul}
-use native.Mathlib.Numerals.{add-one}
+use native.Mathlib.Numerals.{add-one, one-add}
 use native.Mathlib.Omega.{arith}
 use borrow.Author.Tests.{leb-true, leb-false, ltb-true, le-leb, lt-leb, lt-ltb, eqb-true, eqb-false, eq-eqb}
 use lib.Dec.{eqb, leb, ltb}
 use lib.Ieee.{Float}
 use lib.ListN.{length, get_or}
-use Rattle.std.specs.Prelude.{Some, Ok, Err}
+use Rattle.std.specs.Prelude.{Ok, Err}
+use Rattle.std.specs.Option.{ok_or}
 use Rattle.std.specs.Int.{div_ceil}
 use Rattle.std.specs.List.{list_all, position_or_len, IsAllAdjacentAnswer}
 use Rattle.std.proofs.Math.Bool.{and-false}
@@ -67,16 +68,16 @@ rising-by xs false h = let t : ltb (get_or xs h.0 0) (get_or xs (h.0 + 1) 0) ≡
 
 -- ---- the band
 
-suc-one : (k : ℕ) → suc k ≡ 1 + k
-suc-one k = omega arith
-
 pub first-position : (n : ℕ) (tops : List ℕ) → first_band n tops ≡ position_or_len (λ top. leb n top) tops
 unfolding first_band
-first-position n tops = is_position_or_len (first_band n) (λ top. leb n top) refl (λ _ tops. rw (suc-one (first_band n tops))) tops
+first-position n tops = is_position_or_len (first_band n) (λ top. leb n top) refl (λ _ tops. rw (sym (one-add (first_band n tops)))) tops
 
 -- the band found is one of the tariff's, and the first
-pub band-in : (n : ℕ) (tops : List ℕ) (band : ℕ) → Some band ≡ band_of n tops → (band < length tops) × (band ≡ first_band n tops)
-band-in n tops band e = grind (arith, nat_tests)
+pub band-in : (n : ℕ) (tops : List ℕ) (band : ℕ) (r : Refusal) → Ok band ≡ ok_or (band_of n tops) r → (band < length tops) × (band ≡ first_band n tops)
+band-in n tops band r e = grind (arith, nat_tests)
+
+pub no-band : (n : ℕ) (tops : List ℕ) (r s : Refusal) → Err s ≡ ok_or (band_of n tops) r → (s ≡ r) × (ltb (first_band n tops) (length tops) ≡ false)
+no-band n tops r s e = grind (arith, nat_tests)
 
 pub first-is : (n : ℕ) (tops : List ℕ) → first_band n tops < length tops → FirstBand n tops (first_band n tops)
 unfolding first_band

@@ -53,8 +53,3 @@ printed_price Printed.NotANumber tops rates seconds = Err Refusal.Tariff
 unfoldable pub price_of : Float → List ℕ → List ℕ → ℕ → Result ℕ Refusal
 price_of muf tops rates seconds =
     cond (tariff_good tops rates) (printed_price (figure_of muf) tops rates seconds) (Err Refusal.Tariff)
-
--- the cents, none beside a refusal
-abbrev pub charge_values : Result ℕ Refusal → List ℕ
-charge_values (Ok n) = n ∷ []
-charge_values (Err r) = []

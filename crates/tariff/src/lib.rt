@@ -16,6 +16,8 @@ fn all_within(most: u32, xs: &[u32]) -> bool
     xs.iter().all(|x| *x <= most)
 }
 
+// Stays: `rises` of `traces` and `rises_throughout` of `profile` are this one call too, the latter on floats; one function for
+// them would make one crate stand on another, or be a crate.
 fn rises(tops: &[u32]) -> bool
     ensures { result ≡ rising tops.now }
 {
@@ -52,9 +54,7 @@ fn figure_price(tenths: u32, tops: &[u32], rates: &[u32], seconds: u32) -> Resul
     requires { tariff_good tops.now rates.now ≡ true }
     ensures { result ≡ figure_price tenths tops.now rates.now seconds }
 {
-    let Some(band) = first_band(tenths, tops) else {
-        return Err(Refusal::Tariff);
-    };
+    let band = first_band(tenths, tops).ok_or(Refusal::Tariff)?;
     if !(1..=86400).contains(&seconds) {
         return Err(Refusal::Seconds);
     }

@@ -13,8 +13,3 @@ prices_good (p ∷ ps) = leb p 14400000 && prices_good ps
 
 unfoldable pub total_of : List ℕ → Result ℕ Refusal
 total_of ps = cond (leb (length ps) 256 && prices_good ps) (Ok (sum_of ps)) (Err Refusal.Prices)
-
--- the cents, none beside a refusal
-abbrev pub total_values : Result ℕ Refusal → List ℕ
-total_values (Ok n) = n ∷ []
-total_values (Err r) = []

@@ -6,19 +6,20 @@ use mathlib.Core.List.{List}
 use native.Mathlib.Omega.{arith}
 use lib.IntN.{ℤ}
 use lib.ListN.{length}
+use Rattle.std.specs.Result.{result_unwrap_or}
 use Rattle.trace_lines.specs.Lines.{trace_lines}
-use Rattle.traces.specs.Lines.{ready, compared_by, compared_of, count_in}
+use Rattle.traces.specs.Lines.{ready, compared_by, compared_of}
 use Rattle.trace_lines.specs.declared.Line.{Line}
 use Rattle.traces.proofs.Answers.{ready-facts}
 use Rattle.trace_laws.proofs.OnlyLines.{lines-count}
 
 few-by : (t : Bool) (ls : List Line) (khz which : List ℕ) (difference : List ℤ) → (t ≡ true → length ls ≤ 1024)
-    → count_in (compared_by t ls khz which difference).answer ≤ 1024
+    → result_unwrap_or (compared_by t ls khz which difference).answer 0 ≤ 1024
 few-by true ls khz which difference h = h refl
 few-by false ls khz which difference h = omega arith
 
 pub few-lines : (a ah b bh khz which : List ℕ) (difference : List ℤ)
-    → count_in (compared_of a ah b bh khz which difference).answer ≤ 1024
+    → result_unwrap_or (compared_of a ah b bh khz which difference).answer 0 ≤ 1024
 unfolding compared_of
 few-lines a ah b bh khz which difference =
     few-by (ready a ah b bh khz which difference) (trace_lines a ah b bh) khz which difference

@@ -36,8 +36,3 @@ compared_by false ls khz which difference =
 unfoldable pub compared_of : List ℕ → List ℕ → List ℕ → List ℕ → List ℕ → List ℕ → List ℤ → Compared
 compared_of a ah b bh khz which difference =
     compared_by (ready a ah b bh khz which difference) (trace_lines a ah b bh) khz which difference
-
--- the count of lines, for every case of the answer
-abbrev pub count_in : Result ℕ Refusal → ℕ
-count_in (Ok n) = n
-count_in (Err r) = 0

@@ -9,6 +9,7 @@ ghost use Rattle.traces.specs.Lines.{column, ready as ready_of, compared_of};
 use refusal::Refusal;
 
 // Whether each number is below the next.
+// Stays: as `rises` of `tariff`, where it is said why.
 pub fn rises(khz: &[u32]) -> bool
     ensures { result ≡ rises_of khz.now }
 {

@@ -3,9 +3,7 @@
 // Stays: a trial's `name` and its `file` are two texts, each of its own length.
 #![tactic(auto)]
 
-use trial_files::{
-    Form, first, first_bytes, permuted, points, record, smallest, steps, with_deciles,
-};
+use trial_files::{File, Form, first_bytes, permuted, points, steps};
 
 // A refusal is shorter than a record; of a file its chain is shown.
 fn show(old: &[u8]) {
@@ -23,7 +21,7 @@ fn print(name: &[u8], file: &[u8]) {
 }
 
 fn lengths() {
-    let f = smallest(Form::New);
+    let f = File::smallest(Form::New);
     print(b"no bytes\n", &f.bytes[..0]);
     print(b"128 bytes\n", &f.bytes[..128]);
     print(b"255 bytes\n", &f.bytes[..255]);
@@ -35,65 +33,65 @@ fn lengths() {
 }
 
 fn first_record() {
-    let mut kind = smallest(Form::New);
+    let mut kind = File::smallest(Form::New);
     kind.bytes[0] = 1;
-    print(b"kind 1\n", first(&kind, 2));
+    print(b"kind 1\n", kind.first(2));
     first_bytes(Form::New, print);
-    let mut added = smallest(Form::New);
+    let mut added = File::smallest(Form::New);
     added.bytes[64] = 1;
-    print(b"byte 64 of record 0\n", first(&added, 2));
-    let mut last = smallest(Form::New);
+    print(b"byte 64 of record 0\n", added.first(2));
+    let mut last = File::smallest(Form::New);
     last.bytes[127] = 1;
-    print(b"byte 127 of record 0\n", first(&last, 2));
+    print(b"byte 127 of record 0\n", last.first(2));
 }
 
 fn records() {
     points(Form::New, print);
-    let mut after = smallest(Form::New);
+    let mut after = File::smallest(Form::New);
     after.bytes[128 + 68] = 1;
-    print(b"byte 68 of a point\n", first(&after, 2));
-    let mut last = smallest(Form::New);
+    print(b"byte 68 of a point\n", after.first(2));
+    let mut last = File::smallest(Form::New);
     last.bytes[128 + 127] = 1;
-    print(b"byte 127 of a point\n", first(&last, 2));
+    print(b"byte 127 of a point\n", last.first(2));
 }
 
 fn decile_records() {
-    let mut padded = with_deciles(Form::New, 48);
+    let mut padded = File::with_deciles(Form::New, 48);
     padded.bytes[128 * 2 + 52] = 1;
-    print(b"byte 52 of a decile record\n", first(&padded, 50));
-    let mut added = with_deciles(Form::New, 48);
+    print(b"byte 52 of a decile record\n", padded.first(50));
+    let mut added = File::with_deciles(Form::New, 48);
     added.bytes[128 * 2 + 64] = 1;
-    print(b"byte 64 of a decile record\n", first(&added, 50));
-    let few = with_deciles(Form::New, 47);
-    print(b"47 decile records\n", first(&few, 49));
-    let more = with_deciles(Form::New, 49);
-    print(b"49 decile records\n", first(&more, 51));
-    let mut zero = with_deciles(Form::New, 48);
+    print(b"byte 64 of a decile record\n", added.first(50));
+    let few = File::with_deciles(Form::New, 47);
+    print(b"47 decile records\n", few.first(49));
+    let more = File::with_deciles(Form::New, 49);
+    print(b"49 decile records\n", more.first(51));
+    let mut zero = File::with_deciles(Form::New, 48);
     zero.bytes[128 * 49 + 51] = 0;
-    print(b"48 decile records, all +0\n", first(&zero, 50));
-    let all = with_deciles(Form::New, 48);
-    print(b"48 decile records\n", first(&all, 50));
+    print(b"48 decile records, all +0\n", zero.first(50));
+    let all = File::with_deciles(Form::New, 48);
+    print(b"48 decile records\n", all.first(50));
 }
 
 fn f2m3() {
-    let mut one = smallest(Form::New);
+    let mut one = File::smallest(Form::New);
     one.bytes[128 + 64] = 1;
-    print(b"F2M3 00000001\n", first(&one, 2));
-    let mut minus = smallest(Form::New);
+    print(b"F2M3 00000001\n", one.first(2));
+    let mut minus = File::smallest(Form::New);
     minus.bytes[128 + 67] = 128;
-    print(b"F2M3 80000000\n", first(&minus, 2));
-    let mut astray = record(minus, 1, 2, 2);
+    print(b"F2M3 80000000\n", minus.first(2));
+    let mut astray = minus.record(1, 2, 2);
     astray.bytes[4] = 2;
-    print(b"F2M3, then astray\n", first(&astray, 2));
+    print(b"F2M3, then astray\n", astray.first(2));
     let mut short = minus;
     short.bytes[4] = 2;
-    print(b"F2M3, chain too short\n", first(&short, 2));
+    print(b"F2M3, chain too short\n", short.first(2));
     let mut after = minus;
     after.bytes[128 + 68] = 1;
-    print(b"F2M3 and byte 68\n", first(&after, 2));
-    let mut aside = record(smallest(Form::New), 2, 2, 0);
+    print(b"F2M3 and byte 68\n", after.first(2));
+    let mut aside = File::smallest(Form::New).record(2, 2, 0);
     aside.bytes[256 + 64] = 1;
-    print(b"F2M3 off the chain\n", first(&aside, 3));
+    print(b"F2M3 off the chain\n", aside.first(3));
 }
 
 // An old file of record 0, one point and a record off the chain.

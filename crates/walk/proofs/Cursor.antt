@@ -4,11 +4,12 @@ use mathlib.Core.Logic.{inl, inr}
 use mathlib.Core.Bool.{Bool, true, false, not, ◌||◌}
 use mathlib.Core.List.{List}
 use Prim.Native.Nat.{ℕ, zero, suc, ◌+◌, ◌≤◌, ◌<◌, zero-le}
-use native.Mathlib.Nat.{le_trans, le_of_eq, le_refl, le_antisymm, eq-or-lt_of_le, lt_irrefl}
+use native.Mathlib.Nat.{le_trans, le_of_eq, le_refl, le_antisymm, add-le-add, eq-or-lt_of_le, lt_irrefl}
+use native.Mathlib.Numerals.{add-one-le}
 use native.Mathlib.Omega.{arith}
 use lib.Dec.{T, not_T, T_not}
 use lib.Ieee.{Float, nan, inf, fin, binary32, lt, le, fits, is_nan}
-use Rattle.order.proofs.Chains.{lt→le, le-le, lt-le}
+use Rattle.std.proofs.lemmas.Float.{le_of_lt, lt_of_lt_of_le, le_trans as le-le}
 use Rattle.scalar.specs.F32.{at}
 use Rattle.readings.specs.Cursor.{one_if, count_from, count_of, on_by, climb_from}
 use Rattle.walk.specs.Walk.{EachF32, Rising}
@@ -22,7 +23,7 @@ pub record Stops (htr : List Float) (z : Float) (n i c : ℕ) : Type 0 where
 
 -- above a height that is not at or below z there is none
 still : (htr : List Float) (z : Float) → EachF32 htr → T (fits binary32 z) → (i : ℕ) → T (lt (at htr i) (at htr (i + 1))) → T (not (le (at htr i) z)) → T (not (le (at htr (i + 1)) z))
-still htr z H F i r h = not_T (le (at htr (i + 1)) z) (λ (k : T (le (at htr (i + 1)) z)). T_not (le (at htr i) z) h (lt→le binary32 (at htr i) z (H i) F (lt-le binary32 (at htr i) (at htr (i + 1)) z (H i) (H (i + 1)) F r k)))
+still htr z H F i r h = not_T (le (at htr (i + 1)) z) (λ (k : T (le (at htr (i + 1)) z)). T_not (le (at htr i) z) h (le_of_lt (at htr i) z (lt_of_lt_of_le (at htr i) (at htr (i + 1)) z r k)))
 
 none_after : (htr : List Float) (z : Float) → EachF32 htr → T (fits binary32 z) → Rising htr → (n i : ℕ) → i + n ≡ 49 → T (not (le (at htr i) z)) → count_from htr z n i ≡ 0
 unfolding count_from
@@ -67,15 +68,12 @@ one_more : (htr : List Float) (z : Float) (n i c : ℕ) → T (le (at htr (i + 1
 one_more htr z n i c h s = record {
   from = omega arith;
   upto = room i c n s.upto;
-  past = λ j p k. elim (eq-or-lt_of_le p) [ inl e ↦ subst (λ (w : ℕ). T (le (at htr (w + 1)) z)) e h | inr l ↦ s.past j (next i j l) (within i j c k) ];
+  past = λ j p k. elim (eq-or-lt_of_le p) [ inl e ↦ subst (λ (w : ℕ). T (le (at htr (w + 1)) z)) e h | inr l ↦ s.past j (add-one-le l) (within i j c k) ];
   stop = λ k. subst (λ (w : ℕ). T (not (le (at htr (w + 1)) z))) (same i c) (s.stop (below i c n k));
 }
   where
     room : (i c n : ℕ) → i + 1 + c ≤ i + 1 + n → i + (1 + c) ≤ i + suc n
     room i c n h = omega arith
-
-    next : (i j : ℕ) → i < j → i + 1 ≤ j
-    next i j h = omega arith
 
     within : (i j c : ℕ) → j < i + (1 + c) → j < i + 1 + c
     within i j c h = omega arith
@@ -120,11 +118,8 @@ climb-finds htr z c s (suc n) i e h = go (le (at htr (i + 1)) z) (λ t. t) (λ t
     fell : i ≡ c → T (le (at htr (i + 1)) z) → ⊥
     fell q t = T_not (le (at htr (c + 1)) z) (s.stop (omega arith)) (subst (λ (w : ℕ). T (le (at htr (w + 1)) z)) q t)
 
-    next : i < c → i + 1 ≤ c
-    next l = omega arith
-
     go : (b : Bool) → (T b → T (le (at htr (i + 1)) z)) → (T (not b) → T (not (le (at htr (i + 1)) z))) → (i + 1 ≤ c → climb_from htr z n (i + 1) ≡ c) → on_by b i (climb_from htr z n (i + 1)) ≡ c
-    go true p q o = elim (eq-or-lt_of_le h) [ inl x ↦ absurd (fell x (p tt)) | inr l ↦ o (next l) ]
+    go true p q o = elim (eq-or-lt_of_le h) [ inl x ↦ absurd (fell x (p tt)) | inr l ↦ o (add-one-le l) ]
     go false p q o = elim (eq-or-lt_of_le h) [ inl x ↦ x | inr l ↦ absurd (T_not (le (at htr (i + 1)) z) (q tt) (s.past i zero-le l)) ]
 
 -- ---- the count never falls as z rises, and of a NaN it is none
@@ -151,11 +146,7 @@ count-le : (htr : List Float) (z y : Float) → EachF32 htr → T (fits binary32
 unfolding count_from
 count-le htr z y H F G h zero i = le_refl 0
 count-le htr z y H F G h (suc n) i =
-    both (one_if (le (at htr (i + 1)) z)) (one_if (le (at htr (i + 1)) y)) (count_from htr z n (i + 1)) (count_from htr y n (i + 1))
-    (one-mono (le (at htr (i + 1)) z) (le (at htr (i + 1)) y) (λ t. le-le binary32 (at htr (i + 1)) z y (H (i + 1)) F G t h)) (count-le htr z y H F G h n (i + 1))
-  where
-    both : (a b c d : ℕ) → a ≤ b → c ≤ d → a + c ≤ b + d
-    both a b c d p q = omega arith
+    add-le-add (one-mono (le (at htr (i + 1)) z) (le (at htr (i + 1)) y) (λ t. le-le (at htr (i + 1)) z y t h)) (count-le htr z y H F G h n (i + 1))
 
 pub count-mono : (htr : List Float) (z y : Float) → EachF32 htr → T (fits binary32 z) → T (fits binary32 y) → T (is_nan z || le z y) → count_of htr z ≤ count_of htr y
 unfolding is_nan

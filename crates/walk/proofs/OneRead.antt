@@ -9,11 +9,12 @@ use native.Mathlib.Nat.{le_trans, le_of_eq, le_refl, eq-or-lt_of_le}
 use native.Mathlib.Omega.{arith}
 use lib.Dec.{T, ltb, lt→ltb, not_T}
 use lib.Ieee.{Float, nan, inf, fin, binary32, lt, le, fits, sub}
+use lib.Ieee.Bits.{is_true, is_false}
 use lib.Ieee.Fits.{and_l, and_i}
 use Rattle.scalar.specs.F32.{◌-f◌, at}
 use Rattle.scalar.specs.Literals.{f0}
-use Rattle.order.proofs.Tests.{nought-is, sub-lt, sub-le, same_inf, le-real, lt-real}
-use Rattle.order.proofs.Chains.{lt→le, le-lt, lt-le, lt_not_le, not-le-lt}
+use Rattle.order.proofs.Tests.{nought-is, sub-lt, sub-le, same_inf}
+use Rattle.std.proofs.lemmas.Float.{le_of_lt, lt_of_le_of_lt, lt_of_lt_of_le, lt_of_not-le, lt_irrefl, le_right}
 use borrow.Author.Tests.{ltb-false}
 use Rattle.readings.specs.Scan.{segment_number, interpolated, segment_of, or_on, scan_from, reading_by, reading_of}
 use Rattle.readings.specs.Cursor.{count_of, stopped_by, stopped_at, read_on_by, read_on_of}
@@ -23,14 +24,6 @@ use Rattle.readings.specs.declared.Reading.TheVariants.{Floor, Top}
 use Rattle.readings.specs.declared.Read.{Read}
 use Rattle.walk.specs.Walk.{EachF32, Rising, scanned_read}
 use Rattle.walk.proofs.Cursor.{Stops, count-stops, climb-finds}
-
-is_true : (b : Bool) → T b → b ≡ true
-is_true true t = refl
-is_true false t = absurd t
-
-is_false : (b : Bool) → T (not b) → b ≡ false
-is_false true t = absurd t
-is_false false t = refl
 
 -- ---- the tests on differences, at f32
 pub less : (x y : Float) → T (fits binary32 x) → T (fits binary32 y) → lt (x -f y) f0 ≡ lt x y
@@ -61,11 +54,11 @@ rises-so x0 x1 y0 y1 z p q h = rw (less x0 x1 p q ∙ is_true (lt x0 x1) h)
 missed : (x0 x1 y0 y1 z : Float) → T (fits binary32 x0) → T (fits binary32 x1) → T (fits binary32 z) → T (lt x0 x1) → T (le x1 z) → segment_of x0 x1 y0 y1 z ≡ None
 unfolding rising
 missed x0 x1 y0 y1 z p q r h k =
-    let l = lt-le binary32 x0 x1 z p q r h k in
+    let l = lt_of_lt_of_le x0 x1 z h k in
     let y = interpolated x0 x1 y0 y1 z in
     rises-so x0 x1 y0 y1 z p q h
-    ∙ ap (λ (b : Bool). rising b (lt (z -f x1) f0) y) (upto x0 z p r ∙ is_true (le x0 z && not (same_inf x0 z)) (and_i (le x0 z) (not (same_inf x0 z)) (lt→le binary32 x0 z p r l) (lt-not-same x0 z l)))
-    ∙ ap (λ (b : Bool). rising true b y) (less z x1 r q ∙ is_false (lt z x1) (not_T (lt z x1) (λ (t : T (lt z x1)). lt_not_le binary32 z x1 r q t k)))
+    ∙ ap (λ (b : Bool). rising b (lt (z -f x1) f0) y) (upto x0 z p r ∙ is_true (le x0 z && not (same_inf x0 z)) (and_i (le x0 z) (not (same_inf x0 z)) (le_of_lt x0 z l) (lt-not-same x0 z l)))
+    ∙ ap (λ (b : Bool). rising true b y) (less z x1 r q ∙ is_false (lt z x1) (not_T (lt z x1) (λ (t : T (lt z x1)). lt_irrefl z (lt_of_lt_of_le z x1 z t k))))
 
 held : (x0 x1 y0 y1 z : Float) → T (fits binary32 x0) → T (fits binary32 x1) → T (fits binary32 z) → T (lt x0 x1) → T (not (le x1 z)) → segment_of x0 x1 y0 y1 z ≡ Some (interpolated x0 x1 y0 y1 z)
 unfolding rising
@@ -73,7 +66,7 @@ held x0 x1 y0 y1 z p q r h k = rises-so x0 x1 y0 y1 z p q h ∙ go (le (x0 -f z)
   where
     go : (b : Bool) → (T b → T (le x0 z)) → rising b (lt (z -f x1) f0) (interpolated x0 x1 y0 y1 z) ≡ Some (interpolated x0 x1 y0 y1 z)
     go false f = refl
-    go true f = ap (λ (b : Bool). rising true b (interpolated x0 x1 y0 y1 z)) (less z x1 r q ∙ is_true (lt z x1) (not-le-lt binary32 x1 z q r (lt-real x0 x1 h).1 (le-real x0 z (f tt)).1 k))
+    go true f = ap (λ (b : Bool). rising true b (interpolated x0 x1 y0 y1 z)) (less z x1 r q ∙ is_true (lt z x1) (lt_of_not-le x1 z (le_right x0 x1 (le_of_lt x0 x1 h)) (le_right x0 z (f tt)) k))
 
 -- ---- the scan stops where the cursor does
 scan-reads : (htr fnsq : List Float) (z : Float) (c : ℕ) → EachF32 htr → T (fits binary32 z) → Rising htr → Stops htr z 49 0 c → (n i : ℕ) → i + n ≡ 49 → i ≤ c → scan_from htr fnsq z n i ≡ stopped_at htr fnsq z c
@@ -111,11 +104,11 @@ floor-none : (htr : List Float) (z : Float) → EachF32 htr → T (fits binary32
 floor-none htr z H F r t = go (count_of htr z) (count-stops htr z H F r)
   where
     below : T (lt z (at htr 1))
-    below = le-lt binary32 z (at htr 0) (at htr 1) F (H 0) (H 1) (and_l (le z (at htr 0)) (not (same_inf z (at htr 0))) (subst (λ (b : Bool). T b) (upto z (at htr 0) F (H 0)) t)) (r 0 (omega arith))
+    below = lt_of_le_of_lt z (at htr 0) (at htr 1) (and_l (le z (at htr 0)) (not (same_inf z (at htr 0))) (subst (λ (b : Bool). T b) (upto z (at htr 0) F (H 0)) t)) (r 0 (omega arith))
 
     go : (c : ℕ) → Stops htr z 49 0 c → c ≤ 0
     go zero s = le_refl 0
-    go (suc c) s = absurd (lt_not_le binary32 z (at htr 1) F (H 1) below (s.past 0 zero-le (omega arith)))
+    go (suc c) s = absurd (lt_irrefl z (lt_of_lt_of_le z (at htr 1) z below (s.past 0 zero-le (omega arith))))
 
 -- from any cursor up to the count: the scan's reading, and the count for a cursor
 pub read-is-scan : (htr fnsq : List Float) (z : Float) (i : ℕ) → EachF32 htr → T (fits binary32 z) → Rising htr → i ≤ count_of htr z → read_on_of htr fnsq z i ≡ scanned_read htr fnsq z

@@ -14,6 +14,7 @@ use Rattle.walk.specs.Walk.{EachF32, Rising, Orderly, cursor_before, walk_read, 
 use Rattle.walk.proofs.Cursor.{count-mono, count-bound}
 use Rattle.walk.proofs.OneRead.{read-is-scan, segment-counts}
 
+-- `distance` is `gap` of rounding, said again: this rule and the edit `moves_on_only` are of what the moves here sum
 pub distance-rule : DistanceRule
 distance-rule a b = (λ h. omega arith, λ h. omega arith)
 

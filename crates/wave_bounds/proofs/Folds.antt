@@ -1,12 +1,12 @@
 -- From the sine at the small angle r / 2 ^ 61 to the sine or the cosine at the angle x / 2 ^ 61 that was folded onto it: every partial sum with 18 terms or more at x is as close as those at r, but for 2 ^ -55.
 use mathlib.Core.Path.{◌≡◌, ap}
 use Prim.Native.Nat.{ℕ, ◌+◌, ◌*◌, ◌^◌, ◌≤◌, ◌<◌}
-use native.Mathlib.Nat.{le_trans, le_refl, mul-le-mul, mul-le-mul_left, mul-le-mul_right, le_of_mul-le-mul_right, pow-le-pow_left}
+use native.Mathlib.Nat.{le_trans, le_refl, le-add_right, mul-le-mul, mul-le-mul_left, mul-le-mul_right, le_of_mul-le-mul_right, pow-le-pow_left}
 use native.Mathlib.Omega.{arith}
 use lib.Dec.{lit<, lit≤}
 use lib.Pow.{pow_pos}
 use Rattle.series.specs.Series.{Close, Kind, sine, cosine, full}
-use Rattle.series.proofs.Pairs.{sums, Limit, Ksin, Kcos, shift, top, bottom, Kat, den_pos, sin-pos, cos-pos}
+use Rattle.series.proofs.Pairs.{sums, Limit, Ksin, Kcos, shift, start, Kat, den_pos, sin-pos, cos-pos}
 use Rattle.series.proofs.Addition.{full-pos}
 use Rattle.series.proofs.Alternating.{limit}
 use Rattle.exact.proofs.Enclosure.{sine-pairs, cosine-pairs}
@@ -93,11 +93,7 @@ falls n h o k l = le_trans (mul-le-mul h h) (le_trans (lit≤ tt) (mul-le-mul_le
         four' : (o k : ℕ) → 2 * 9 ≤ k → 4 ≤ 2 * k + (o + 2)
         four' o k l = omega arith
 
--- the classes that the sine, or the cosine, is the difference of
-abbrev pub first : Kind → ℕ
-first sine = 1
-first cosine = 0
-
+-- the sine, or the cosine, is the class of number `shift` less this one
 abbrev pub second : Kind → ℕ
 second sine = 3
 second cosine = 2
@@ -109,13 +105,10 @@ module _ (n : ℕ) (h : n ≤ 2 ^ 63) (a b u : ℕ) where
       let s' = sums Ksin n (2 ^ 61) n (2 ^ 61) 16 in
       let w = sine-pairs n (2 ^ 61) 9 (pow_pos 61) h (lit≤ tt) 16 (lit≤ tt) in
       let e = sin-parts n in
-      let B = between s.plus s.minus s.next s.den s'.plus s'.minus s'.next s'.den (part 1 n) (part 3 n) whole s'.plus (den_pos Ksin sin-pos n (2 ^ 61) n (2 ^ 61) (pow_pos 61) (pow_pos 61) 16) w.0 w.1 (le_refl s'.plus) (less s'.plus s'.next) e.0 e.1 in
+      let B = between s.plus s.minus s.next s.den s'.plus s'.minus s'.next s'.den (part 1 n) (part 3 n) whole s'.plus (den_pos Ksin sin-pos n (2 ^ 61) n (2 ^ 61) (pow_pos 61) (pow_pos 61) 16) w.0 w.1 (le_refl s'.plus) (le-add_right s'.plus s'.next) e.0 e.1 in
       limit Ksin n (2 ^ 61) (2 ^ 93) a b (u + 2 ^ 30) n (2 ^ 61) 9 (falls n h 1)
       (low-at (2 ^ 93) a b u (2 ^ 30) s.plus s.minus s.next s.den (part 1 n) (part 3 n) whole whole_pos B (sin-next n h) k)
       (high-at (2 ^ 93) a b u (2 ^ 30) s.plus s.minus s.next s.den (part 1 n) (part 3 n) whole whole_pos B (sin-next n h) k)
-    where
-      less : (x y : ℕ) → x ≤ x + y
-      less x y = omega arith
 
   cos-limit : Close (2 ^ 93) a b u (part 0 n) (part 2 n) whole → Limit Kcos n (2 ^ 61) 1 1 9 (2 ^ 93) a b (u + 2 ^ 30)
   cos-limit k =
@@ -123,22 +116,19 @@ module _ (n : ℕ) (h : n ≤ 2 ^ 63) (a b u : ℕ) where
       let s' = sums Kcos n (2 ^ 61) 1 1 16 in
       let w = cosine-pairs n (2 ^ 61) 9 (pow_pos 61) h (lit≤ tt) 16 (lit≤ tt) in
       let e = cos-parts n in
-      let B = between s.plus s.minus s.next s.den s'.plus s'.minus s'.next s'.den (part 0 n) (part 2 n) whole (s'.plus + s'.next) (den_pos Kcos cos-pos n (2 ^ 61) 1 1 (pow_pos 61) (lit< tt) 16) w.0 w.1 (less s'.plus s'.next) (le_refl (s'.plus + s'.next)) e.0 e.1 in
+      let B = between s.plus s.minus s.next s.den s'.plus s'.minus s'.next s'.den (part 0 n) (part 2 n) whole (s'.plus + s'.next) (den_pos Kcos cos-pos n (2 ^ 61) 1 1 (pow_pos 61) (lit< tt) 16) w.0 w.1 (le-add_right s'.plus s'.next) (le_refl (s'.plus + s'.next)) e.0 e.1 in
       limit Kcos n (2 ^ 61) (2 ^ 93) a b (u + 2 ^ 30) 1 1 9 (falls n h 0)
       (low-at (2 ^ 93) a b u (2 ^ 30) s.plus s.minus s.next s.den (part 0 n) (part 2 n) whole whole_pos B (cos-next n h) k)
       (high-at (2 ^ 93) a b u (2 ^ 30) s.plus s.minus s.next s.den (part 0 n) (part 2 n) whole whole_pos B (cos-next n h) k)
-    where
-      less : (x y : ℕ) → x ≤ x + y
-      less x y = omega arith
 
-  any-limit : (w : Kind) → Close (2 ^ 93) a b u (part (first w) n) (part (second w) n) whole → Limit (Kat (shift w)) n (2 ^ 61) (top w n) (bottom w (2 ^ 61)) 9 (2 ^ 93) a b (u + 2 ^ 30)
+  any-limit : (w : Kind) → Close (2 ^ 93) a b u (part (shift w) n) (part (second w) n) whole → Limit (Kat (shift w)) n (2 ^ 61) (start w n) (start w (2 ^ 61)) 9 (2 ^ 93) a b (u + 2 ^ 30)
   any-limit sine k = sin-limit k
   any-limit cosine k = cos-limit k
 
 -- the fold: with the sine's sign, or with the other one
 module _ (w : Kind) (x r : ℕ) (X : x ≤ 2 ^ 63) (R : r < 2 ^ 62) where
-  pub fold-plus : Alike (part (first w) x) (part (second w) x) (part 1 r) (part 3 r) gap → Limit (Kat (shift w)) x (2 ^ 61) (top w x) (bottom w (2 ^ 61)) 9 (2 ^ 93) (ratio_of r * r) 0 (20 * r + 2 ^ 37 + 2 ^ 30)
-  fold-plus A = any-limit x X (ratio_of r * r) 0 (20 * r + 2 ^ 37) w (alike-close (ratio_of r * r) (20 * r) (part (first w) x) (part (second w) x) (part 1 r) (part 3 r) whole gap gap-small A (small-close r R))
+  pub fold-plus : Alike (part (shift w) x) (part (second w) x) (part 1 r) (part 3 r) gap → Limit (Kat (shift w)) x (2 ^ 61) (start w x) (start w (2 ^ 61)) 9 (2 ^ 93) (ratio_of r * r) 0 (20 * r + 2 ^ 37 + 2 ^ 30)
+  fold-plus A = any-limit x X (ratio_of r * r) 0 (20 * r + 2 ^ 37) w (alike-close (ratio_of r * r) (20 * r) (part (shift w) x) (part (second w) x) (part 1 r) (part 3 r) whole gap gap-small A (small-close r R))
 
-  pub fold-minus : Alike (part (second w) x) (part (first w) x) (part 1 r) (part 3 r) gap → Limit (Kat (shift w)) x (2 ^ 61) (top w x) (bottom w (2 ^ 61)) 9 (2 ^ 93) 0 (ratio_of r * r) (20 * r + 2 ^ 37 + 2 ^ 30)
-  fold-minus A = any-limit x X 0 (ratio_of r * r) (20 * r + 2 ^ 37) w (flip (2 ^ 93) (ratio_of r * r) (20 * r + 2 ^ 37) (part (second w) x) (part (first w) x) whole (alike-close (ratio_of r * r) (20 * r) (part (second w) x) (part (first w) x) (part 1 r) (part 3 r) whole gap gap-small A (small-close r R)))
+  pub fold-minus : Alike (part (second w) x) (part (shift w) x) (part 1 r) (part 3 r) gap → Limit (Kat (shift w)) x (2 ^ 61) (start w x) (start w (2 ^ 61)) 9 (2 ^ 93) 0 (ratio_of r * r) (20 * r + 2 ^ 37 + 2 ^ 30)
+  fold-minus A = any-limit x X 0 (ratio_of r * r) (20 * r + 2 ^ 37) w (flip (2 ^ 93) (ratio_of r * r) (20 * r + 2 ^ 37) (part (second w) x) (part (shift w) x) whole (alike-close (ratio_of r * r) (20 * r) (part (second w) x) (part (shift w) x) (part 1 r) (part 3 r) whole gap gap-small A (small-close r R)))

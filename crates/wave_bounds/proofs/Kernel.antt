@@ -1,11 +1,12 @@
 -- The ratio sin x / x that the program computes for x = r / 2 ^ 61 below 2 is within 20 units of 2 ^ -32 of the partial sums with 8 and with 9 terms: each step of the two nested sums cuts off at most a unit,
 -- and errs by a few more for what its factors lack.
 use mathlib.Core.Path.{◌≡◌, refl, ap, ap₂, ◌∙◌}
-use Prim.Native.Nat.{ℕ, ◌+◌, ◌-◌, ◌*◌, ◌/◌, ◌^◌, ◌≤◌, ◌<◌}
-use native.Mathlib.Nat.{le_trans, le_of_eq, le_of_lt, mul_comm, mul-le-mul, mul-le-mul_left, mul-le-mul_right, le_of_mul-le-mul_right, div-mul-le_self, lt-div-mul-add}
+use Prim.Native.Nat.{ℕ, ◌+◌, ◌*◌, ◌/◌, ◌^◌, ◌≤◌, ◌<◌}
+use native.Mathlib.Nat.{le_trans, le_of_eq, le_of_lt, mul_comm, mul-le-mul, mul-le-mul_left, mul-le-mul_right, le_of_mul-le-mul_right, div-mul-le_self, lt-div-mul-add, sub-add_cancel}
 use native.Mathlib.Omega.{arith}
 use lib.Dec.{lit<, lit≤}
 use lib.Pow.{pow_pos}
+use Rattle.series.proofs.SmallAngle.{div-high}
 use Rattle.series.proofs.Pairs.{sums, Limit, Ksin}
 use Rattle.series.proofs.Alternating.{Low, High, limit}
 use Rattle.waves.specs.SinCos.{times, added, taken, square_of, ratio_of}
@@ -234,9 +235,6 @@ ninth v u h = let a = mul-le-mul h h in go (v * v) (u * u) a (mul-le-mul (mul-le
 scale : (a D b P k : ℕ) → a * D ≤ b * P → a * (k * D) ≤ b * (k * P)
 scale a D b P k h = omega (arith, mul-le-mul_right k h)
 
-scale' : (a D b P k : ℕ) → b * P ≤ a * D → b * (k * P) ≤ a * (k * D)
-scale' a D b P k h = omega (arith, mul-le-mul_right k h)
-
 move-low : (b c y v : ℕ) → y * c ≤ v → y * (b * c) ≤ b * v
 move-low b c y v h = omega (arith, mul-le-mul_left b h)
 
@@ -244,10 +242,7 @@ move-high : (b c y v : ℕ) → v ≤ (y + 3) * c → b * v ≤ (y + 3) * (b * c
 move-high b c y v h = omega (arith, mul-le-mul_left b h)
 
 div-in : (x b : ℕ) → 0 < b → (x / b * b ≤ x) × (x ≤ (x / b + 1) * b)
-div-in x b B = (div-mul-le_self x b, go (x / b) (le_of_lt (lt-div-mul-add B)))
-  where
-    go : (q : ℕ) → x ≤ q * b + b → x ≤ (q + 1) * b
-    go q h = omega arith
+div-in x b B = (div-mul-le_self x b, div-high x b B)
 
 -- the units: 4 d² for d = 2 ^ 61, and its square
 abbrev unit : ℕ
@@ -286,10 +281,7 @@ module _ (r : ℕ) (h : r < 2 ^ 62) where
 
   whole : ratio_of r + times (square_of r) (taken (times (square_of r) (square_of r))) ≡ added (times (square_of r) (square_of r))
   unfolding ratio_of
-  whole = go (added (times (square_of r) (square_of r))) (times (square_of r) (taken (times (square_of r) (square_of r)))) (ratio-in r h).whole
-    where
-      go : (a t : ℕ) → t ≤ a → a - t + t ≡ a
-      go a t l = omega arith
+  whole = sub-add_cancel (ratio-in r h).whole
 
   pub kernel-low : Low Ksin r (2 ^ 61) (2 ^ 93) (ratio_of r * r) 0 (20 * r) (sums Ksin r (2 ^ 61) r (2 ^ 61) 4)
   kernel-low =
@@ -305,7 +297,7 @@ module _ (r : ℕ) (h : r < 2 ^ 62) where
       let N = r * r * (r * r) * (r * r * (r * r)) * (r * r * (r * r)) * (r * r * (r * r)) in
       high-of (2 ^ 32) (2 ^ 61) r (ratio_of r) (f * unit² * unit² * unit²) (plus_of unit² (r * r * (r * r))) (minus_of unit² (r * r * (r * r))) N unit (r * r) s.den s.plus s.minus s.next (four-den r (2 ^ 61)) (four-plus r (2 ^ 61)) (four-minus r (2 ^ 61)) (four-next r (2 ^ 61))
       (join-high (2 ^ 32) (ratio_of r) (added w) (times y (taken w)) (unit * unit * (f * unit² * unit² * unit²)) (unit * unit * plus_of unit² (r * r * (r * r))) (r * r * unit * minus_of unit² (r * r * (r * r))) N whole
-      (scale' (added w + 14) (f * unit² * unit² * unit²) (2 ^ 32) (plus_of unit² (r * r * (r * r))) (unit * unit) (added-high w (2 ^ 216) (r * r * (r * r)) w-lt w-in.0 w-in.1))
+      (scale (2 ^ 32) (plus_of unit² (r * r * (r * r))) (added w + 14) (f * unit² * unit² * unit²) (unit * unit) (added-high w (2 ^ 216) (r * r * (r * r)) w-lt w-in.0 w-in.1))
       (taken-off-low (2 ^ 32) y (taken w) unit (r * r) (f * unit² * unit² * unit²) (minus_of unit² (r * r * (r * r))) (pow_pos 32) (move-low (2 ^ 32) (2 ^ 92) y (r * r) y-in.0) (taken-low w (2 ^ 216) (r * r * (r * r)) w-lt w-in.0 w-in.1))
       (ninth (r * r) unit small))
 

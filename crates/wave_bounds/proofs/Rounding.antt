@@ -3,7 +3,7 @@
 use mathlib.Core.Path.{◌≡◌, refl, sym, ap, ◌∙◌, subst, subst₂}
 use mathlib.Core.Bool.{Bool, true, false, cond}
 use Prim.Native.Nat.{ℕ, ◌+◌, ◌-◌, ◌*◌, ◌/◌, ◌%◌, ◌^◌, ◌≤◌, ◌<◌}
-use native.Mathlib.Nat.{le_trans, le_of_eq, le_of_lt, lt_of_lt_of_le, lt_of_not-le, not-le_of_lt, mul_assoc, mul-le-mul, mul-le-mul_left, mul-le-mul_right, le_of_mul-le-mul_right}
+use native.Mathlib.Nat.{le_trans, le_of_eq, le_of_lt, lt_of_lt_of_le, lt_of_not-le, not-le_of_lt, mul_assoc, mul-le-mul, mul-le-mul_left, mul-le-mul_right, le_of_mul-le-mul_right, sub-add_cancel}
 use native.Mathlib.Omega.{arith}
 use lib.Dec.{lit<, lit≤}
 use lib.Pow.{pow_pos, pow_mono, pow-add}
@@ -11,9 +11,9 @@ use lib.Count.{count_leading_zeros}
 use Rattle.series.specs.Series.{Close}
 use Rattle.series.proofs.Pairs.{Limit, sums}
 use Rattle.fixed.specs.Fixed.{mant}
-use Rattle.fixed.proofs.Round.{Rounded, rounded}
+use Rattle.fixed.proofs.Round.{grain, Top, top_of, Rounded, rounded}
 use Rattle.waves.specs.SinCos.{ratio_of}
-use Rattle.waves.proofs.Patterns.{Top, top_of, ratio-in, Packed, packed}
+use Rattle.waves.proofs.Patterns.{ratio-in, Packed, packed}
 
 -- ---- closeness in a finer unit, to a number that is X off
 close-plus : (m a u f v x u' p q c : ℕ) → v ≤ a * f + x → a * f ≤ v + x → u * f + x ≤ u' → Close m a 0 u p q c → Close (m * f) v 0 u' p q c
@@ -108,11 +108,8 @@ module _ (r : ℕ) (L : 2 ^ 36 ≤ r) (H : r < 2 ^ 62) where
   exponents : (z k : ℕ) → z ≤ 33 → k < 28 → 133 - z - (k + 5) ≡ 2 + (34 - z + (92 - k))
   exponents z k a b = omega arith
 
-  power_at : 2 ^ exponent ≡ 4 * (2 ^ (34 - count_leading_zeros 64 p) * 2 ^ (92 - count_leading_zeros 64 r))
+  power_at : 2 ^ exponent ≡ 4 * (grain p * 2 ^ (92 - count_leading_zeros 64 r))
   power_at = ap (λ (x : ℕ). 2 ^ x) (exponents (count_leading_zeros 64 p) (count_leading_zeros 64 r) round-at.few few) ∙ pow-add 2 2 (34 - count_leading_zeros 64 p + (92 - count_leading_zeros 64 r)) ∙ ap (λ (x : ℕ). 2 ^ 2 * x) (pow-add 2 (34 - count_leading_zeros 64 p) (92 - count_leading_zeros 64 r))
-
-  back : (x y : ℕ) → y ≤ x → x - y + y ≡ x
-  back x y h = omega arith
 
   split-up : (x : ℕ) → x ≡ x / 2 ^ 32 * 2 ^ 32 + x % 2 ^ 32
   split-up x = omega arith
@@ -121,7 +118,7 @@ module _ (r : ℕ) (L : 2 ^ 36 ≤ r) (H : r < 2 ^ 62) where
   rest_lt x = omega arith
 
   down-at : 2 ^ (92 - count_leading_zeros 64 r) * 2 ^ count_leading_zeros 64 r ≡ 2 ^ 92
-  down-at = sym (pow-add 2 (92 - count_leading_zeros 64 r) (count_leading_zeros 64 r)) ∙ ap (λ (x : ℕ). 2 ^ x) (back 92 (count_leading_zeros 64 r) (le_trans (le_of_lt few) (lit≤ tt)))
+  down-at = sym (pow-add 2 (92 - count_leading_zeros 64 r) (count_leading_zeros 64 r)) ∙ ap (λ (x : ℕ). 2 ^ x) (sub-add_cancel (le_trans (le_of_lt few) (lit≤ tt)))
 
   digits-big : 2 ^ 31 ≤ m
   digits-big = go (r * 2 ^ count_leading_zeros 64 r) top-at.full
@@ -135,11 +132,11 @@ module _ (r : ℕ) (L : 2 ^ 36 ≤ r) (H : r < 2 ^ 62) where
       go : (k : ℕ) → k < 28 → 64 ≤ 92 - k
       go k h = omega arith
 
-  unit-at : p ≤ 2 ^ 30 * 2 ^ (34 - count_leading_zeros 64 p)
+  unit-at : p ≤ 2 ^ 30 * grain p
   unit-at = le_of_mul-le-mul_right {k = 2 ^ count_leading_zeros 64 p} (le_trans (le_of_lt round-at.up) (le_of_eq whole-power)) (pow_pos (count_leading_zeros 64 p))
     where
-      whole-power : 2 ^ 64 ≡ 2 ^ 30 * 2 ^ (34 - count_leading_zeros 64 p) * 2 ^ count_leading_zeros 64 p
-      whole-power = sym (mul_assoc (2 ^ 30) (2 ^ (34 - count_leading_zeros 64 p)) (2 ^ count_leading_zeros 64 p) ∙ ap (λ (x : ℕ). 2 ^ 30 * x) (sym (pow-add 2 (34 - count_leading_zeros 64 p) (count_leading_zeros 64 p)) ∙ ap (λ (x : ℕ). 2 ^ x) (back 34 (count_leading_zeros 64 p) (le_trans round-at.few (lit≤ tt)))))
+      whole-power : 2 ^ 64 ≡ 2 ^ 30 * grain p * 2 ^ count_leading_zeros 64 p
+      whole-power = sym (mul_assoc (2 ^ 30) (grain p) (2 ^ count_leading_zeros 64 p) ∙ ap (λ (x : ℕ). 2 ^ 30 * x) (sym (pow-add 2 (34 - count_leading_zeros 64 p) (count_leading_zeros 64 p)) ∙ ap (λ (x : ℕ). 2 ^ x) (sub-add_cancel (le_trans round-at.few (lit≤ tt)))))
 
   both : (g : Bool) (w : ℕ) → (cond g (16 * w) 0 ≡ 16 * cond g w 0) × (cond g 0 (16 * w) ≡ 16 * cond g 0 w)
   both true w = (refl, refl)
@@ -154,7 +151,7 @@ module _ (r : ℕ) (L : 2 ^ 36 ≤ r) (H : r < 2 ^ 62) where
   pub rounds : (g : Bool) (K : ℕ → ℕ) (n d y z j : ℕ) → Limit K n d y z j (2 ^ 93) (cond g (ratio_of r * r) 0) (cond g 0 (ratio_of r * r)) (20 * r + 2 ^ 37 + 2 ^ 30)
       → Limit K n d y z j (16 * 2 ^ 149) (16 * cond g (mant p * 2 ^ exponent) 0) (16 * cond g 0 (mant p * 2 ^ exponent)) (15 * 2 ^ exponent)
   rounds g K n d y z j N =
-      let o = 2 ^ (34 - count_leading_zeros 64 p) in
+      let o = grain p in
       let c = 2 ^ (92 - count_leading_zeros 64 r) in
       let s = ratio_of r in
       let x = r * 2 ^ count_leading_zeros 64 r in

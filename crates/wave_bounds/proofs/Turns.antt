@@ -2,7 +2,7 @@
 -- All angles are y / 2 ^ 61 up to 5. part r y over `whole` is the class r at y, short by at most `rest` over `whole`, which is less than 2 ^ -100.
 use mathlib.Core.Path.{◌≡◌, refl, sym, ap, ap₂, ◌∙◌, subst, subst₂}
 use Prim.Native.Nat.{ℕ, zero, suc, ◌+◌, ◌*◌, ◌/◌, ◌^◌, ◌≤◌, ◌<◌}
-use native.Mathlib.Nat.{le_trans, le_of_eq, le_refl, add_comm, add-le-add, mul-pos, mul_comm, mul-le-mul_left, mul-le-mul_right, le_of_mul-le-mul_right, pow-le-pow_left, div-mul-le_self}
+use native.Mathlib.Nat.{le_trans, le_of_eq, le_refl, add_comm, add-le-add, mul-pos, mul_comm, mul-le-mul_left, mul-le-mul_right, le_of_mul-le-mul_right, pow-le-pow_left, div-mul-le_self, add_right_comm}
 use native.Mathlib.Omega.{arith}
 use lib.Dec.{lit<, lit≤}
 use lib.Pow.{pow_pos}
@@ -60,6 +60,9 @@ module _ (y : ℕ) (small : y ≤ 5 * 2 ^ 61) where
         high3 = part-high 3;
       }
 
+not-below : (r : ℕ) → suc (suc (suc (suc r))) < 4 → ⊥
+not-below r g = omega arith
+
 -- no class exceeds 256 up to 5, nor 8 up to 2
 at_five : (r : ℕ) → r < 4 → num (class r) (5 * 2 ^ 61) (2 ^ 61) 64 ≤ 256 * whole
 unfolding whole num full class
@@ -67,10 +70,7 @@ at_five zero h = lit≤ tt
 at_five (suc zero) h = lit≤ tt
 at_five (suc (suc zero)) h = lit≤ tt
 at_five (suc (suc (suc zero))) h = lit≤ tt
-at_five (suc (suc (suc (suc r)))) h = absurd (no r h)
-  where
-    no : (r : ℕ) → suc (suc (suc (suc r))) < 4 → ⊥
-    no r g = omega arith
+at_five (suc (suc (suc (suc r)))) h = absurd (not-below r h)
 
 at-two : (r : ℕ) → r < 4 → num (class r) (2 ^ 62) (2 ^ 61) 64 ≤ 8 * whole
 unfolding whole num full class
@@ -78,10 +78,7 @@ at-two zero h = lit≤ tt
 at-two (suc zero) h = lit≤ tt
 at-two (suc (suc zero)) h = lit≤ tt
 at-two (suc (suc (suc zero))) h = lit≤ tt
-at-two (suc (suc (suc (suc r)))) h = absurd (no r h)
-  where
-    no : (r : ℕ) → suc (suc (suc (suc r))) < 4 → ⊥
-    no r g = omega arith
+at-two (suc (suc (suc (suc r)))) h = absurd (not-below r h)
 
 up-to-five : (y r : ℕ) → y ≤ 5 * 2 ^ 61 → r < 4 → part r y ≤ 256 * whole
 unfolding part
@@ -296,10 +293,7 @@ module _ (x₀ x₁ x₂ x₃ r₀ r₁ r₂ r₃ : ℕ) where
 
 module _ (x₀ x₁ x₂ x₃ r₀ r₁ r₂ r₃ : ℕ) where
   at-2 : (x₀ * r₀ + x₁ * r₃ + x₂ * r₂ + x₃ * r₁) * r₂ + (x₀ * r₁ + x₁ * r₀ + x₂ * r₃ + x₃ * r₂) * r₃ + (x₀ * r₂ + x₁ * r₁ + x₂ * r₀ + x₃ * r₃) * r₀ + (x₀ * r₃ + x₁ * r₂ + x₂ * r₁ + x₃ * r₀) * r₁ ≡ (x₁ + x₃) * (r₀ * r₃ + r₁ * r₀ + r₂ * r₁ + r₃ * r₂) + x₀ * (r₀ * r₂ + r₁ * r₃ + r₂ * r₀ + r₃ * r₁) + x₂ * (r₀ * r₀ + r₁ * r₁ + r₂ * r₂ + r₃ * r₃)
-  at-2 = turned x₀ x₁ x₂ x₃ r₀ r₁ r₂ r₃ r₃ r₀ r₁ r₂ ∙ at_1 x₁ x₂ x₃ x₀ r₀ r₁ r₂ r₃ ∙ around ((x₁ + x₃) * (r₀ * r₃ + r₁ * r₀ + r₂ * r₁ + r₃ * r₂)) (x₂ * (r₀ * r₀ + r₁ * r₁ + r₂ * r₂ + r₃ * r₃)) (x₀ * (r₀ * r₂ + r₁ * r₃ + r₂ * r₀ + r₃ * r₁))
-    where
-      around : (a b c : ℕ) → a + b + c ≡ a + c + b
-      around a b c = omega arith
+  at-2 = turned x₀ x₁ x₂ x₃ r₀ r₁ r₂ r₃ r₃ r₀ r₁ r₂ ∙ at_1 x₁ x₂ x₃ x₀ r₀ r₁ r₂ r₃ ∙ add_right_comm ((x₁ + x₃) * (r₀ * r₃ + r₁ * r₀ + r₂ * r₁ + r₃ * r₂)) (x₂ * (r₀ * r₀ + r₁ * r₁ + r₂ * r₂ + r₃ * r₃)) (x₀ * (r₀ * r₂ + r₁ * r₃ + r₂ * r₀ + r₃ * r₁))
 
 module _ (x₀ x₁ x₂ x₃ r₀ r₁ r₂ r₃ : ℕ) where
   at-3 : (x₀ * r₀ + x₁ * r₃ + x₂ * r₂ + x₃ * r₁) * r₁ + (x₀ * r₁ + x₁ * r₀ + x₂ * r₃ + x₃ * r₂) * r₂ + (x₀ * r₂ + x₁ * r₁ + x₂ * r₀ + x₃ * r₃) * r₃ + (x₀ * r₃ + x₁ * r₂ + x₂ * r₁ + x₃ * r₀) * r₀ ≡ (x₀ + x₂) * (r₀ * r₃ + r₁ * r₀ + r₂ * r₁ + r₃ * r₂) + x₁ * (r₀ * r₂ + r₁ * r₃ + r₂ * r₀ + r₃ * r₁) + x₃ * (r₀ * r₀ + r₁ * r₁ + r₂ * r₂ + r₃ * r₃)
@@ -338,23 +332,17 @@ module _ (F W δ x₀ x₁ x₂ x₃ r₀ r₁ r₂ r₃ p₀ p₁ p₂ p₃ : �
   abbrev odd : ℕ
   odd = r₀ * r₃ + r₁ * r₀ + r₂ * r₁ + r₃ * r₂
 
+  flat : (t₀ t₁ t₂ t₃ a b c d : ℕ) → F * (a * t₀ + b * t₁ + c * t₂ + d * t₃) ≡ a * F * t₀ + b * F * t₁ + c * F * t₂ + d * F * t₃
+  flat t₀ t₁ t₂ t₃ a b c d = omega arith
+
   over : (t₀ t₁ t₂ t₃ : ℕ) → t₀ + t₁ + t₂ + t₃ ≡ r₀ + r₁ + r₂ + r₃ → F * (p₀ * t₀ + p₁ * t₁ + p₂ * t₂ + p₃ * t₃) ≤ l₀ * t₀ + l₁ * t₁ + l₂ * t₂ + l₃ * t₃ + 4096 * (W * F) * (r₀ + r₁ + r₂ + r₃)
-  over t₀ t₁ t₂ t₃ e = subst (λ (x : ℕ). F * (p₀ * t₀ + p₁ * t₁ + p₂ * t₂ + p₃ * t₃) ≤ l₀ * t₀ + l₁ * t₁ + l₂ * t₂ + l₃ * t₃ + 4096 * (W * F) * x) e (le_trans (le_of_eq (flat p₀ p₁ p₂ p₃)) (four-le (4096 * (W * F)) (p₀ * F) (p₁ * F) (p₂ * F) (p₃ * F) l₀ l₁ l₂ l₃ t₀ t₁ t₂ t₃ s₀.high s₁.high s₂.high s₃.high))
-    where
-      flat : (a b c d : ℕ) → F * (a * t₀ + b * t₁ + c * t₂ + d * t₃) ≡ a * F * t₀ + b * F * t₁ + c * F * t₂ + d * F * t₃
-      flat a b c d = omega arith
+  over t₀ t₁ t₂ t₃ e = subst (λ (x : ℕ). F * (p₀ * t₀ + p₁ * t₁ + p₂ * t₂ + p₃ * t₃) ≤ l₀ * t₀ + l₁ * t₁ + l₂ * t₂ + l₃ * t₃ + 4096 * (W * F) * x) e (le_trans (le_of_eq (flat t₀ t₁ t₂ t₃ p₀ p₁ p₂ p₃)) (four-le (4096 * (W * F)) (p₀ * F) (p₁ * F) (p₂ * F) (p₃ * F) l₀ l₁ l₂ l₃ t₀ t₁ t₂ t₃ s₀.high s₁.high s₂.high s₃.high))
 
   under : (t₀ t₁ t₂ t₃ : ℕ) → t₀ + t₁ + t₂ + t₃ ≡ r₀ + r₁ + r₂ + r₃ → l₀ * t₀ + l₁ * t₁ + l₂ * t₂ + l₃ * t₃ ≤ F * (p₀ * t₀ + p₁ * t₁ + p₂ * t₂ + p₃ * t₃) + 4096 * (W * F) * (r₀ + r₁ + r₂ + r₃)
-  under t₀ t₁ t₂ t₃ e = subst (λ (x : ℕ). l₀ * t₀ + l₁ * t₁ + l₂ * t₂ + l₃ * t₃ ≤ F * (p₀ * t₀ + p₁ * t₁ + p₂ * t₂ + p₃ * t₃) + 4096 * (W * F) * x) e (le_trans (four-le (4096 * (W * F)) l₀ l₁ l₂ l₃ (p₀ * F) (p₁ * F) (p₂ * F) (p₃ * F) t₀ t₁ t₂ t₃ s₀.low s₁.low s₂.low s₃.low) (le_of_eq (ap (λ (x : ℕ). x + 4096 * (W * F) * (t₀ + t₁ + t₂ + t₃)) (sym (flat p₀ p₁ p₂ p₃)))))
-    where
-      flat : (a b c d : ℕ) → F * (a * t₀ + b * t₁ + c * t₂ + d * t₃) ≡ a * F * t₀ + b * F * t₁ + c * F * t₂ + d * F * t₃
-      flat a b c d = omega arith
+  under t₀ t₁ t₂ t₃ e = subst (λ (x : ℕ). l₀ * t₀ + l₁ * t₁ + l₂ * t₂ + l₃ * t₃ ≤ F * (p₀ * t₀ + p₁ * t₁ + p₂ * t₂ + p₃ * t₃) + 4096 * (W * F) * x) e (le_trans (four-le (4096 * (W * F)) l₀ l₁ l₂ l₃ (p₀ * F) (p₁ * F) (p₂ * F) (p₃ * F) t₀ t₁ t₂ t₃ s₀.low s₁.low s₂.low s₃.low) (le_of_eq (ap (λ (x : ℕ). x + 4096 * (W * F) * (t₀ + t₁ + t₂ + t₃)) (sym (flat t₀ t₁ t₂ t₃ p₀ p₁ p₂ p₃)))))
 
   abbrev off' : ℕ
   off' = 0x40_0000 * W + 32 * δ
-
-  swap : (N a b : ℕ) → N + a + b ≡ N + b + a
-  swap N a b = omega arith
 
   both : (xa xb : ℕ) → xa ≤ 256 * F → xb ≤ 256 * F → (M M' Q Q' N : ℕ) → M ≡ N + xa * sq + xb * cr → M' ≡ N + xa * cr + xb * sq
       → F * Q ≤ M + 4096 * (W * F) * (r₀ + r₁ + r₂ + r₃) → M ≤ F * Q + 4096 * (W * F) * (r₀ + r₁ + r₂ + r₃) → F * Q' ≤ M' + 4096 * (W * F) * (r₀ + r₁ + r₂ + r₃) → M' ≤ F * Q' + 4096 * (W * F) * (r₀ + r₁ + r₂ + r₃)
@@ -362,7 +350,7 @@ module _ (F W δ x₀ x₁ x₂ x₃ r₀ r₁ r₂ r₃ p₀ p₁ p₂ p₃ : �
   both xa xb A B M M' Q Q' N e e' q₁ q₂ q₃ q₄ t t' =
       record {
         low = less-side F W δ (r₀ + r₁ + r₂ + r₃) xa xb r₁ r₃ P ρ A B M M' Q Q' N sq cr e e' o o' q₃ q₂ t;
-        high = less-side F W δ (r₀ + r₁ + r₂ + r₃) xb xa r₃ r₁ P ρ B A M' M Q' Q N sq cr (e' ∙ swap N (xa * cr) (xb * sq)) (e ∙ swap N (xa * sq) (xb * cr)) o o' q₁ q₄ t';
+        high = less-side F W δ (r₀ + r₁ + r₂ + r₃) xb xa r₃ r₁ P ρ B A M' M Q' Q N sq cr (e' ∙ add_right_comm N (xa * cr) (xb * sq)) (e ∙ add_right_comm N (xa * sq) (xb * cr)) o o' q₁ q₄ t';
       }
 
   turned-1 : r₃ + r₀ + r₁ + r₂ ≡ r₀ + r₁ + r₂ + r₃
@@ -400,7 +388,7 @@ module _ (F W δ x₀ x₁ x₂ x₃ r₀ r₁ r₂ r₃ p₀ p₁ p₂ p₃ : �
   cosine-less-three : p₃ ≤ p₁ + F + δ → p₁ + F ≤ p₃ + δ → p₂ ≤ p₀ + δ → p₀ ≤ p₂ + δ → Alike x₂ x₀ r₁ r₃ off'
   cosine-less-three h k l m =
       both x₂ x₀ c₂ c₀ (l₀ * r₂ + l₁ * r₃ + l₂ * r₀ + l₃ * r₁) (l₀ * r₀ + l₁ * r₁ + l₂ * r₂ + l₃ * r₃) (p₀ * r₂ + p₁ * r₃ + p₂ * r₀ + p₃ * r₁) (p₀ * r₀ + p₁ * r₁ + p₂ * r₂ + p₃ * r₃) ((x₁ + x₃) * odd)
-      (at-2 x₀ x₁ x₂ x₃ r₀ r₁ r₂ r₃ ∙ swap ((x₁ + x₃) * odd) (x₀ * cr) (x₂ * sq)) (at-0 x₀ x₁ x₂ x₃ r₀ r₁ r₂ r₃ ∙ swap ((x₁ + x₃) * odd) (x₀ * sq) (x₂ * cr))
+      (at-2 x₀ x₁ x₂ x₃ r₀ r₁ r₂ r₃ ∙ add_right_comm ((x₁ + x₃) * odd) (x₀ * cr) (x₂ * sq)) (at-0 x₀ x₁ x₂ x₃ r₀ r₁ r₂ r₃ ∙ add_right_comm ((x₁ + x₃) * odd) (x₀ * sq) (x₂ * cr))
       (over r₂ r₃ r₀ r₁ turned-2) (under r₂ r₃ r₀ r₁ turned-2) (over r₀ r₁ r₂ r₃ refl) (under r₀ r₁ r₂ r₃ refl)
       (order (p₃ * r₁) (p₁ * r₃) (p₂ * r₀) (p₀ * r₂) (F * r₃) (p₃ * r₃) (p₁ * r₁) (p₂ * r₂) (p₀ * r₀) (F * r₁) (δ * (r₀ + r₁ + r₂ + r₃)) (turn_low F δ p₃ p₁ p₂ p₀ r₀ r₁ r₂ r₃ h k l m))
       (order (p₃ * r₃) (p₁ * r₁) (p₂ * r₂) (p₀ * r₀) (F * r₁) (p₃ * r₁) (p₁ * r₃) (p₂ * r₀) (p₀ * r₂) (F * r₃) (δ * (r₀ + r₁ + r₂ + r₃)) (turn-high F δ p₃ p₁ p₂ p₀ r₀ r₁ r₂ r₃ h k l m))

@@ -4,7 +4,7 @@ use mathlib.Core.Path.{◌≡◌, refl, sym, ap, ap₂, ◌∙◌, subst}
 use mathlib.Core.Bool.{Bool, true, false, ◌||◌, true≢false}
 use mathlib.Core.Logic.{inr}
 use Prim.Native.Nat.{ℕ, ◌+◌, ◌-◌, ◌%◌, ◌^◌, ◌≤◌, ◌<◌}
-use native.Mathlib.Nat.{le_trans, le_of_eq, le_antisymm}
+use native.Mathlib.Nat.{le_trans, le_of_eq, le_antisymm, sub-le, sub-le-sub_left, le-add_right, le_refl, add-le-add, add-lt-add_of_le_of_lt}
 use native.Mathlib.Omega.{arith}
 use lib.Dec.{T, leb, ltb, lit<, lit≤}
 use lib.Ieee.{Float, inf, binary32, of_bits, to_bits, fits, is_nan, lt, neg}
@@ -48,38 +48,20 @@ module _ (r : Float) (Fr : T (fits binary32 r)) where
       signs C true g o =
           split (2 ^ 151) v
           (λ l. ap (λ (x : Bool). x || ltb (C + 2 ^ 151) (C - v)) (lt-ltb (C - v) (C - 2 ^ 151) (down C v l g o)) ∙ sym (lt-ltb (2 ^ 151) v l))
-          (λ l. ap₂ (λ (x y : Bool). x || y) (le-ltb (C - v) (C - 2 ^ 151) (flat C v l)) (le-ltb (C + 2 ^ 151) (C - v) (over C v)) ∙ sym (le-ltb (2 ^ 151) v l))
+          (λ l. ap₂ (λ (x y : Bool). x || y) (le-ltb (C - v) (C - 2 ^ 151) (sub-le-sub_left l C)) (le-ltb (C + 2 ^ 151) (C - v) (le_trans (sub-le C v) (le-add_right C (2 ^ 151)))) ∙ sym (le-ltb (2 ^ 151) v l))
         where
           down : (C v : ℕ) → 2 ^ 151 < v → 2 ^ 151 ≤ C → v ≤ C → C - v < C - 2 ^ 151
           down C v l g o = gen C v (2 ^ 151) l g o
             where
               gen : (C v F : ℕ) → F < v → F ≤ C → v ≤ C → C - v < C - F
               gen C v F l g o = omega arith
-
-          flat : (C v : ℕ) → v ≤ 2 ^ 151 → C - 2 ^ 151 ≤ C - v
-          flat C v l = gen C v (2 ^ 151) l
-            where
-              gen : (C v F : ℕ) → v ≤ F → C - F ≤ C - v
-              gen C v F l = omega arith
-
-          over : (C v : ℕ) → C - v ≤ C + 2 ^ 151
-          over C v = gen C v (2 ^ 151)
-            where
-              gen : (C v F : ℕ) → C - v ≤ C + F
-              gen C v F = omega arith
       signs C false g o =
           split (2 ^ 151) v
-          (λ l. ap₂ (λ (x y : Bool). x || y) (le-ltb (C + v) (C - 2 ^ 151) (below C v (2 ^ 151))) (lt-ltb (C + 2 ^ 151) (C + v) (up C v (2 ^ 151) l)) ∙ sym (lt-ltb (2 ^ 151) v l))
-          (λ l. ap₂ (λ (x y : Bool). x || y) (le-ltb (C + v) (C - 2 ^ 151) (below C v (2 ^ 151))) (le-ltb (C + 2 ^ 151) (C + v) (level C v (2 ^ 151) l)) ∙ sym (le-ltb (2 ^ 151) v l))
+          (λ l. ap₂ (λ (x y : Bool). x || y) (le-ltb (C + v) (C - 2 ^ 151) (below C v (2 ^ 151))) (lt-ltb (C + 2 ^ 151) (C + v) (add-lt-add_of_le_of_lt (le_refl C) l)) ∙ sym (lt-ltb (2 ^ 151) v l))
+          (λ l. ap₂ (λ (x y : Bool). x || y) (le-ltb (C + v) (C - 2 ^ 151) (below C v (2 ^ 151))) (le-ltb (C + 2 ^ 151) (C + v) (add-le-add (le_refl C) l)) ∙ sym (le-ltb (2 ^ 151) v l))
         where
           below : (C v F : ℕ) → C - F ≤ C + v
           below C v F = omega arith
-
-          up : (C v F : ℕ) → F < v → C + F < C + v
-          up C v F l = omega arith
-
-          level : (C v F : ℕ) → v ≤ F → C + v ≤ C + F
-          level C v F l = omega arith
 
 inf-outside : (s : Bool) → ((inf s <f negf f4) || (inf s >f f4)) ≡ true
 unfolding lt neg of_bits

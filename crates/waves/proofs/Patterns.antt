@@ -1,16 +1,16 @@
 -- What the code of sine and cosine asks of plain numbers: the cases of the definition, and that the digits, the ratio and the pattern fit.
 use mathlib.Core.Path.{◌≡◌, sym, ap, ap₂, ◌∙◌, subst}
 use mathlib.Core.Bool.{Bool}
-use Prim.Native.Nat.{ℕ, suc, ◌+◌, ◌-◌, ◌*◌, ◌/◌, ◌%◌, ◌^◌, ◌≤◌, ◌<◌}
-use native.Mathlib.Nat.{le_trans, le_of_eq, le_of_lt, lt_of_lt_of_le, mul-le-mul, mul-le-mul_right, mul-lt-mul_of_pos_right}
+use Prim.Native.Nat.{ℕ, ◌+◌, ◌-◌, ◌*◌, ◌/◌, ◌%◌, ◌^◌, ◌≤◌, ◌<◌}
+use native.Mathlib.Nat.{le_trans, le_of_eq, le_of_lt, mul-le-mul, mul-le-mul_right}
 use native.Mathlib.Omega.{arith}
 use lib.Dec.{leb, lit≤}
-use lib.Pow.{pow_pos, pow-add, shr_mono}
-use lib.Count.{count_leading_zeros, leading_top}
+use lib.Pow.{shr_mono}
+use lib.Count.{count_leading_zeros}
 use borrow.Author.Tests.{le-ltb, lt-ltb, le-leb, lt-leb}
 use Rattle.series.specs.Series.{Kind, sine, cosine}
 use Rattle.fixed.specs.Fixed.{pick, mant, pattern}
-use Rattle.fixed.proofs.Round.{rounded, pattern_lt}
+use Rattle.fixed.proofs.Round.{rounded, pattern_lt, top_of}
 use Rattle.cases.proofs.Cases.{split}
 use Rattle.std.specs.Int.{abs_diff}
 use Rattle.waves.specs.SinCos.{times, added, taken, square_of, ratio_of, sine_at, quarter_turn, half_turn, three_quarters, sin_fold, cos_fold, sin_sign, cos_sign, wave_at, mag_of, at_small, wave_bits}
@@ -31,29 +31,22 @@ pub outside-bits : (w : Kind) (b : ℕ) → 0x4080_0000 < b % 2 ^ 31 → wave_bi
 unfolding wave_bits
 outside-bits w b h = ap₂ (λ (x y : Bool). pick x (at_small w b) (pick y (folded_bits w b) 0x7fc0_0000)) (le-ltb _ _ (le_trans (lit≤ tt) (le_of_lt h))) (lt-leb _ _ h)
 
--- ---- distances
-pub apart-under : (u v : ℕ) → u ≤ v → abs_diff u v ≡ v - u
-apart-under u v h = omega arith
-
-pub apart-over : (u v : ℕ) → v ≤ u → abs_diff u v ≡ u - v
-apart-over u v h = omega arith
-
 -- ---- the folds
 module _ (X : ℕ) where
   pub sin-kept : X ≤ quarter_turn → sin_fold X ≡ X
   sin-kept h = ap (λ (x : Bool). pick x X (abs_diff X half_turn)) (le-leb _ _ h)
 
   pub sin-left : quarter_turn < X → X ≤ half_turn → sin_fold X ≡ half_turn - X
-  sin-left h k = ap (λ (x : Bool). pick x X (abs_diff X half_turn)) (lt-leb _ _ h) ∙ apart-under X half_turn k
+  sin-left h k = ap (λ (x : Bool). pick x X (abs_diff X half_turn)) (lt-leb _ _ h) ∙ omega arith
 
   pub sin-past : half_turn < X → sin_fold X ≡ X - half_turn
-  sin-past h = ap (λ (x : Bool). pick x X (abs_diff X half_turn)) (lt-leb _ _ (le_trans (lit≤ tt) h)) ∙ apart-over X half_turn (le_of_lt h)
+  sin-past h = ap (λ (x : Bool). pick x X (abs_diff X half_turn)) (lt-leb _ _ (le_trans (lit≤ tt) h)) ∙ omega arith
 
   pub cos-left : X ≤ quarter_turn → cos_fold X ≡ quarter_turn - X
-  cos-left h = ap (λ (x : Bool). pick x (abs_diff X quarter_turn) (three_quarters - X)) (le-leb _ _ (le_trans h (lit≤ tt))) ∙ apart-under X quarter_turn h
+  cos-left h = ap (λ (x : Bool). pick x (abs_diff X quarter_turn) (three_quarters - X)) (le-leb _ _ (le_trans h (lit≤ tt))) ∙ omega arith
 
   pub cos-past : quarter_turn < X → X ≤ half_turn → cos_fold X ≡ X - quarter_turn
-  cos-past h k = ap (λ (x : Bool). pick x (abs_diff X quarter_turn) (three_quarters - X)) (le-leb _ _ k) ∙ apart-over X quarter_turn (le_of_lt h)
+  cos-past h k = ap (λ (x : Bool). pick x (abs_diff X quarter_turn) (three_quarters - X)) (le-leb _ _ k) ∙ omega arith
 
   pub cos-last : half_turn < X → cos_fold X ≡ three_quarters - X
   cos-last h = ap (λ (x : Bool). pick x (abs_diff X quarter_turn) (three_quarters - X)) (lt-leb _ _ h)
@@ -165,30 +158,6 @@ ratio-in r h =
 
     go : (x p k : ℕ) → x ≤ p → p ≤ k → k ≤ 2917961030 → (2 ^ 30 ≤ 2 ^ 32 + x - p) × (2 ^ 32 + x - p ≤ 2 ^ 32) × (p ≤ 2 ^ 32 + x)
     go x p k a b c = (omega arith, omega arith, omega arith)
-
--- ---- the digits: r moved up to 64 bits
-pub record Top (r : ℕ) : Type 0 where
-  pub few : count_leading_zeros 64 r ≤ 63
-  pub fits : r * 2 ^ count_leading_zeros 64 r < 2 ^ 64
-  pub full : 2 ^ 63 ≤ r * 2 ^ count_leading_zeros 64 r
-
-pub top_of : (r : ℕ) → 0 < r → r < 2 ^ 64 → Top r
-top_of r p h =
-    let l = count_leading_zeros 64 r in
-    let t = leading_top 64 r p h in
-    let e : suc t.0 + l ≡ 64 = swap l t.0 t.1 in
-    let f : t.0 + l ≡ 63 = drop l t.0 t.1 in
-    record {
-      few = omega (arith, f);
-      fits = subst (λ (x : ℕ). r * 2 ^ l < 2 ^ x) e (lt_of_lt_of_le (mul-lt-mul_of_pos_right t.3 (pow_pos l)) (le_of_eq (sym (pow-add 2 (suc t.0) l))));
-      full = subst (λ (x : ℕ). 2 ^ x ≤ r * 2 ^ l) f (le_trans (le_of_eq (pow-add 2 t.0 l)) (mul-le-mul_right (2 ^ l) t.2));
-    }
-  where
-    swap : (l j : ℕ) → l + suc j ≡ 64 → suc j + l ≡ 64
-    swap l j e = omega arith
-
-    drop : (l j : ℕ) → l + suc j ≡ 64 → j + l ≡ 63
-    drop l j e = omega arith
 
 -- ---- what is packed, and its pattern
 pub record Packed (r : ℕ) : Type 0 where

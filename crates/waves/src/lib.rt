@@ -8,6 +8,7 @@ ghost use Rattle.waves.specs.SinCos.{sin_of, cos_of};
 mod whole;
 
 // NaN outside -4 to 4
+// Stays: as `cos`, `exp` and the others, each one line; one function for them would be handed `sin_bits`, and a call of it as long.
 pub fn sin(x: f32) -> f32
     ensures { result ≡ sin_of x }
 {

@@ -28,7 +28,8 @@ fn follow(file: &[u8]) -> Result<Chain, Refusal>
 }
 
 // Record n, as its part of the file.
-// Stays: beside the paper's form, whose records are asked for as the part of the file by 64 bytes; all that reads them is shared.
+// Stays: beside `record` of `circuit`. The paper names that part as `&file[64 * n..64 * n + 64]`, so the size is a literal in each; all
+// that reads them is shared.
 fn record(file: &[u8], n: usize) -> &[u8]
     requires { 128 * n + 128 ≤ length file.now }
     ensures { result.now ≡ record_at form128 file.now n }

@@ -1,14 +1,9 @@
--- The five numbers are read at the places of the definition.
+use Rattle.std.proofs.Common.{rules}
+use Rattle.circuit.specs.Point.{point_number}
+use Rattle.scalar.proofs.FromFn.{from_fn_numbers}
 use Rattle.circuit_numbers.specs.Numbers.{column_of}
 use Rattle.circuit_numbers.proofs.column.Goals as goal
 
 pub returns : goal.returns
 unfolding column_of
-returns c =
-    rw (
-      ← c.point_number.ensures,
-      ← c.point_number-2.ensures,
-      ← c.point_number-3.ensures,
-      ← c.point_number-4.ensures,
-      ← c.point_number-5.ensures,
-    )
+returns c = from_fn_numbers (λ k. point_number c.args.words.now k c.args.j) 5 (λ k y q l r. search rules) c.from_fn.ensures.items

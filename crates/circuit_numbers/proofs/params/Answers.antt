@@ -1,7 +1,8 @@
--- Each point starts fifteen words after the one before.
-use Rattle.circuit_numbers.specs.Numbers.{params_of}
+use Rattle.std.proofs.Common.{rules}
+use Rattle.scalar.proofs.FromFn.{from_fn_numbers}
+use Rattle.circuit_numbers.specs.Numbers.{layers_at, params_of}
 use Rattle.circuit_numbers.proofs.params.Goals as goal
 
 pub returns : goal.returns
 unfolding params_of
-returns c = rw (← c.layers_at.ensures, ← c.layers_at-2.ensures, ← c.layers_at-3.ensures, ← c.layers_at-4.ensures, ← c.layers_at-5.ensures)
+returns c = from_fn_numbers (λ k. layers_at c.args.words.now k) 5 (λ k y q l r. search rules) c.from_fn.ensures.items

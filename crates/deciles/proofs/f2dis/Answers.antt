@@ -3,7 +3,7 @@ use Prim.Native.Nat.{◌<◌, ◌≤◌}
 use native.Mathlib.Omega.{arith}
 use borrow.Author.Tests.{ne_eqb}
 use mir.Facts.{Fits-le, Fits-lit}
-use Rattle.std.proofs.Common.{sym, ◌∙◌}
+use Rattle.std.proofs.lemmas.Result.{err_from_is_err_and}
 use Rattle.deciles.specs.F2dis.{icc_of, f2dis_of}
 use Rattle.deciles.proofs.Ranges.{j-range, i-range, icl-range, icc-range}
 use Rattle.deciles.proofs.Blocks.{found_block, no_block}
@@ -24,20 +24,21 @@ overflow_add-iz c =
     let h : c.half.result ≤ 8 = rw c.half.ensures (i-range _ _) in
     Fits-le {n = 16} (omega arith) (Fits-lit tt)
 
-pub returns-in_default-clause-value : goal.returns-in_default-clause-value
+pub returns-in_err-icc-clause-value : goal.returns-in_err-icc-clause-value
 unfolding f2dis_of
-returns-in_default-clause-value c =
-    let none = no_block (icc_of c.args.abb) (sym c.in_default.is ∙ c.time_block.ensures) in
-    rw (c.if-f2d-ne576.false, c.if-f2d.false, none)
+returns-in_err-icc-clause-value c =
+    let p = err_from_is_err_and c.from_residual.result c.from_residual.ensures.1 in
+    let m = no_block (icc_of c.args.abb) _ _ (rw c.time_block.ensures at c.in_err-icc.ensures.value) in
+    rw (p.1, p.2, m.1, c.if-f2d-ne576.false, c.if-f2d.false, m.0)
 
-pub returns-in_default-clause-deviation_says : goal.returns-in_default-clause-deviation_says
-returns-in_default-clause-deviation_says c = deviation-says _ _ _ _ _ _ _ (returns-in_default-clause-value c)
+pub returns-in_err-icc-clause-deviation_says : goal.returns-in_err-icc-clause-deviation_says
+returns-in_err-icc-clause-deviation_says c = deviation-says _ _ _ _ _ _ _ (returns-in_err-icc-clause-value c)
 
 pub place-at-requires : goal.place-at-requires
 place-at-requires c =
     let b = c.band in
     let h = c.half in
-    let found = found_block c.in-Some.icc (icc_of c.args.abb) (sym c.in-Some.is ∙ c.time_block.ensures) in
+    let found = found_block c.in_ok-icc.icc (icc_of c.args.abb) _ (rw c.time_block.ensures at c.in_ok-icc.ensures.value) in
     let top = icc-range c.args.abb in
     let j₀ : 0 < c.row-j.result = rw c.row-j.ensures (j-range _ _).0 in
     let j₁ : c.row-j.result ≤ 6 = rw c.row-j.ensures (j-range _ _).1 in
@@ -49,7 +50,7 @@ place-at-requires c =
 pub returns-clause-value : goal.returns-clause-value
 unfolding f2dis_of
 returns-clause-value c =
-    let found = found_block c.in-Some.icc (icc_of c.args.abb) (sym c.in-Some.is ∙ c.time_block.ensures) in
+    let found = found_block c.in_ok-icc.icc (icc_of c.args.abb) _ (rw c.time_block.ensures at c.in_ok-icc.ensures.value) in
     let some = ne_eqb (icc_of c.args.abb) 0 (λ e. omega (arith, found.1, e)) in
     rw (c.if-f2d-ne576.false, c.if-f2d.false, some, ← found.0, ← c.band.ensures, ← c.half.ensures, ← c.row-j.ensures, ← c.place-at.ensures.value, ← c.spread.ensures)
 

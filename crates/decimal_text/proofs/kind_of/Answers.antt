@@ -7,25 +7,22 @@ use Rattle.decimal_text.specs.declared.Kind.{Kind}
 use Rattle.decimal_text.specs.Number.{finite_kind, infinite_kind, number_kind_of}
 use Rattle.decimal_text.proofs.kind_of.Goals as goal
 
-other : {A : Type 0} → false ≡ true → A
-other e = absurd (false≢true e)
-
 undefined : (v : Float) → is_nan v ≡ true → Kind.NotANumber ≡ number_kind_of v
 unfolding number_kind_of is_nan
 undefined nan e = refl
-undefined (inf s) e = other e
-undefined (fin s m x) e = other e
+undefined (inf s) e = absurd (false≢true e)
+undefined (fin s m x) e = absurd (false≢true e)
 
 endless : (v : Float) (s : Bool) → is_nan v ≡ false → float_is_infinite v ≡ true → is_sign_negative v ≡ s → infinite_kind s ≡ number_kind_of v
 unfolding number_kind_of is_nan float_is_infinite is_sign_negative
-endless nan s n e h = other (sym n)
+endless nan s n e h = absurd (false≢true (sym n))
 endless (inf t) s n e h = ap infinite_kind (sym h)
-endless (fin t m x) s n e h = other e
+endless (fin t m x) s n e h = absurd (false≢true e)
 
 ended : (v : Float) (s : Bool) → is_nan v ≡ false → float_is_infinite v ≡ false → is_sign_negative v ≡ s → finite_kind s ≡ number_kind_of v
 unfolding number_kind_of is_nan float_is_infinite is_sign_negative
-ended nan s n e h = other (sym n)
-ended (inf t) s n e h = other (sym e)
+ended nan s n e h = absurd (false≢true (sym n))
+ended (inf t) s n e h = absurd (false≢true (sym e))
 ended (fin t m x) s n e h = ap finite_kind (sym h)
 
 pub returns-then-is_nan : goal.returns-then-is_nan

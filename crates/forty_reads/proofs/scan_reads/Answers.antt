@@ -1,33 +1,26 @@
-use mathlib.Core.Path.{◌≡◌, refl}
-use mathlib.Core.List.{List}
-use Prim.Native.Nat.{◌+◌, ◌/◌, ◌%◌, ℕ}
-use native.Mathlib.Nat.{le_antisymm}
-use native.Mathlib.Numerals.{add-one}
-use native.Mathlib.Omega.{arith}
-use lib.ListN.{set}
-use lib.Ieee.{Float}
+use mathlib.Core.Path.{◌≡◌, refl, ◌∙◌}
+use mathlib.Core.List.{map}
+use Prim.Native.Nat.{ℕ, ◌/◌, ◌%◌}
+use Rattle.std.proofs.Common.{rules}
+use Rattle.std.specs.List.{range_with_len}
+use Rattle.std.proofs.lemmas.List.FromFn.{fill_by_all}
+use lib.Ieee.{Float, nan}
 use Rattle.scalar.specs.F32.{at}
+use Rattle.scalar.proofs.FromFn.{from_fn_each}
 use Rattle.readings.specs.Scan.{value_of, reading_of}
-use Rattle.readings.specs.declared.Reading.{Reading}
 use Rattle.forty_reads.specs.Nodes.{height_of}
 use Rattle.forty_reads.specs.Walk.{placed, scan_reads}
 use Rattle.forty_reads.proofs.scan_reads.Goals as goal
 
-one-turn : (htr fnsq : List Float) (ht : Float) (k : ℕ) (ysq : List Float) (zi : Float) (g : Reading) (y : Float) → ysq ≡ scan_reads htr fnsq ht k → zi ≡ height_of (at htr 0) ht (k / 2) (k % 2) → g ≡ reading_of htr fnsq zi → y ≡ value_of g → set ysq k y ≡ scan_reads htr fnsq ht (k + 1)
-unfolding scan_reads placed
-one-turn htr fnsq ht k ysq zi g y el ez eg ey = rw (add-one k, ey, eg, ez, el)
-
-pub loop-k-init : goal.loop-k-init
-unfolding scan_reads placed
-loop-k-init c = (omega arith, refl, refl)
-
-pub loop-k-preserved : goal.loop-k-preserved
-loop-k-preserved c =
-    let l = c.loop-k in (
-      omega arith,
-      one-turn _ _ _ l.k _ _ _ _ l.invariant.1 (rw l.invariant.2 at c.height-zi.ensures) c.read_by_scan-g.ensures c.value-y.ensures,
-      l.invariant.2,
-    )
+-- each at its own place
+in-order : (f : ℕ → Float) → map f (range_with_len 0 40) ≡ placed (λ k. k) f 40
+unfolding placed
+in-order f = refl
 
 pub returns : goal.returns
-returns c = (rw (le_antisymm c.loop-k.invariant.0 c.loop-k-test.false) at c.loop-k.invariant.1, refl)
+unfolding scan_reads
+returns c =
+    let p = c.args.p in
+    let f = λ (k : ℕ). value_of (reading_of p.htr.now p.fnsq.now (height_of (at p.htr.now 0) c.args.ht (k / 2) (k % 2))) in
+    let r = c.from_fn-ysq.ensures.items in
+    (fill_by_all f _ 40 nan r.long (from_fn_each (λ k y. y ≡ f k) (λ k y q l r. search rules) r nan) ∙ in-order f, refl)

@@ -1,11 +1,13 @@
 -- Each is worked out from what the step before left at its place. Assumes nothing.
 use mathlib.Core.Path.{◌≡◌, refl, sym, ap, ◌∙◌}
 use mathlib.Core.List.{List, [], ◌∷◌, map}
+use Rattle.std.proofs.Common.{rules}
 use lib.ListN.{length, replicate}
-use lib.Ieee.{Float}
+use lib.Ieee.{Float, nan}
 use Rattle.scalar.specs.F32.{◌-f◌, ◌/f◌}
 use Rattle.scalar.specs.Literals.{f0, f1}
 use Rattle.scalar.specs.Root.{sqrt_of}
+use Rattle.scalar.proofs.FromFn.{from_fn_map}
 use Rattle.roots.specs.Roots.{roots_into}
 use Rattle.integrands.specs.Integrands.{integrand_of}
 use Rattle.integrands.proofs.InPlace.{put-all}
@@ -22,4 +24,10 @@ composed ysq rest root m n e-rest e-root e-m =
     ∙ each ysq
 
 pub returns : goal.returns
-returns c = composed c.args.ysq _ _ _ c.rests.array_long c.rests.ensures c.roots.ensures c.inverses.ensures
+returns c =
+    let ysq = c.args.ysq in
+    let root = c.roots.new.out in
+    composed ysq _ root _ c.from_fn-rest.ensures.items.long
+    (from_fn_map (λ (y : Float). f1 -f y) ysq nan nan (search rules) (λ k y q l r. search rules) c.from_fn-rest.ensures.items)
+    c.roots.ensures
+    (from_fn_map (λ (r : Float). f1 /f r) root nan nan c.roots.array_long (λ k y q l r. search rules) c.from_fn.ensures.items)

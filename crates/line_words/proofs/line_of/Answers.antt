@@ -4,9 +4,9 @@ use mathlib.Core.List.{List}
 use Prim.Native.Nat.{ℕ, ◌+◌}
 use lib.IntN.{ℤ}
 use lib.Ieee.{Float}
-use Rattle.port_state.specs.Words.{word, signed_of}
+use Rattle.port_state.specs.Words.{word, number, signed_of}
 use Rattle.layers.specs.declared.LayerMuf.{LayerMuf}
-use Rattle.line_words.specs.Lines.{number, line_of_words}
+use Rattle.line_words.specs.Lines.{line_of_words}
 use mir.Syntax.{w32}
 use mir.Facts.{to_z-of_z}
 use borrow.Author.Rules.{sfits_of}

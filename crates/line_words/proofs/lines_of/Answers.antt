@@ -1,7 +1,10 @@
--- Line by line.
-use Rattle.line_words.specs.Lines.{lines_of_words}
+-- Each line starts eleven words after the one before.
+use Prim.Native.Nat.{◌*◌}
+use Rattle.std.proofs.Common.{rules}
+use Rattle.scalar.proofs.FromFn.{from_fn_numbers}
+use Rattle.line_words.specs.Lines.{line_of_words, lines_of_words}
 use Rattle.line_words.proofs.lines_of.Goals as goal
 
 pub returns : goal.returns
 unfolding lines_of_words
-returns c = rw (← c.line_of.ensures, ← c.line_of-2.ensures, ← c.line_of-3.ensures, ← c.line_of-4.ensures)
+returns c = from_fn_numbers (λ k. line_of_words c.args.w.now (11 * k)) 4 (λ k y q l r. search rules) c.from_fn.ensures.items

@@ -2,11 +2,10 @@
 use mathlib.Core.Path.{◌≡◌, sym, ap, ◌∙◌, subst}
 use Prim.Native.Nat.{ℕ, ◌+◌, ◌*◌, ◌^◌, ◌<◌, ◌≤◌}
 use native.Mathlib.Omega.{arith}
-use Rattle.cases.proofs.Cases.{split}
 use Rattle.fixed.specs.Fixed.{pattern}
 use Rattle.exponential.specs.Tables.{ln2}
 use Rattle.logarithm.specs.Ln.{rest_of, above}
-use Rattle.logarithm.proofs.LnRange.{rest-ge, rest_le}
+use Rattle.logarithm.proofs.LnRange.{sum-big, rest_le}
 use Rattle.logarithm.proofs.above_bits.Goals as goal
 
 module _ (m e y : ℕ) (low : 2 ^ 23 ≤ m) (high : m < 2 ^ 24) (is : y ≡ rest_of m) where
@@ -14,16 +13,7 @@ module _ (m e y : ℕ) (low : 2 ^ 23 ≤ m) (high : m < 2 ^ 24) (is : y ≡ rest
   most = subst (λ (x : ℕ). x + 2 ^ 30 ≤ ln2) (sym is) (rest_le m low high)
 
   least : 2 ^ 23 < m + e → 2 ^ 30 ≤ e * ln2 + y
-  least k =
-      split (2 ^ 23) m
-      (λ h. more (e * ln2) y (subst (λ (x : ℕ). 2 ^ 30 ≤ x) (sym is) (rest-ge m low high h)))
-      (λ h. many e y (omega arith))
-    where
-      more : (x y : ℕ) → 2 ^ 30 ≤ y → 2 ^ 30 ≤ x + y
-      more x y h = omega arith
-
-      many : (e y : ℕ) → 1 ≤ e → 2 ^ 30 ≤ e * ln2 + y
-      many e y h = omega arith
+  least k = subst (λ (x : ℕ). 2 ^ 30 ≤ e * ln2 + x) (sym is) (sum-big m low high e k)
 
 pub overflow_add-e : goal.overflow_add-e
 overflow_add-e c = omega (arith, most c.args.m c.args.e c.rest-y.result c.requires.0 c.requires.1 c.rest-y.ensures)

@@ -1,5 +1,5 @@
 -- The table's entry and the correction, which is smaller than the first entry above 0.
-use mathlib.Core.Path.{◌≡◌, refl, sym, ap, ap₂, ◌∙◌, subst, subst₂}
+use mathlib.Core.Path.{◌≡◌, refl, sym, ap, ap₂, ◌∙◌, subst₂}
 use Prim.Native.Nat.{ℕ, ◌+◌, ◌-◌, ◌^◌, ◌<◌, ◌≤◌}
 use native.Mathlib.Omega.{arith}
 use mir.Syntax.{w64}
@@ -12,26 +12,17 @@ use Rattle.logarithm.specs.Ln.{index, centre, twice_of, rest_of}
 use Rattle.logarithm.proofs.LnRange.{up-near, down-near, sum-ge, rest_up, rest-down, rest_le, taken}
 use Rattle.logarithm.proofs.rest.Goals as goal
 
-apart-over : (m c : ℕ) → c ≤ m → abs_diff m c ≡ m - c
-apart-over m c h = omega arith
-
-apart-under : (m c : ℕ) → m < c → abs_diff m c ≡ c - m
-apart-under m c h = omega arith
-
-apart-le : (m c b : ℕ) → m - c ≤ b → c - m ≤ b → abs_diff m c ≤ b
-apart-le m c b h k = omega arith
-
 module _ (m y n a : ℕ) (low : 2 ^ 23 ≤ m) (high : m < 2 ^ 24) (y-is : y ≡ get_or eighths (index m) 0) (n-is : n ≡ abs_diff m (centre m)) (a-is : a ≡ twice_of n (m + centre m)) where
   near : n ≤ 2 ^ 19
-  near = subst (λ (x : ℕ). x ≤ 2 ^ 19) (sym n-is) (apart-le m (centre m) (2 ^ 19) (up-near m low high) (down-near m low high))
+  near = omega (arith, up-near m low high, down-near m low high)
 
   upward : centre m ≤ m → y + a ≡ rest_of m
   upward h =
-      let n-up = n-is ∙ apart-over m (centre m) h in
+      let n-up : n ≡ m - centre m = omega arith in
       ap₂ (λ (x z : ℕ). x + z) y-is (a-is ∙ ap (λ (x : ℕ). twice_of x (m + centre m)) n-up) ∙ sym (rest_up m low high h)
 
   a-down : m < centre m → a ≡ twice_of (centre m - m) (m + centre m)
-  a-down h = a-is ∙ ap (λ (x : ℕ). twice_of x (m + centre m)) (n-is ∙ apart-under m (centre m) h)
+  a-down h = a-is ∙ ap (λ (x : ℕ). twice_of x (m + centre m)) (omega arith)
 
   downward : m < centre m → y - a ≡ rest_of m
   downward h = ap₂ (λ (x z : ℕ). x - z) y-is (a-down h) ∙ sym (rest-down m low high h)

@@ -1,21 +1,18 @@
 -- `scalar::sqrt` meets its contract: each way out is a fact of `proofs/SpecialRoots.antt` or what the callee ensures. Assumes nothing.
-use mathlib.Core.Path.{◌≡◌, sym, ap, ◌∙◌, subst}
+use mathlib.Core.Path.{◌≡◌, sym, ap, ◌∙◌}
 use native.Mathlib.Omega.{arith}
 use mathlib.Core.Bool.{true, false}
-use lib.Dec.{T}
 use lib.Ieee.{Float, binary32, fits, of_bits, to_bits}
 use lib.Ieee.Bits.{of_bits-to_bits, to_bits-lt}
+use Rattle.std.proofs.lemmas.Float.{T_from_true}
 use Rattle.scalar.specs.Root.{sqrt_of}
 use Rattle.scalar.proofs.Nan.{tested, not-nan, number-pattern, zero_by_zero}
 use Rattle.scalar.proofs.SpecialRoots.{at-nan, zero-root, minus-zero-root, inf-root, own, above-inf}
 use Rattle.scalar.proofs.sqrt.Goals as goal
 
--- the format holds an f32, which is what its pattern stands for
-held : (x : Float) → fits binary32 x ≡ true → T (fits binary32 x)
-held x h = subst T (sym h) tt
-
+-- an f32 is what its pattern stands for, since the format holds it
 is : (x : Float) → fits binary32 x ≡ true → x ≡ of_bits binary32 (to_bits binary32 x)
-is x h = sym (of_bits-to_bits binary32 x (held x h))
+is x h = sym (of_bits-to_bits binary32 x (T_from_true (fits binary32 x) h))
 
 pub returns-then-is_nan : goal.returns-then-is_nan
 returns-then-is_nan c = at-nan c.args.x (tested _ _ true c.is_nan.ensures.value c.if-is_nan.true)
@@ -47,4 +44,4 @@ returns-then-b c = own c.args.x (to_bits binary32 c.args.x) 0x8000_0000 (is c.ar
 pub returns : goal.returns
 returns c =
     let b = to_bits binary32 c.args.x in
-    zero_by_zero ∙ sym (ap sqrt_of (is c.args.x c.well_formed.0.1) ∙ above-inf b (omega arith) c.if-b.false (to_bits-lt binary32 c.args.x (held c.args.x c.well_formed.0.1)))
+    zero_by_zero ∙ sym (ap sqrt_of (is c.args.x c.well_formed.0.1) ∙ above-inf b (omega arith) c.if-b.false (to_bits-lt binary32 c.args.x (T_from_true (fits binary32 c.args.x) c.well_formed.0.1)))

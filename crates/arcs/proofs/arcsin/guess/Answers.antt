@@ -10,9 +10,6 @@ use Rattle.arcs.proofs.arcsin.guess.Goals as goal
 abbrev half : ℕ → ℕ
 half n = (65 - count_leading_zeros 64 n) / 2
 
-zeros : (n : ℕ) → 0 < n → n < 2 ^ 64 → count_leading_zeros 64 n ≤ 63
-zeros n p h = let t = leading_top 64 n p h in let e = t.1 in omega arith
-
 below : (n : ℕ) → 0 < n → n < 2 ^ 64 → n < 2 ^ half n * 2 ^ half n
 below n p h =
     let t = leading_top 64 n p h in
@@ -40,7 +37,7 @@ u_lt : (n p : ℕ) → 0 < n → n < 2 ^ 64 → p ≡ 2 ^ half n → p - 1 - n /
 u_lt n p l h e = let q = quotient_lt n l h in omega arith
 
 pub overflow_sub-k : goal.overflow_sub-k
-overflow_sub-k c = let h = zeros c.args.n c.requires c.ranges.n.fits in omega arith
+overflow_sub-k c = let e = (leading_top 64 c.args.n c.requires c.ranges.n.fits).1 in omega arith
 
 pub overflow_sub-u : goal.overflow_sub-u
 overflow_sub-u c = let e = c.power-p.ensures in let p = pow_pos (half c.args.n) in omega arith

@@ -1,17 +1,16 @@
 -- `arcs::arctan::high_angle` meets its contract: Reduce.antt has the bounds of index, rest and quotient.
-use mathlib.Core.Path.{◌≡◌, sym, ap, ap₂, ◌∙◌, subst}
+use mathlib.Core.Path.{sym, ap, ap₂, ◌∙◌, subst}
 use Prim.Native.Nat.{ℕ, ◌+◌, ◌-◌, ◌*◌, ◌/◌, ◌^◌, ◌<◌, ◌≤◌}
 use native.Mathlib.Omega.{arith}
 use native.Mathlib.Nat.{le_trans, mul-le-mul}
 use lib.Pow.{pow_pos, pow_mono}
 use lib.Dec.{lit<, lit≤}
-use lib.ListN.{get_or}
 use mir.Syntax.{w64}
 use mir.Val.{Fits}
 use Rattle.fixed.specs.Fixed.{digits}
-use Rattle.arc_tables.specs.Tables.{steep}
 use Rattle.arcs.specs.Atan.{angle_of, steep_of}
-use Rattle.arcs.proofs.Reduce.{dig-low, dig-high, high-top, high-fine, high-coarse, at_lt, at_high, rest-most, den-most, quo-most, steep-entry}
+use Rattle.fixed.proofs.Sizes.{dig-low, dig-high}
+use Rattle.arcs.proofs.Reduce.{high-top, high-fine, high-coarse, at_lt, at_high, rest-most, den-most, quo-most, steep-entry, sum-fits}
 use Rattle.arcs.proofs.arctan.high_angle.Goals.{After-power-e}
 use Rattle.arcs.proofs.arctan.high_angle.Goals as goal
 
@@ -61,12 +60,6 @@ above n e i h = omega arith
 
 den-le : (c : After-power-e) → e c * (place c + 1) + 2 ^ 7 * n c ≤ 2 ^ 34
 den-le c = le_trans (den-most (n c) (e c) (2 ^ 16) (top c) (lit< tt) (fine c) (coarse c)) (le_trans (coarse c) (lit≤ tt))
-
-angle-of : (a b : ℕ) → a ≡ b → b ≤ 2 ^ 57 - 2 ^ 50 → a ≤ 2 ^ 57
-angle-of a b e h = omega arith
-
-less : (a b : ℕ) → a ≡ b → b ≤ 2 ^ 49 + 2 ^ 41 → a < 2 ^ 50
-less a b e h = omega arith
 
 fits-34 : (d : ℕ) → d ≤ 2 ^ 34 → Fits w64 d
 fits-34 d h = omega arith
@@ -133,10 +126,8 @@ steep_angle-requires c = place-lt (goal.at.steep_angle-requires c).After-power-e
 
 pub angle_sum-requires : goal.angle_sum-requires
 angle_sum-requires c =
-    let s = (goal.at.angle_sum-requires c).After-power-e in (
-      angle-of c.steep_angle.result (get_or steep (place s) 0) c.steep_angle.ensures (steep-entry (n s) (e s) (2 ^ 16) (top s) (lit< tt) (fine s) (coarse s)).most,
-      less c.quotient-q.result ((n s * (place s + 1) - 2 ^ 7 * e s) * 2 ^ 56 / (e s * (place s + 1) + 2 ^ 7 * n s)) c.quotient-q.ensures (quo-most (n s) (e s) (2 ^ 16) (top s) (lit< tt) (fine s) (coarse s)),
-    )
+    let s = (goal.at.angle_sum-requires c).After-power-e in
+    sum-fits c.steep_angle.ensures c.quotient-q.ensures (steep-entry (n s) (e s) (2 ^ 16) (top s) (lit< tt) (fine s) (coarse s)).most (quo-most (n s) (e s) (2 ^ 16) (top s) (lit< tt) (fine s) (coarse s))
 
 pub returns : goal.returns
 returns c =

@@ -4,7 +4,8 @@ use Prim.Native.Nat.{ℕ, ◌-◌, ◌/◌, ◌^◌, ◌<◌}
 use native.Mathlib.Omega.{arith}
 use native.Mathlib.Nat.{lt_of_le_of_lt}
 use lib.Dec.{lit<}
-use Rattle.arcs.proofs.Reduce.{dig-low, dig-high, within}
+use Rattle.fixed.proofs.Sizes.{dig-low, dig-high}
+use Rattle.arcs.proofs.Reduce.{within}
 use Rattle.arcs.specs.Atan.{angle_of}
 use Rattle.fixed.specs.Fixed.{digits}
 use Rattle.arcs.proofs.arctan.low_angle.Goals as goal

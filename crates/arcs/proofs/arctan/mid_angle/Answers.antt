@@ -1,14 +1,13 @@
 -- `arcs::arctan::mid_angle` meets its contract: Reduce.antt has the bounds of index, rest and quotient.
-use mathlib.Core.Path.{◌≡◌, sym, ap, ap₂, ◌∙◌, subst}
+use mathlib.Core.Path.{sym, ap, ap₂, ◌∙◌, subst}
 use Prim.Native.Nat.{ℕ, ◌+◌, ◌-◌, ◌*◌, ◌/◌, ◌^◌, ◌<◌, ◌≤◌}
 use native.Mathlib.Omega.{arith}
 use native.Mathlib.Nat.{le_trans, mul-le-mul_right}
 use lib.Dec.{lit<, lit≤}
-use lib.ListN.{get_or}
 use Rattle.fixed.specs.Fixed.{digits}
-use Rattle.arc_tables.specs.Tables.{angles}
 use Rattle.arcs.specs.Atan.{angle_of, gentle_of}
-use Rattle.arcs.proofs.Reduce.{dig-low, dig-high, within, i_lt, i-n, R-most, q-most, E}
+use Rattle.fixed.proofs.Sizes.{dig-low, dig-high}
+use Rattle.arcs.proofs.Reduce.{within, i_lt, i-n, R-most, q-most, E, sum-fits}
 use Rattle.arcs.proofs.arctan.mid_angle.Goals.{After-scaled-x}
 use Rattle.arcs.proofs.arctan.mid_angle.Goals as goal
 
@@ -35,12 +34,6 @@ product c = i-n (x c) (2 ^ 30) (2 ^ 20) (range c).1 (lit< tt) (lit≤ tt) (lit�
 
 rest : (c : After-scaled-x) → 2 ^ 7 * x c - i c * 2 ^ 30 ≤ 2 ^ 20 + 2 ^ 30
 rest c = R-most (x c) (2 ^ 30) (2 ^ 20) (range c).1 (lit< tt) (lit≤ tt) (lit≤ tt) (least c)
-
-angle-of : (a b : ℕ) → a ≡ b → b ≤ 2 ^ 57 - 2 ^ 50 → a ≤ 2 ^ 57
-angle-of a b e h = omega arith
-
-less : (a b : ℕ) → a ≡ b → b ≤ 2 ^ 49 + 2 ^ 41 → a < 2 ^ 50
-less a b e h = omega arith
 
 pub overflow_mul-i : goal.overflow_mul-i
 overflow_mul-i c = let h = (range (goal.at.overflow_mul-i c).After-scaled-x).1 in omega arith
@@ -71,10 +64,8 @@ gentle_angle-requires c = index (goal.at.gentle_angle-requires c).After-scaled-x
 
 pub angle_sum-requires : goal.angle_sum-requires
 angle_sum-requires c =
-    let s = (goal.at.angle_sum-requires c).After-scaled-x in (
-      angle-of c.gentle_angle.result (get_or angles (i s) 0) c.gentle_angle.ensures (E (x s) (2 ^ 30) (2 ^ 20) (range s).1 (lit< tt) (lit≤ tt) (lit≤ tt) (least s)).most,
-      less c.quotient-q.result ((2 ^ 7 * x s - i s * 2 ^ 30) * 2 ^ 56 / (2 ^ 7 * 2 ^ 30 + i s * x s)) c.quotient-q.ensures (q-most (x s) (2 ^ 30) (2 ^ 20) (range s).1 (lit< tt) (lit≤ tt) (lit≤ tt) (least s)),
-    )
+    let s = (goal.at.angle_sum-requires c).After-scaled-x in
+    sum-fits c.gentle_angle.ensures c.quotient-q.ensures (E (x s) (2 ^ 30) (2 ^ 20) (range s).1 (lit< tt) (lit≤ tt) (lit≤ tt) (least s)).most (q-most (x s) (2 ^ 30) (2 ^ 20) (range s).1 (lit< tt) (lit≤ tt) (lit≤ tt) (least s))
 
 pub returns : goal.returns
 returns c =

@@ -1,26 +1,31 @@
-use mathlib.Core.Path.{◌≡◌, refl}
+-- A turn writes an angle's row into its part of the cells.
+use mathlib.Core.Path.{◌≡◌, refl, ◌∙◌}
 use Prim.Native.Nat.{ℕ, ◌+◌, ◌-◌, ◌*◌, ◌≤◌}
 use native.Mathlib.Numerals.{add-one}
 use native.Mathlib.Omega.{arith}
 use borrow.Author.Rules.{rules}
-use borrow.Rule.Slice.PartMut.{mid_len}
+use borrow.Rule.Slice.PartMut.{mid_of, mid_len}
 use lib.ListN.{length}
 use Rattle.scalar.specs.F32.{at}
 use Rattle.cell_rows.specs.Row.{cell_scan_of}
-use Rattle.cell_rows.proofs.Writes.{row_in}
+use Rattle.cell_rows.proofs.Writes.{row_in, row_made}
 use Rattle.cell_rows.proofs.Rows.scan.Goals as goal
 
-pub loop-ia-2-init : goal.loop-ia-2-init
+pub loop-ia-init : goal.loop-ia-init
 unfolding cell_scan_of
-loop-ia-2-init c = (omega arith, refl)
+loop-ia-init c = (omega arith, refl)
 
-pub loop-ia-2-preserved : goal.loop-ia-2-preserved
+pub loop-ia-preserved : goal.loop-ia-preserved
 unfolding cell_scan_of
-loop-ia-2-preserved c =
+loop-ia-preserved c =
     let a = c.args in
-    let l = c.loop-ia-2 in
+    let r = a.self.now in
+    let l = c.loop-ia in
+    let rcosd = at a.rcosds.now l.ia in
     let long : length l.cells ≡ length a.cells.now = search rules in
     let from : ℕ = 30 * l.ia in
     let room : from + 30 ≤ length l.cells = omega (arith, long) in
     let part = mid_len from (from + 30) l.cells room in
-    (omega arith, rw (add-one _, ← l.invariant.1, c.settle.ensures) (row_in a.self.now.fv a.self.now.radii (at a.rcosds.now l.ia) from (from + 30 - from) l.cells 30 (omega arith) (omega (arith, part))))
+    let old = mid_of from (from + 30 - from) l.cells in
+    let e = c.copy_from_slice.ensures.after ∙ row_made r.fv r.radii rcosd old c.row.result (omega (arith, part)) (search rules) c.row.ensures in
+    (omega arith, rw (add-one _, ← l.invariant.1, e) (row_in r.fv r.radii rcosd from (from + 30 - from) l.cells 30 (omega arith) (omega (arith, part))))

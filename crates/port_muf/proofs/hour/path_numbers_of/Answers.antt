@@ -1,5 +1,9 @@
 -- Four words.
+use native.Mathlib.Omega.{arith}
+use Rattle.deviation_words.proofs.Read.{float-read}
 use Rattle.port_muf.proofs.hour.path_numbers_of.Goals as goal
 
 pub returns : goal.returns
-returns c = rw (← c.number-gcd.ensures, ← c.number-gcdkm.ensures, ← c.number-amind.ensures, ← c.number-ssn.ensures)
+returns c =
+    let w = c.args.numbers.now in
+    rw (c.floats.ensures, float-read w 4 0 (omega arith) (omega arith), float-read w 4 1 (omega arith) (omega arith), float-read w 4 2 (omega arith) (omega arith), float-read w 4 3 (omega arith) (omega arith))

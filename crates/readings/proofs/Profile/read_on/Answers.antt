@@ -9,7 +9,7 @@ returns-then-zi-htr c = rw c.if-zi-htr.true
 
 pub returns-then-on-lt49 : goal.returns-then-on-lt49
 unfolding read_on_of
-returns-then-on-lt49 c = rw (c.if-zi-htr.false, ← c.climb-on.ensures, lt-ltb _ _ c.if-on-lt49.true)
+returns-then-on-lt49 c = rw (c.if-zi-htr.false, ← c.climb-on.ensures, lt-ltb _ _ c.if-on-lt49.true, c.interpolated-line.ensures)
 
 pub returns : goal.returns
 unfolding read_on_of

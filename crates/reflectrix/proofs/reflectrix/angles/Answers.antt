@@ -1,8 +1,10 @@
 -- The rows are laid out for the scan, whose cells are the definition's.
-use mathlib.Core.Path.{sym, ◌∙◌}
+use mathlib.Core.Path.{◌≡◌, sym, ◌∙◌}
+use Prim.Native.Nat.{ℕ}
 use borrow.Author.Rules.{rules}
-use lib.Ieee.{Float}
-use Rattle.scalar.specs.F32.{◌+f◌}
+use lib.Ieee.{Float, nan}
+use Rattle.scalar.specs.F32.{◌+f◌, at}
+use Rattle.scalar.proofs.FromFn.{from_fn_each}
 use Rattle.constants.specs.Constants.{RZ}
 use Rattle.cell_rows.proofs.Maps.{map-each}
 use Rattle.reflectrix.proofs.Cells.{same-cells}
@@ -15,9 +17,9 @@ returns c =
     c.scan.ensures
     ∙ same-cells c.args.ion _ _ _
     (record {
-      heights = c.padded.result;
-      first = rw c.new-rows.ensures.fv c.padded-2.ensures;
-      second = c.padded.ensures;
-      third = c.new-rows.ensures.radii ∙ map-each (λ (h : Float). RZ +f h) _ _ (search rules) (search rules) (λ i l. let e = c.each-radii.ensures i l in search rules);
+      heights = c.padded-htrue.result;
+      first = rw c.new-rows.ensures.fv c.padded.ensures;
+      second = c.padded-htrue.ensures;
+      third = c.new-rows.ensures.radii ∙ map-each (λ (h : Float). RZ +f h) _ _ (search rules) (search rules) (from_fn_each (λ (i : ℕ) (y : Float). y ≡ RZ +f at c.padded-htrue.result i) (λ i y q l h. (search rules, search rules)) c.from_fn-radii.ensures.items nan);
       fourth = sym all;
     }) _ _

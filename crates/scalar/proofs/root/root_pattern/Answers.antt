@@ -1,12 +1,12 @@
 -- `scalar::root::root_pattern` meets its contract: four times what is rooted is the radicand. Assumes nothing.
 use mathlib.Core.Path.{◌≡◌, sym, ap, ap₂, ◌∙◌, subst}
-use Prim.Native.Nat.{ℕ, zero, suc, ◌+◌, ◌*◌, ◌/◌, ◌%◌, ◌^◌, ◌≤◌, ◌<◌}
-use native.Mathlib.Nat.{lt_trans, mod-lt, zero-lt-suc}
+use Prim.Native.Nat.{ℕ, ◌+◌, ◌*◌, ◌/◌, ◌%◌, ◌^◌, ◌≤◌, ◌<◌}
+use native.Mathlib.Nat.{lt_trans, le-add_right}
 use native.Mathlib.Omega.{arith}
 use lib.Dec.{lit<}
 use Rattle.scalar.specs.Root.{root}
 use Rattle.scalar.specs.RootPattern.{radicand, root_digits}
-use Rattle.scalar.proofs.RootDigits.{span}
+use Rattle.scalar.proofs.RootDigits.{digits_lt, span, fourfold}
 use Rattle.scalar.proofs.RootPattern.{digits_in}
 use Rattle.scalar.proofs.root.root_pattern.Goals.{After-rounded_root-digits}
 use Rattle.scalar.proofs.root.root_pattern.Goals as goal
@@ -18,36 +18,22 @@ m e = 2 ^ 23 + e % 2 ^ 23
 abbrev h : ℕ → ℕ
 h e = e / 2 ^ 23
 
-m-low : (e : ℕ) → 2 ^ 23 ≤ m e
-m-low e = omega arith
-
-m-high : (e : ℕ) → m e < 2 ^ 24
-m-high e = omega arith
-
 -- what is rooted: a fourth of the radicand
 abbrev rooted : ℕ → ℕ
 rooted e = m e * (2 ^ 23 + h e % 2 * 2 ^ 23)
 
-fourfold : (e : ℕ) → 4 * rooted e ≡ radicand (m e) (h e)
-fourfold e = go (m e) (h e % 2) (mod-lt (h e) (zero-lt-suc 1))
-  where
-    go : (m odd : ℕ) → odd < 2 → 4 * (m * (2 ^ 23 + odd * 2 ^ 23)) ≡ m * 2 ^ (25 + odd)
-    go m zero l = omega arith
-    go m (suc zero) l = omega arith
-    go m (suc (suc odd)) l = absurd (omega arith)
-
 rooted-in : (e : ℕ) → (0 < rooted e) × (rooted e < 2 ^ 48)
-rooted-in e = let s = span (m e) (h e) (m-low e) (m-high e) in within (rooted e) (radicand (m e) (h e)) (fourfold e) s.0 s.1
+rooted-in e = let s = span (m e) (h e) (le-add_right (2 ^ 23) (e % 2 ^ 23)) (digits_lt e) in within (rooted e) (radicand (m e) (h e)) (fourfold (m e) (h e)) s.0 s.1
   where
     within : (n A : ℕ) → 4 * n ≡ A → 2 ^ 48 ≤ A → A < 2 ^ 50 → (0 < n) × (n < 2 ^ 48)
     within n A f a b = (omega arith, omega arith)
 
 -- the callee's result
 result-is : (c : After-rounded_root-digits) → c.rounded_root-digits.result ≡ root_digits (m c.args.e) (h c.args.e)
-result-is c = c.rounded_root-digits.ensures ∙ ap (λ (x : ℕ). (root x + 1) / 2) (fourfold c.args.e)
+result-is c = c.rounded_root-digits.ensures ∙ ap (λ (x : ℕ). (root x + 1) / 2) (fourfold (m c.args.e) (h c.args.e))
 
 result-le : (c : After-rounded_root-digits) → c.rounded_root-digits.result ≤ 2 ^ 24
-result-le c = let e = c.args.e in subst (λ (x : ℕ). x ≤ 2 ^ 24) (sym (result-is c)) (digits_in (m e) (h e) (m-low e) (m-high e)).1
+result-le c = let e = c.args.e in subst (λ (x : ℕ). x ≤ 2 ^ 24) (sym (result-is c)) (digits_in (m e) (h e) (le-add_right (2 ^ 23) (e % 2 ^ 23)) (digits_lt e)).1
 
 pub overflow_mul-n : goal.overflow_mul-n
 overflow_mul-n c = record { fits = lt_trans (rooted-in c.args.e).1 (lit< tt) }

@@ -1,35 +1,27 @@
-use mathlib.Core.Path.{◌≡◌, refl, ap, ◌∙◌}
-use Prim.Native.Nat.{◌<◌}
-use native.Mathlib.Numerals.{add-one}
-use native.Mathlib.Omega.{arith}
-use borrow.Author.Rules.{rules}
-use lib.Ieee.{nan}
-use lib.ListN.{length}
-use Rattle.shape_densities.specs.Density.{fnd_of, candidates_of, density_of}
-use Rattle.cases.proofs.Tabulate.{mapped, mapped-more, mapped-all}
+use mathlib.Core.Path.{◌≡◌, ◌∙◌}
+use mathlib.Core.List.{List, map}
+use Prim.Native.Nat.{ℕ, ◌<◌}
+use Rattle.std.proofs.Common.{rules}
+use lib.Ieee.{Float, nan}
+use lib.ListN.{length, get_or}
+use Rattle.shape_densities.specs.Density.{fnd_of, candidates_of, candidates_by, largest_of, density_of}
+use Rattle.shape_densities.specs.declared.Curves.{Curves}
+use Rattle.scalar.proofs.FromFn.{from_fn_map}
 use Rattle.std.proofs.lemmas.List.{get_or-map}
 use Rattle.shape_densities.proofs.Curves.densities.Goals as goal
 
-pub loop-ih-init : goal.loop-ih-init
-loop-ih-init c = (omega arith, refl)
-
--- the tail's density at the height of the turn
-pub loop-ih-preserved : goal.loop-ih-preserved
+-- with the tail's density at the height
+at-height : (s : Curves) (fnd htr : List Float) (k : ℕ) → k < length htr → fnd ≡ map (fnd_of s) htr → largest_of (candidates_by (get_or fnd k nan) s (get_or htr k nan)) ≡ density_of s (get_or htr k nan)
 unfolding density_of candidates_of
-loop-ih-preserved c =
-    let a = c.args in
-    let i = c.loop-ih.ih in
-    let h : i < length a.htr = search rules in
-    let e = get_or-map (fnd_of a.self) a.htr i nan nan h in (
-      omega arith,
-      rw (c.largest-d.ensures, c.candidates.ensures, c.tails-fnd.ensures, e, c.loop-ih.invariant.1, add-one i)
-          (mapped-more (density_of a.self) nan a.htr a.htr i h),
-    )
+at-height s fnd htr k h e = rw (e, get_or-map (fnd_of s) htr k nan nan h)
 
 pub returns : goal.returns
 returns c =
-    let a = c.args in
-    let f = density_of a.self in
-    let n : length a.htr ≡ 50 = search rules in
-    let e : c.loop-ih.ih ≡ length a.htr = omega arith in
-    c.loop-ih.invariant.1 ∙ ap (mapped f nan a.htr a.htr) e ∙ mapped-all f nan a.htr a.htr refl
+    let s = c.args.self in
+    let htr = c.args.htr in
+    let fnd = c.tails-fnd.result in
+    let n : length htr ≡ 50 = search rules in
+    from_fn_map (density_of s) htr nan nan n
+    (λ k y q l r.
+    let e : y ≡ largest_of (candidates_by (get_or fnd k nan) s (get_or htr k nan)) = search rules in (e ∙ at-height s fnd htr k (rw n l) c.tails-fnd.ensures, search rules))
+    c.from_fn.ensures.items

@@ -1,20 +1,13 @@
 use mathlib.Core.Path.{◌≡◌, refl, ap, ◌∙◌}
-use mathlib.Core.List.{List, [], ◌∷◌}
-use Prim.Native.Nat.{ℕ, zero, suc, ◌<◌}
+use Prim.Native.Nat.{◌<◌}
 use native.Mathlib.Numerals.{add-one}
 use native.Mathlib.Omega.{arith}
 use borrow.Author.Rules.{rules}
-use lib.Ieee.{Float, nan}
-use lib.ListN.{length, get_or}
+use lib.Ieee.{nan}
+use lib.ListN.{length}
 use Rattle.shape_densities.specs.Density.{fnd_of}
-use Rattle.cases.proofs.Tabulate.{mapped, mapped-more, mapped-all}
+use Rattle.cases.proofs.Tabulate.{mapped, mapped-more, mapped-all, untouched}
 use Rattle.shape_densities.proofs.Curves.tails.Goals as goal
-
--- the place of the turn is as it was
-untouched : (f : Float → Float) (l : List Float) (i : ℕ) → get_or (mapped f nan l l i) i nan ≡ get_or l i nan
-untouched f l zero = refl
-untouched f [] (suc i) = refl
-untouched f (x ∷ l) (suc i) = untouched f l i
 
 pub loop-h-init : goal.loop-h-init
 loop-h-init c = refl
@@ -24,7 +17,7 @@ loop-h-preserved c =
     let a = c.args in
     let i = c.loop-h.h-index in
     let h : i < length a.htr = search rules in
-    rw (c.tail_density.ensures, c.loop-h.invariant, untouched (fnd_of a.self) a.htr i, add-one i)
+    rw (c.tail_density.ensures, c.loop-h.invariant, untouched (fnd_of a.self) nan a.htr i, add-one i)
     (mapped-more (fnd_of a.self) nan a.htr a.htr i h)
 
 pub returns : goal.returns

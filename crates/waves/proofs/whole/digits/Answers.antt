@@ -3,7 +3,7 @@ use mathlib.Core.Path.{ap}
 use Prim.Native.Nat.{ℕ, ◌/◌, ◌^◌}
 use native.Mathlib.Nat.{mod-eq_of_lt}
 use native.Mathlib.Omega.{arith}
-use Rattle.waves.proofs.Patterns.{top_of}
+use Rattle.fixed.proofs.Round.{top_of}
 use Rattle.waves.proofs.whole.digits.Goals as goal
 
 pub overflow_cast-result : goal.overflow_cast-result

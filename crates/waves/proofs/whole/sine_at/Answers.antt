@@ -5,15 +5,13 @@ use native.Mathlib.Omega.{arith}
 use lib.Count.{count_leading_zeros}
 use Rattle.fixed.specs.Fixed.{pattern}
 use Rattle.waves.specs.SinCos.{ratio_of, sine_at}
-use Rattle.waves.proofs.Patterns.{top_of, packed, sine-at-lt}
+use Rattle.fixed.proofs.Round.{top_of}
+use Rattle.waves.proofs.Patterns.{packed, sine-at-lt}
 use Rattle.waves.proofs.whole.sine_at.Goals as goal
 
 -- d are the digits, s the ratio
 is : (r d s : ℕ) → d ≡ r * 2 ^ count_leading_zeros 64 r / 2 ^ 32 → s ≡ ratio_of r → d * s ≡ r * 2 ^ count_leading_zeros 64 r / 2 ^ 32 * ratio_of r
 is r d s e f = ap₂ (λ (x y : ℕ). x * y) e f
-
-few : (r : ℕ) → 0 < r → r < 2 ^ 64 → count_leading_zeros 64 r ≤ 63
-few r p h = (top_of r p h).few
 
 pattern_is : (r d s p : ℕ) → d ≡ r * 2 ^ count_leading_zeros 64 r / 2 ^ 32 → s ≡ ratio_of r → p ≡ pattern (d * s) → p ≡ pattern (r * 2 ^ count_leading_zeros 64 r / 2 ^ 32 * ratio_of r)
 pattern_is r d s p e f g = g ∙ ap (λ (x : ℕ). pattern x) (is r d s e f)
@@ -29,10 +27,10 @@ pack-requires c =
     subst (λ (x : ℕ). (2 ^ 30 ≤ x) × (x < 2 ^ 64)) (sym (is c.args.r c.digits.result c.ratio.result c.digits.ensures c.ratio.ensures)) (k.big, k.fits)
 
 pub overflow_add-size : goal.overflow_add-size
-overflow_add-size c = omega (arith, few c.args.r c.requires.1.0 c.ranges.r.fits)
+overflow_add-size c = omega (arith, (top_of c.args.r c.requires.1.0 c.ranges.r.fits).few)
 
 pub overflow_mul-size : goal.overflow_mul-size
-overflow_mul-size c = omega (arith, few c.args.r c.requires.1.0 c.ranges.r.fits)
+overflow_mul-size c = omega (arith, (top_of c.args.r c.requires.1.0 c.ranges.r.fits).few)
 
 pub overflow_sub-size : goal.overflow_sub-size
 overflow_sub-size c =

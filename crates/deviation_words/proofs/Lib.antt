@@ -1,0 +1,2 @@
+-- Words as floats.
+pub mod Read

@@ -1,0 +1,2 @@
+-- The lines of an hour.
+mod Lines

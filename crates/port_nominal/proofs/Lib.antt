@@ -1,0 +1,2 @@
+-- Rows of words.
+mod WordRows
