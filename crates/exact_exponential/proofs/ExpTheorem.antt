@@ -102,7 +102,7 @@ low-result c h =
     (subnormal c (omega arith)))
     (λ l. subst (λ (y : ℕ). HasValue (of_bits binary32 y) false (y * 1) (2 ^ 149)) (omega arith) (result 0 (2 ^ 23) (le_refl (2 ^ 23)) (lit≤ tt) (lit< tt)))
 
--- ---- what is rounded_to24 has 24 bits
+-- ---- what is rounded has 24 bits
 module _ (R : ℕ) (r : R ≤ ln2) where
   from-23 : 2 ^ 23 ≤ rounded_to24 (power_of R)
   from-23 = rounded-ge (power_of R) (power-ge R r)

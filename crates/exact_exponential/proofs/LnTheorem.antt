@@ -2,15 +2,14 @@
 use mathlib.Core.Path.{◌≡◌, refl, sym, ap, ◌∙◌, subst, subst₂}
 use mathlib.Core.Bool.{Bool, true, false, cond, true≢false, false≢true}
 use Prim.Native.Nat.{ℕ, zero, suc, ◌+◌, ◌-◌, ◌*◌, ◌/◌, ◌%◌, ◌^◌, ◌≤◌, ◌<◌}
-use native.Mathlib.Nat.{not-le_of_lt, le_trans, le_of_eq, le_of_lt, le_refl, lt_of_lt_of_le, one-mul, mul-one, mul_assoc, mul_comm, mul_left_comm, mul-le-mul, mul-pos, eq_of_mul-eq-mul_right}
+use native.Mathlib.Nat.{le_trans, le_of_eq, le_of_lt, le_refl, lt_of_lt_of_le, one-mul, mul_assoc, mul_comm, mul_left_comm, mul-le-mul_right, mul-pos, eq_of_mul-eq-mul_right}
 use native.Mathlib.Omega.{arith}
 use lib.Dec.{lit<, lit≤}
 use lib.IntN.{pos, negsuc}
-use lib.Pow.{pow_pos, pow-add}
+use lib.Pow.{pow_pos, pow_mono, pow-add}
 use lib.Count.{count_leading_zeros}
 use borrow.Author.Tests.{le-leb, lt-leb}
 use lib.Ieee.{Float, nan, inf, fin, binary32, up, down, size, of_bits, to_bits}
-use lib.Ieee.Digits.{size-lt, size-le}
 use lib.Ieee.Fits.{down_pos}
 use lib.Ieee.Bits.{of_bits-to_bits, to_bits-lt}
 use lib.Ieee.Exact.{HasValue}
@@ -18,7 +17,7 @@ use Rattle.series.specs.Series.{full, num}
 use Rattle.cases.proofs.Cases.{split}
 use Rattle.fixed.specs.Fixed.{mant, pattern}
 use Rattle.fixed.proofs.Round.{rounded, place, pattern_lt}
-use Rattle.fixed.proofs.Values.{value-normal, subnormal, packed-value}
+use Rattle.fixed.proofs.Values.{value-normal, subnormal, packed-value, ulp-exp}
 use Rattle.exponential.specs.Tables.{ln2}
 use Rattle.logarithm.specs.Ln.{rest_of, above, below, ln_bits, ln_of}
 use Rattle.logarithm.proofs.LnCases.{ln-zero, ln-none, ln-inf, ln-1, ln-up, ln-down, ln-deep, shifted}
@@ -29,6 +28,7 @@ use Rattle.scalar.proofs.Nan.{nan_pattern, the-nan}
 use Rattle.scalar.proofs.Sign.{plus-zero}
 use Rattle.scalar.proofs.Patterns.{steps-is}
 use Rattle.exact_exponential.proofs.Special.{an-inf, minus-inf, minus-zero}
+use Rattle.exact.proofs.Unit.{below_le}
 use Rattle.exponential_bounds.proofs.Units.{unit, unit_below}
 use Rattle.exponential_bounds.proofs.Exponents.{same-le, same-ge}
 use Rattle.exponential_bounds.proofs.LnSum.{Good, good-up, good-down}
@@ -52,24 +52,17 @@ module _ (S : ℕ) (from : 2 ^ 30 ≤ S) (fit : S < 2 ^ 64) where
   abbrev v : ℕ
   v = mant S * place S
 
-  v-ge : 2 ^ 23 ≤ v
-  v-ge = le_trans (le_of_eq (sym (mul-one (2 ^ 23)))) (mul-le-mul (rounded S from fit).least (pow_pos (133 - count_leading_zeros 64 S)))
+  v-pos : 0 < v
+  v-pos = mul-pos (lt_of_lt_of_le (lit< tt) (rounded S from fit).least) (pow_pos (133 - count_leading_zeros 64 S))
 
   under : 15 * unit_below v < 16 * v
-  under = go (unit_below v) v (at-most (v - 1) (omega (arith, v-ge))) v-ge
+  under =
+      let R = rounded S from fit in
+      let e = 133 - count_leading_zeros 64 S in
+      go (place S) (unit_below v) v (le_trans (below_le v) (le_trans (pow_mono (ulp-exp (mant S) e R.least R.most).1) (le_of_eq (pow-add 2 e 1)))) (pow_pos e) (mul-le-mul_right (place S) R.least)
     where
-      at-most : (z : ℕ) → 0 < z → unit z ≤ z
-      at-most z p = split z (unit z) (λ l. absurd (short (size z) (size-le z (size z - 24) l) (size-lt z))) (λ l. l)
-        where
-          -- a number above 0 has a digit
-          short : (y : ℕ) → y ≤ y - 24 → z < 2 ^ y → ⊥
-          short y h k = split y 1 (λ l. not-le_of_lt (lt_of_lt_of_le k (le_of_eq (ap (λ (x : ℕ). 2 ^ x) (none y l)))) p) (λ l. omega arith)
-            where
-              none : (y : ℕ) → y < 1 → y ≡ 0
-              none y l = omega arith
-
-      go : (u v : ℕ) → u ≤ v - 1 → 2 ^ 23 ≤ v → 15 * u < 16 * v
-      go u v h k = omega arith
+      go : (p u v : ℕ) → u ≤ p * 2 ^ 1 → 0 < p → 2 ^ 23 * p ≤ v → 15 * u < 16 * v
+      go p u v h k l = omega arith
 
 not-zero : (X W D c : ℕ) → X ≡ 0 → X * c ≡ W * D → 0 < W → 0 < D → ⊥
 not-zero X W D c z e w d = omega (arith, ap (λ (x : ℕ). x * c) z, mul-pos w d)
@@ -106,7 +99,7 @@ module _ (S a b W : ℕ) (G : Good S a b) (B : 0 < b) (P : 0 < W) where
       let D = down e in
       let V' = mant S * place S in
       subst (λ (z : ℕ). PowLe (lower true (16 * z) (15 * unit z)) (16 * 2 ^ 149) X D × PowGe (upper true (16 * z) (15 * unit_below z)) (16 * 2 ^ 149) X D) (sym (steps-is (fin true n f) true V' k)) (
-        low-minus (16 * V') (15 * unit V') (16 * 2 ^ 149) X D (mul-pos {m = 16} (lit< tt) (lt_of_lt_of_le (lit< tt) (v-ge S G.from G.fits))) (same-ge (16 * V' + 15 * unit V') (16 * 2 ^ 149) a b D X B (Q X D h.1) G.high),
+        low-minus (16 * V') (15 * unit V') (16 * 2 ^ 149) X D (mul-pos {m = 16} (lit< tt) (v-pos S G.from G.fits)) (same-ge (16 * V' + 15 * unit V') (16 * 2 ^ 149) a b D X B (Q X D h.1) G.high),
         high-minus (16 * V') (15 * unit_below V') (16 * 2 ^ 149) X D (under S G.from G.fits) (same-le (16 * V' - 15 * unit_below V') (16 * 2 ^ 149) a b D X B (Q X D h.1) G.low),
       )
 

@@ -1,4 +1,4 @@
--- What `power_of` gives, rounded_to24 to 24 bits or to a whole number of units 2 ^ -149, is at most 15/16 of a unit of its last place from all later partial sums of e ^ x, or from their reciprocals where x is negative; below it, of the unit there.
+-- What `power_of` gives, rounded to 24 bits or to a whole number of units 2 ^ -149, is at most 15/16 of a unit of its last place from all later partial sums of e ^ x, or from their reciprocals where x is negative; below it, of the unit there.
 -- The error before rounding is at most 7/16 of the unit, and the rounding's half. Where the 24 bits are 2 ^ 23 the rounding was downwards, since `power_of` is at least 2 ^ 62, and 7/16 is less than 15/16 of half.
 use mathlib.Core.Path.{◌≡◌, sym, ap, ◌∙◌, subst}
 use Prim.Native.Nat.{ℕ, ◌+◌, ◌-◌, ◌*◌, ◌/◌, ◌^◌, ◌≤◌, ◌<◌}

@@ -1,7 +1,7 @@
 -- ln (m / 2 ^ 23 * 2 ^ E) and -ln (m / 2 ^ 23 * 2 ^ -E) as S units of 2 ^ -56: what S is off is at most 7/16 of the place to which it is rounded, so the rounded S is at most 15/16 of it from the logarithm. Where the 24 bits are 2 ^ 23 the rounding was downwards, so below there is only what S is off, less than 15/16 of half of the place.
 use mathlib.Core.Path.{◌≡◌, refl, sym, ap, ◌∙◌, subst}
 use Prim.Native.Nat.{ℕ, ◌+◌, ◌-◌, ◌*◌, ◌^◌, ◌≤◌, ◌<◌}
-use native.Mathlib.Nat.{le_trans, le_of_eq, lt_of_lt_of_le, mul-le-mul_left, mul-le-mul_right, le_of_mul-le-mul_right, sub-add_cancel}
+use native.Mathlib.Nat.{le_trans, le_of_eq, lt_of_lt_of_le, mul_comm, mul-sub, mul-le-mul_left, mul-le-mul_right, le_of_mul-le-mul_right, sub-add_cancel}
 use native.Mathlib.Omega.{arith}
 use lib.Dec.{lit≤, lit<}
 use lib.Pow.{pow_pos, pow-add}
@@ -68,13 +68,7 @@ placed S big fits =
     }
   where
     taken : (x y T z : ℕ) → x * T ≤ z + y * T → (x - y) * T ≤ z
-    taken x y T z h = split x y (λ k. none (x - y) (omega arith)) (λ k. some (x - y) (sub-add_cancel k))
-      where
-        none : (n : ℕ) → n ≡ 0 → n * T ≤ z
-        none n e = omega (arith, ap (λ (i : ℕ). i * T) e)
-
-        some : (n : ℕ) → n + y ≡ x → n * T ≤ z
-        some n e = omega (arith, h, ap (λ (i : ℕ). i * T) e)
+    taken x y T z h = le_trans (le_of_eq (mul_comm (x - y) T ∙ mul-sub T x y)) (omega (arith, h))
 
 -- what is to be shown of S: rounded to 24 bits, its exponent less 15/16 of the unit below it and more 15/16 of its own encloses a / b
 pub record Good (S a b : ℕ) : Type 0 where
