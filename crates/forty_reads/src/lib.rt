@@ -114,11 +114,13 @@ fn scan_reads(p: Profile, ht: f32) -> Densities
 pub fn gethp_densities(p: Profile, ht: f32, fr: f32) -> Densities
     ensures { (result.ysq ≡ table_by p.entry.rises p.entry.htr.now p.entry.fnsq.now ht fr) × (result.cursor ≡ cursor_read_by p.entry.rises p.entry.htr.now p.entry.fnsq.now ht) }
 {
-    let mut d = if p.rises {
+    let d = if p.rises {
         walk_reads(p, ht)
     } else {
         scan_reads(p, ht)
     };
-    integrands::shares(&mut d.ysq, fr);
-    d
+    Densities {
+        ysq: integrands::shares(d.ysq, fr),
+        cursor: d.cursor,
+    }
 }
