@@ -23,8 +23,8 @@ dropped x b n e = go (is_nan x) refl
     go false i = rw (i, is_true (lt b x) (lt_of_not-le x b (T_from_false (is_nan x) i) n (T_from_false (le x b) e)))
 
 pub returns-else-x : goal.returns-else-x
-unfolding of_bits is_nan
-returns-else-x c = dropped c.args.x _ tt c.if-x.false
+unfolding of_bits is_nan le
+returns-else-x c = (dropped c.args.x _ tt c.if-x.false, tt)
 
 pub returns-then-x : goal.returns-then-x
-returns-then-x c = kept c.args.x _ c.if-x.true
+returns-then-x c = (kept c.args.x _ c.if-x.true, T_from_true _ c.if-x.true)
