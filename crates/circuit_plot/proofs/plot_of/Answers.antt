@@ -2,7 +2,7 @@
 use Rattle.std.proofs.lemmas.Result.{err_from_is_err_and}
 use Rattle.circuit_sheet.specs.CircuitSheet.{sheet_of}
 use Rattle.circuit_plot.specs.CircuitPlot.{plot_of}
-use Rattle.circuit_plot.proofs.of_file.Goals as goal
+use Rattle.circuit_plot.proofs.plot_of.Goals as goal
 
 pub returns-in_err-c : goal.returns-in_err-c
 unfolding plot_of sheet_of

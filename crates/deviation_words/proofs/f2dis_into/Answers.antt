@@ -2,7 +2,7 @@ use native.Mathlib.Omega.{arith}
 use Rattle.std.proofs.Common.{rules}
 use Rattle.deviation_words.specs.F2disWords.{f2dis_left}
 use Rattle.deviation_words.proofs.Read.{float-read}
-use Rattle.deviation_words.proofs.f2dis.Goals as goal
+use Rattle.deviation_words.proofs.f2dis_into.Goals as goal
 
 pub returns : goal.returns
 unfolding f2dis_left

@@ -5,7 +5,7 @@ use borrow.Author.Tests.{lt-ltb, le-ltb}
 use Rattle.lines.proofs.Placing.{fits}
 use Rattle.composing.specs.Composing.{long_text, composed_text}
 use Rattle.composing.proofs.Answered.{good_said, file-room, wrong-room}
-use Rattle.composing.proofs.compose.Goals as goal
+use Rattle.composing.proofs.composed_text.Goals as goal
 
 pub returns-then-text-gt32768 : goal.returns-then-text-gt32768
 unfolding long_text composed_text

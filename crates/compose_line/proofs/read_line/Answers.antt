@@ -4,12 +4,12 @@ use Rattle.std.specs.Prelude.{Err}
 use mathlib.Core.Path.{◌≡◌, sym, ap, ◌∙◌}
 use Rattle.words.specs.Words.{words_of, up_to}
 use Rattle.compose_line.proofs.Then.{then-ok, then-err}
-use Rattle.compose_line.proofs.read.Goals.{After-all_words}
+use Rattle.compose_line.proofs.read_line.Goals.{After-all_words}
 use lib.Seq.{length-take-le}
 use Rattle.compose_line.specs.Row.{blank_row, with_words, ended_row, row_of}
 use Prim.Native.Nat.{ℕ}
 use lib.ListN.{take}
-use Rattle.compose_line.proofs.read.Goals as goal
+use Rattle.compose_line.proofs.read_line.Goals as goal
 
 pub slice_bounds-all_words-end : goal.slice_bounds-all_words-end
 slice_bounds-all_words-end c = sym (length-take-le _ _ c.until-e.ensures.0)

@@ -1,6 +1,6 @@
 use Rattle.std.proofs.Common.{sym, ap, length, ◌∙◌, arith, inl, inr}
 use Rattle.first_difference.proofs.Bytes.{compared-bytes, feed-most, on, off, even, uneven}
-use Rattle.first_difference.proofs.compare.Goals as goal
+use Rattle.first_difference.proofs.verdict.Goals as goal
 
 pub returns-then-a-b : goal.returns-then-a-b
 returns-then-a-b c =

@@ -6,7 +6,7 @@ use Prim.Native.Nat.{ℕ, ◌^◌, ◌≤◌, ◌<◌}
 use native.Mathlib.Nat.{pow-le-pow_right}
 use native.Mathlib.Omega.{arith}
 use Rattle.decimals.proofs.Rounded.{zero_is}
-use Rattle.decimals.proofs.fraction.nearest.Goals as goal
+use Rattle.decimals.proofs.fraction.nearest_bits.Goals as goal
 
 ten-range : (k : ℕ) → k ≤ 9 → (0 < 10 ^ k) × (10 ^ k < 2 ^ 32)
 ten-range k h =

@@ -1,7 +1,7 @@
 -- What is left of both, line and all, has the verdict of the whole; each byte past gave one line at most.
 use Rattle.std.proofs.Common.{◌≡◌, ◌+◌, ◌≤◌, length}
 use Rattle.first_difference.proofs.Bytes.{by_bytes}
-use Rattle.first_difference.proofs.compare.Given as goal
+use Rattle.first_difference.proofs.verdict.Given as goal
 
 abbrev pub invariant-loop-a : goal.invariant-loop-a
 invariant-loop-a l =

@@ -8,7 +8,7 @@ use lib.Seq.{length-take-le, get_or-take, get_or-drop}
 use Rattle.std.proofs.Common.{rules}
 use Rattle.scalar.proofs.FromFn.{from_fn_map}
 use Rattle.port_circuit.specs.Words.{words_from}
-use Rattle.port_circuit.proofs.words.Goals as goal
+use Rattle.port_circuit.proofs.words_from.Goals as goal
 
 pub returns : goal.returns
 unfolding words_from

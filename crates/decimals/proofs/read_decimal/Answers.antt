@@ -9,8 +9,8 @@ use lib.ListN.{length, get_or}
 use borrow.Author.Tests.{ne_eqb}
 use Rattle.decimals.specs.Decimal.{unsigned_of, decimal_read}
 use Rattle.decimals.proofs.DigitLists.{tail-whole}
-use Rattle.decimals.proofs.read.Goals.{in_default-via-then-word-lt1, in_default-via-else-word-lt1+in_default-1}
-use Rattle.decimals.proofs.read.Goals as goal
+use Rattle.decimals.proofs.read_decimal.Goals.{in_default-via-then-word-lt1, in_default-via-else-word-lt1+in_default-1}
+use Rattle.decimals.proofs.read_decimal.Goals as goal
 
 plain : (w : List ℕ) → (get_or w 0 0 ≡ 45 → ⊥) → (get_or w 0 0 ≡ 43 → ⊥) → unsigned_of false w ≡ decimal_read w
 unfolding decimal_read
