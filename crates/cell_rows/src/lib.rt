@@ -63,10 +63,10 @@ pub struct Rows {
     pub plain: [f32; 32],
     pub low: [u32; 32],
     pub high: [u32; 32],
-    pub ghost held: { (i : ℕ) → i < 32 → T (fits binary32 (number_at fv i)) },
-    pub ghost plains: { (i : ℕ) → i < 32 → T (positive (number_at plain i)) },
     pub ghost lows: { low ≡ map low_pattern_of fv },
     pub ghost highs: { high ≡ map high_pattern_of fv },
+    pub ghost held: { (i : ℕ) → i < 32 → T (fits binary32 (number_at fv i)) },
+    pub ghost plains: { (i : ℕ) → i < 32 → T (positive (number_at plain i)) },
 }
 
 impl Rows {

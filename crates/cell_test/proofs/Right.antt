@@ -21,7 +21,7 @@ use Rattle.cell_test.specs.Laws.{product_of}
 use Rattle.cell_test.proofs.Cosine.{square-sign}
 use Rattle.cell_test.proofs.Patterns.{pattern-lt, patterns-le}
 use Rattle.cell_test.proofs.Steps.{L, Is}
-use Rattle.cell_test.proofs.Test.{Sized, one, whole, under-finite, over-finite, under_one_lem, over-one, least-mhz, most-mhz, tame-size, cosine-size, sized, bound-value, khz-above, product-value, test-suffices}
+use Rattle.cell_test.proofs.Test.{Sized, own, one, whole, under-finite, over-finite, under_one_lem, over-one, least-mhz, most-mhz, tame-size, cosine-size, sized, bound-value, khz-above, product-value, test-suffices}
 use Rattle.cell_test.proofs.Zero.{Zero, of-value, zero-real, by_zero, zero-by}
 
 -- ---- a zero without a sign
@@ -39,11 +39,9 @@ no-units (inf t) z s = absurd z
 no-units (fin t m e) z s = (s, ap (λ (k : ℕ). k * up e * L) z ∙ ap (λ (k : ℕ). k * L) (zero-mul (up e)) ∙ zero-mul L ∙ sym (zero-mul (down e)))
 
 -- ---- the products
+-- a cosine of 1
 unit : Sized f1 (2 ^ 129) (2 ^ 149)
 unit = record { size = 2 ^ 149; is = one; least = lit≤ tt; most = lit≤ tt }
-
-mhz : Sized f1 (2 ^ 139) (2 ^ 159)
-mhz = record { size = 2 ^ 149; is = one; least = lit≤ tt; most = lit≤ tt }
 
 pub record Units (x : Float) : Type 0 where
   pub units : ℕ
@@ -61,7 +59,7 @@ product-is s zero f l m h =
     record { units = 0; is = no-units (product_of 0 s) (zero-by (mul binary32 x x) s k g) (unsigned (mul binary32 x x) s (zero-real (mul binary32 x x) k) g (square-sign x) (sized-as binary32 s false c.size c.is).1); most = pow_pos 302 }
 product-is s (suc n) f l m h =
     let c = cosine-size s f l m in
-    let y = product-value f1 s mhz c (suc n) (zero-lt-suc n) h in
+    let y = product-value f1 s own c (suc n) (zero-lt-suc n) h in
     record { units = y.0; is = y.1; most = lt_of_le_of_lt y.2 (lit< tt) }
 
 -- ---- the bounds

@@ -95,6 +95,10 @@ pub whole : (n : ℕ) → n ≤ 2 ^ 22 → HasValue (of_int binary32 (pos n)) fa
 unfolding of_int
 whole n h = round_whole binary32 false n (le_trans h (lit≤ {m = 2 ^ 22} {n = 2 ^ 24} tt))
 
+-- 1 MHz: the numbers of its row stand for those of any where the row is not seen
+pub own : Sized f1 (2 ^ 139) (2 ^ 159)
+own = record { size = 2 ^ 149; is = one; least = lit≤ tt; most = lit≤ tt }
+
 -- ---- the numbers on the way
 module _ (fvv s : Float) (f : Sized fvv (2 ^ 139) (2 ^ 159)) (c : Sized s (2 ^ 129) (2 ^ 149)) where
   abbrev F : ℕ
@@ -282,10 +286,6 @@ test-suffices fvv s n f g at_least_lem at_most l below-high above_low = go (tame
     low_end : (z : Sized fvv (2 ^ 139) (2 ^ 159)) (n : ℕ) → n < 2 ^ 22 → T (of_int binary32 (pos n) *f of_int binary32 (pos n) *f s ≤f ((f1000 *f fvv) *f (f1000 *f fvv) *f under_one)) → n * L ≤ P fvv s z c
     low_end z zero l t = le_trans (le_of_eq (zero-mul L)) zero-le
     low_end z (suc n) l t = not-above fvv s z c (suc n) (zero-lt-suc n) (le_of_lt l) t
-
-    -- by the numbers of a row at 1 MHz, which the product does not see
-    own : Sized f1 (2 ^ 139) (2 ^ 159)
-    own = record { size = 2 ^ 149; is = one; least = lit≤ tt; most = lit≤ tt }
 
     nothing : (n : ℕ) → n < 2 ^ 22 → Zero fvv → T (product_of n s ≤f ((f1000 *f fvv) *f (f1000 *f fvv) *f under_one)) → trunc_of (f1000 *f (fvv /f sqrt_of s)) ≡ pos n
     nothing zero l z t =

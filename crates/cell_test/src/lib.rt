@@ -34,7 +34,7 @@ pub fn squared_cosine(sphe: f32) -> f32
 }
 
 // The cell itself, with a root and a division.
-// Stays: a row's fvv and an angle's sqcos, here and below, meet in one cell and are no pair that is kept.
+// Stays: a row's fvv and an angle's sqcos meet in one cell and are no pair that is kept.
 pub fn khz(fvv: f32, sqcos: f32) -> i32
     ensures { result ≡ khz_of fvv sqcos }
 {
@@ -65,6 +65,7 @@ pub fn plain(fvv: f32) -> f32
 // What the square of a number that is not above the cell, by the square of the cosine, is at most. By its
 // pattern, as all that is tested: a comparison of whole numbers is made for several places at once. That the format
 // holds fvv is said too, since an array does not tell it of its numbers.
+// Stays: beside `high`, since one function of both would be handed the factor and what a frequency that is not tame gets.
 pub fn low(fvv: f32) -> u32
     ensures value { result ≡ low_pattern_of fvv }
     ensures held { T (fits binary32 fvv) }

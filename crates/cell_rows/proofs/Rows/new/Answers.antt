@@ -13,8 +13,8 @@ pub invariant_of-result : goal.invariant_of-result
 invariant_of-result c =
     let fv = c.args.fv in
     record {
-      held = from_fn_each (λ (i : ℕ) (y : ℕ). T (fits binary32 (at fv i))) (λ i y q l h. (search rules, search rules)) c.from_fn-2.ensures.items 0;
-      plains = from_fn_each (λ (i : ℕ) (y : Float). T (positive y)) (λ i y q l h. (search rules, search rules)) c.from_fn.ensures.items nan;
       lows = from_fn_map low_pattern_of fv nan 0 (search rules) (λ i y q l h. (search rules, search rules)) c.from_fn-2.ensures.items;
       highs = from_fn_map high_pattern_of fv nan 0 (search rules) (λ i y q l h. (search rules, search rules)) c.from_fn-3.ensures.items;
+      held = from_fn_each (λ (i : ℕ) (y : ℕ). T (fits binary32 (at fv i))) (λ i y q l h. (search rules, search rules)) c.from_fn-2.ensures.items 0;
+      plains = from_fn_each (λ (i : ℕ) (y : Float). T (positive y)) (λ i y q l h. (search rules, search rules)) c.from_fn.ensures.items nan;
     }
