@@ -1,16 +1,16 @@
 -- What vectors hold that are worked out lane by lane from the vector h: each is `map` of one lane's value. A mask's lanes are words, all ones where its test holds and else 0.
-use mathlib.Core.Bool.{Bool, true, false, not, cond, ◌&&◌, ◌||◌}
+use mathlib.Core.Bool.{Bool, true, false, cond, ◌&&◌, ◌||◌}
 use mathlib.Core.Path.{◌≡◌, refl, sym, ap, ap₂, ◌∙◌}
 use mathlib.Core.List.{List, [], ◌∷◌, map}
 use Prim.Native.Nat.{ℕ}
 use lib.Bits.{bit_and, bit_or}
-use lib.Ieee.{Float, nan, inf, fin, lt, eq, ne, is_nan}
+use lib.Ieee.{Float, lt, ne}
 use lib.Lanes.{zip2, sel_l, top}
 use lib.ListN.{length, replicate}
-use Rattle.std.proofs.lemmas.Bool.{eq-eqb}
 use Rattle.std.proofs.lemmas.List.{map-id}
 use Rattle.std.proofs.lemmas.Simd.{splat_is_map, zip2-map}
 use Rattle.scalar.specs.Scalar.{or_second, max_of}
+use Rattle.scalar.proofs.Nan.{differs-is-nan}
 
 abbrev pub word : Bool → ℕ
 word t = cond t 0xffff_ffff 0
@@ -59,14 +59,6 @@ pub select : {A X : Type 0} {h : List A} {t : A → Bool} {f g : A → X} {ms : 
 select {h = h} {t} {f} {g} m a b = record { is = (λ i. sel_l (map (top 31) (m.is i)) (a.is i) (b.is i)) ∙ selected h t f g }
 
 -- ---- the larger of two
-differs : (x : Float) → ne x x ≡ is_nan x
-unfolding ne eq is_nan
-differs nan = refl
-differs (inf true) = refl
-differs (inf false) = refl
-differs (fin true m e) = ap (λ t. not (t && true)) (eq-eqb _ _ refl)
-differs (fin false m e) = ap (λ t. not (t && true)) (eq-eqb _ _ refl)
-
 or : (a b : Float) (p q : Bool) → cond (top 31 (bit_or (word p) (word q))) b a ≡ or_second (p || q) a b
 unfolding or_second
 or a b true true = refl
@@ -78,4 +70,4 @@ pub larger : (xs ys : List Float) → sel_l (map (top 31) (zip2 bit_or (zip2 (λ
 unfolding max_of
 larger [] ys = refl
 larger (x ∷ xs) [] = refl
-larger (x ∷ xs) (y ∷ ys) = ap₂ (λ a l. a ∷ l) (or x y (ne x x) (lt x y) ∙ ap (λ t. or_second (t || lt x y) x y) (differs x)) (larger xs ys)
+larger (x ∷ xs) (y ∷ ys) = ap₂ (λ a l. a ∷ l) (or x y (ne x x) (lt x y) ∙ ap (λ t. or_second (t || lt x y) x y) (differs-is-nan x)) (larger xs ys)

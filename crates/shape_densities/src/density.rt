@@ -1,8 +1,9 @@
-// The plasma frequency squared at N heights, each a lane: the largest of the five shapes, each 0 outside its own range.
-// Both values of a shape are worked out before one is picked, but for the tail, which calls `exp` only
-// where it counts.
+// The plasma frequency squared at N heights: the largest of the five shapes, each 0 outside its own range.
+// Heights are lanes of a vector, since the compiler makes no vector instructions of a loop that compares floats; a height
+// alone is a vector of one lane. Both values of a shape are worked out before one is picked, but for the tail, which calls
+// `exp` only where it counts.
 // Stays: the shapes, `self`, are read together with the heights `h` and are no one thing: fifty heights are read with the same
-// shapes. And a height alone is one lane, so that each shape stands once.
+// shapes.
 ghost use Rattle.std.specs.Prelude.{◌≡◌, map};
 ghost use Rattle.std.specs.Simd.Lanes.{zip2};
 ghost use Rattle.scalar.specs.Scalar.{max_of};
@@ -91,8 +92,8 @@ impl Curves {
         within.select(curve, zero)
     }
 
-    // The tail's densities given.
-    pub fn density<const N: usize>(self, fnd: Simd<f32, N>, h: Simd<f32, N>) -> Simd<f32, N>
+    // The tail's densities there given.
+    pub(crate) fn density<const N: usize>(self, fnd: Simd<f32, N>, h: Simd<f32, N>) -> Simd<f32, N>
         requires { fnd ≡ map (fnd_of self) h }
         ensures { result ≡ map (density_of self) h.entry }
     {

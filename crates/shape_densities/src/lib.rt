@@ -58,7 +58,8 @@ impl Curves {
         htr
     }
 
-    // The densities of N heights from the i-th on, where the tail's stand.
+    // N heights from the i-th on: where the tail's densities stood stand the largest of the five.
+    // Stays: the heights and their densities are lists side by side, as the Rust has `htr` and `fn`.
     fn raise<const N: usize>(self, htr: &[f32; 50], d: &mut [f32; 50], i: usize)
         requires { (i + N ≤ 50)
             × (d.old ≡ map (density_of self) (take i htr.now) ++ map (fnd_of self) (drop i htr.now)) }
@@ -69,13 +70,13 @@ impl Curves {
         self.density(Simd::from_slice(d), h).copy_to_slice(d);
     }
 
+    // A vector has a power of two of lanes.
     pub fn densities(self, htr: [f32; 50]) -> [f32; 50]
         ensures { result ≡ map (density_of self) htr }
     {
         let mut d = self.tails(htr);
-        for g in 0usize..12 {
-            self.raise::<4>(&htr, &mut d, 4 * g);
-        }
+        self.raise::<32>(&htr, &mut d, 0);
+        self.raise::<16>(&htr, &mut d, 32);
         self.raise::<2>(&htr, &mut d, 48);
         d
     }

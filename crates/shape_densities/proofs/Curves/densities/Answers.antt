@@ -12,4 +12,4 @@ pub returns : goal.returns
 returns c =
     let h = c.args.htr in
     let n : length h ≡ 50 = search rules in
-    rw (c.raise-2.ensures, take_all 50 h (omega arith), drop_all 50 h (omega arith)) (append-nil (map (density_of c.args.self) h))
+    rw (c.raise-3.ensures, take_all 50 h (omega arith), drop_all 50 h (omega arith)) (append-nil (map (density_of c.args.self) h))

@@ -1,4 +1,4 @@
--- The lanes are those of the heights, and stand where they came from.
+-- The lanes are those of the N places from the i-th on, and go back there.
 use mathlib.Core.Path.{◌≡◌, sym, ap, ◌∙◌}
 use mathlib.Core.List.{List, map, ◌++◌}
 use Prim.Native.Nat.{ℕ, ◌+◌, ◌-◌, ◌≤◌}
@@ -20,8 +20,8 @@ module _ (f t : Float → Float) (h d : List Float) (i n k : ℕ) (le : i + n �
   rest : drop i d ≡ map t (drop i h)
   rest = ap (drop i) e ∙ drop_at (map f (take i h)) (map t (drop i h)) i long
 
-  part : (k : ℕ) → take k (drop i d) ≡ map t (take k (drop i h))
-  part k = ap (take k) rest ∙ take-map t k (drop i h)
+  part : (m : ℕ) → take m (drop i d) ≡ map t (take m (drop i h))
+  part m = ap (take m) rest ∙ take-map t m (drop i h)
 
   tails : chunk 0 n (mid_of i k d) ≡ map t (chunk 0 n (mid_of i k h))
   tails = ap (take n) (part k) ∙ take-map t n (take k (drop i h))
