@@ -2,7 +2,7 @@
 #![tactic(auto)]
 
 ghost use Rattle.std.specs.Prelude.{◌≡◌, ◌<◌, get_or};
-ghost use Rattle.arc_tables.specs.Tables.{angles, steep, cosines, arcs};
+ghost use Rattle.arc_tables.specs.Tables.{angles, steep, cosine_at, arcs};
 
 // the angle whose tangent is i / 128, in units of 2^-56
 static ANGLES: [u64; 128] = [
@@ -312,10 +312,9 @@ static COSINES: [u64; 183] = [
     3118938151, 3102968663, 3086825377, 3070505552, 3054006356, 3037324869, 3020458068,
 ];
 
-#[tactic(auto, unfolding(arc_tables::specs::Tables::cosines))]
 pub fn node_cosine(i: usize) -> u64
     requires { i < 183 }
-    ensures { result ≡ get_or cosines i 0 }
+    ensures { result ≡ cosine_at i }
 {
     COSINES[i]
 }
