@@ -6,7 +6,7 @@ ghost use Rattle.scalar.specs.Root.{root};
 ghost use Rattle.arc_tables.specs.Tables.{cosine_of, cosine_at};
 ghost use Rattle.arcs.specs.Asin.{sixth_of, arc_of, gentle_arc, steep_arc, mid_arc, low_arc, asin_mag, asin_bits};
 
-use arc_entries::{node_angle, node_cosine};
+use arc_entries::{HALF_PI, node_angle, node_cosine};
 use fixed::{pack, power, scaled};
 
 // s^3 / 6, for the sine s * 2^-56
@@ -125,7 +125,7 @@ fn steep_arc(n: u64) -> u64
     let j = (c + 0x1_0000) / 0x100_0000 + 1;
     let y = node_cosine(j as usize);
     arc_sum(
-        113187804032455044 - node_angle(j as usize),
+        HALF_PI - node_angle(j as usize),
         (j * 0x100_0000 * n - y * c) / 256,
     )
 }
