@@ -4,6 +4,8 @@
 ghost use Rattle.std.specs.Prelude.{false, ◌&&◌, ◌≡◌, ℕ, ◌<◌, T};
 ghost use Rattle.scalar.specs.F32.{◌≤f◌, ◌>f◌, at};
 ghost use Rattle.scalar.specs.Literals.{f0, f0_9999};
+ghost use Rattle.profile.specs.Rising.{rises_of};
+ghost use Rattle.walk.specs.Walk.{EachF32};
 ghost use Rattle.forty_reads.specs.Walk.{flat, ysq_read_by, cursor_read_by};
 ghost use Rattle.heights.specs.Gethp.{hp_of, heights_by, gethp_of, gethp_scan_of};
 ghost use Rattle.heights.specs.Walk.{gethp_read_of};
@@ -143,22 +145,29 @@ pub fn lent(s: &IonoState, rises: bool) -> Profile<'_>
 
 // The heights of the vertical frequency `fxx`, densities read by a walk or by scans: `gethp` where `rises` is what the rising test says of the state's heights, for a caller that asks for many frequencies on one profile.
 // Stays: `s` and `fxx` are the Rust's parameters, and `rises` goes beside `s` where the test is made once.
-pub fn gethp_rising(s: IonoState, rises: bool, fxx: f32) -> Heights
-    ensures { result ≡ gethp_read_of s.exact_virtual_height rises s.htr s.fnsq fxx }
+pub fn gethp_rising(s: &IonoState, rises: bool, fxx: f32) -> Heights
+    ensures { result ≡ gethp_read_of s.now.exact_virtual_height rises s.now.htr s.now.fnsq fxx }
 {
-    gethp_read(lent(&s, rises), s.exact_virtual_height, fxx)
+    gethp_read(lent(s, rises), s.exact_virtual_height, fxx)
+}
+
+// Whether the heights rise, and that the format holds each, which is known of an array by value.
+fn rises(htr: [f32; 50]) -> bool
+    ensures { (result ≡ rises_of htr) × EachF32 htr }
+{
+    rises_throughout(&htr)
 }
 
 // The virtual and the true height of the vertical frequency `fxx`. The heights are tested here: the state's rising mark is not read.
-pub fn gethp(s: IonoState, fxx: f32) -> Heights
-    ensures { result ≡ gethp_of s fxx }
+pub fn gethp(s: &IonoState, fxx: f32) -> Heights
+    ensures { result ≡ gethp_of s.now fxx }
 {
-    gethp_rising(s, rises_throughout(&s.htr), fxx)
+    gethp_rising(s, rises(s.htr), fxx)
 }
 
 // The same by forty scans on every profile where densities are read.
-pub fn gethp_scan(s: IonoState, fxx: f32) -> Heights
-    ensures { result ≡ gethp_scan_of s fxx }
+pub fn gethp_scan(s: &IonoState, fxx: f32) -> Heights
+    ensures { result ≡ gethp_scan_of s.now fxx }
 {
     gethp_rising(s, false, fxx)
 }

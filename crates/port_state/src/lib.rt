@@ -8,7 +8,7 @@ ghost use Rattle.port_state.specs.State.{state_words, state_of, state_into};
 ghost use Rattle.port_state.specs.Owners.{owner_of_word, word_of_owner};
 ghost use Rattle.port_state.specs.Ports.{point_of, points_of, five_rows_of};
 
-use layers::{IonoState, LayerParams, Owner, owners};
+use layers::{IonoState, LayerParams, Owner};
 
 // How many words a state takes: specs/State.antt says which.
 pub const STATE_WORDS: usize = 155;
@@ -80,25 +80,28 @@ fn owner_word(o: Owner) -> u32
     }
 }
 
+// Inlined, so that an export makes its state in its place, with no copy.
+#[inline(always)]
 #[tactic(auto, unfolding(crate::specs::State::state_of, crate::specs::Words::yes_of))]
 pub fn state_of(w: &[u32]) -> IonoState
     requires { state_words ≤ length w.now }
     ensures { result ≡ state_of w.now }
 {
-    let mut s = layers::zero_state();
-    s.fi = floats(w, 0);
-    s.yi = floats(w, 15);
-    s.hi = floats(w, 30);
-    s.km = w[45] as usize;
-    s.kfx = w[46] as usize;
-    s.htr = floats(w, 47);
-    s.fnsq = floats(w, 97);
-    s.htr_rises = w[147] != 0;
-    s.fsecv = floats(w, 148);
-    s.iedp = signed(w[151]);
-    s.ielect = w[152] != 0;
-    s.exact_virtual_height = w[154] != 0;
-    owners::with_owner(s, owner_of_word(w[153]))
+    IonoState {
+        fi: floats(w, 0),
+        yi: floats(w, 15),
+        hi: floats(w, 30),
+        km: w[45] as usize,
+        kfx: w[46] as usize,
+        htr: floats(w, 47),
+        fnsq: floats(w, 97),
+        htr_rises: w[147] != 0,
+        fsecv: floats(w, 148),
+        iedp: signed(w[151]),
+        ielect: w[152] != 0,
+        owner: owner_of_word(w[153]),
+        exact_virtual_height: w[154] != 0,
+    }
 }
 
 pub fn count(n: usize) -> u32
