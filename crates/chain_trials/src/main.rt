@@ -3,7 +3,7 @@
 // Stays: a trial's `name` and its `file` are two texts, each of its own length.
 #![tactic(auto)]
 
-use trial_files::{File, RecordSize, first_bytes, permuted, ends, steps};
+use trial_files::{File, RecordSize, ends, first_bytes, permuted, steps};
 
 // The text of a file, after its name.
 fn print(name: &[u8], file: &[u8]) {

@@ -6,7 +6,7 @@ ghost use Rattle.std.specs.Prelude.{◌≡◌, ◌≤◌, ◌<◌};
 ghost use Rattle.lines.specs.Text.{joined, with_text};
 ghost use Rattle.plot_panels.specs.Panels.{named_text, top_text, ionogram_paths, height_text, profile_text, panel_text, panel_at, picture_text};
 
-use circuit_plot::{Plot, DrawnProfile};
+use circuit_plot::{DrawnProfile, Plot};
 use circuit_sheet::SlotRows;
 use lines::Page;
 use muf::MufHour;

@@ -3,7 +3,7 @@
 // Stays: a trial's `name` and its `file` are two texts, each of its own length.
 #![tactic(auto)]
 
-use trial_files::{File, RecordSize, first_bytes, permuted, ends, steps};
+use trial_files::{File, RecordSize, ends, first_bytes, permuted, steps};
 
 // A refusal is shorter than a record; of a file its chain is shown.
 fn show(old: &[u8]) {
