@@ -4,7 +4,6 @@
 ghost use Rattle.std.specs.Prelude.{false, ◌&&◌, ◌≡◌, ℕ, ◌<◌, T};
 ghost use Rattle.scalar.specs.F32.{◌≤f◌, ◌>f◌, at};
 ghost use Rattle.scalar.specs.Literals.{f0, f0_9999};
-ghost use Rattle.profile.specs.Rising.{rises_of};
 ghost use Rattle.walk.specs.Walk.{EachF32};
 ghost use Rattle.forty_reads.specs.Walk.{flat, ysq_read_by, cursor_read_by};
 ghost use Rattle.heights.specs.Gethp.{hp_of, heights_by, gethp_of, gethp_scan_of};
@@ -151,18 +150,17 @@ pub fn gethp_rising(s: &IonoState, rises: bool, fxx: f32) -> Heights
     gethp_read(lent(s, rises), s.exact_virtual_height, fxx)
 }
 
-// Whether the heights rise, and that the format holds each, which is known of an array by value.
-fn rises(htr: [f32; 50]) -> bool
-    ensures { (result ≡ rises_of htr) × EachF32 htr }
-{
-    rises_throughout(&htr)
-}
+// That the format holds each height, which is known of an array by value. No copy of it is made.
+fn held(htr: [f32; 50])
+    ensures { EachF32 htr }
+{}
 
 // The virtual and the true height of the vertical frequency `fxx`. The heights are tested here: the state's rising mark is not read.
 pub fn gethp(s: &IonoState, fxx: f32) -> Heights
     ensures { result ≡ gethp_of s.now fxx }
 {
-    gethp_rising(s, rises(s.htr), fxx)
+    held(s.htr);
+    gethp_rising(s, rises_throughout(&s.htr), fxx)
 }
 
 // The same by forty scans on every profile where densities are read.

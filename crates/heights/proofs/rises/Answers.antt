@@ -1,6 +1,0 @@
--- An array that is owned has numbers that the format holds.
-use Rattle.heights.proofs.Owned.{each-held}
-use Rattle.heights.proofs.rises.Goals as goal
-
-pub returns : goal.returns
-returns c = let g = c.well_formed.0 in (c.rises_throughout.ensures, each-held c.args.htr g.0 g.1.1)
