@@ -11,12 +11,12 @@ use Rattle.cases.proofs.Cases.{split}
 use Rattle.series.proofs.Sharp.{portion}
 use Rattle.fixed.specs.Fixed.{digits, scaled_of}
 use Rattle.scalar.specs.Root.{root}
-use Rattle.arc_tables.specs.Tables.{cosines, arcs, half_pi}
-use Rattle.arcs.specs.Asin.{cosine_of, arc_of, asin_mag}
+use Rattle.arc_tables.specs.Tables.{cosine_of, cosine_at, arcs, half_pi}
+use Rattle.arcs.specs.Asin.{arc_of, asin_mag}
 use Rattle.arc_tables.proofs.Angles.{Entry, entry, good}
 use Rattle.arcs.proofs.Cosine.{under, Cosine, cosine-of}
-use Rattle.arc_tables.proofs.Nodes.{Norm, node, node-slope}
-use Rattle.arcs.proofs.Arcs.{Placed, cosine-norm, gentle-placed, steep-placed, turn-size}
+use Rattle.arc_tables.proofs.Nodes.{Norm, cosine-norm, node, node-slope}
+use Rattle.arcs.proofs.Arcs.{Placed, gentle-placed, steep-placed, turn-size}
 use Rattle.arcs.proofs.Reduce.{powers}
 use Rattle.arcs.proofs.AsinBits.{gentle-is, steep-is, low-is, mid-is, low-range, mid-range}
 use Rattle.arc_bounds.proofs.Nodes.{gentle-node, steep-node}
@@ -92,14 +92,14 @@ node-turned n r x y A P E l h low high =
 norm-most : (x y : ℕ) → Norm x y → x < 2 ^ 32 → 2 ^ 64 - 2 ^ 34 ≤ x * x + y * y
 norm-most x y N h = omega (arith, N.high, h)
 
-gentle-turned : (n : ℕ) → 2 ^ 25 ≤ n → n ≤ 3037000499 → let i = (n - 2 ^ 16) / 2 ^ 24 in Turned (8 * n) (cosine_of n) (get_or arcs i 0) ((get_or cosines i 0 * n - i * 2 ^ 24 * cosine_of n) / 2 ^ 8)
+gentle-turned : (n : ℕ) → 2 ^ 25 ≤ n → n ≤ 3037000499 → let i = (n - 2 ^ 16) / 2 ^ 24 in Turned (8 * n) (cosine_of n) (get_or arcs i 0) ((cosine_at i * n - i * 2 ^ 24 * cosine_of n) / 2 ^ 8)
 gentle-turned n l h =
     let i = (n - 2 ^ 16) / 2 ^ 24 in
     let P = gentle-placed n l h in
     let k : i < 183 = omega (arith, P.1) in
-    node-turned n (cosine_of n) (get_or cosines i 0) (i * 2 ^ 24) (get_or arcs i 0) P.2 (gentle-node i k) (node i k).low (norm-most (get_or cosines i 0) (i * 2 ^ 24) (node i k) (node-slope i k).0) (omega (arith, P.0)) (omega (arith, P.1))
+    node-turned n (cosine_of n) (cosine_at i) (i * 2 ^ 24) (get_or arcs i 0) P.2 (gentle-node i k) (node i k).low (norm-most (cosine_at i) (i * 2 ^ 24) (node i k) (node-slope i k).0) (omega (arith, P.0)) (omega (arith, P.1))
 
-steep-turned : (n : ℕ) → 3037000500 ≤ n → n < 2 ^ 32 → let j = (cosine_of n + 2 ^ 16) / 2 ^ 24 + 1 in Turned (8 * n) (cosine_of n) (half_pi - get_or arcs j 0) ((j * 2 ^ 24 * n - get_or cosines j 0 * cosine_of n) / 2 ^ 8)
+steep-turned : (n : ℕ) → 3037000500 ≤ n → n < 2 ^ 32 → let j = (cosine_of n + 2 ^ 16) / 2 ^ 24 + 1 in Turned (8 * n) (cosine_of n) (half_pi - get_or arcs j 0) ((j * 2 ^ 24 * n - cosine_at j * cosine_of n) / 2 ^ 8)
 steep-turned n l h =
     let j = (cosine_of n + 2 ^ 16) / 2 ^ 24 + 1 in
     let P = steep-placed n l h in
@@ -108,10 +108,10 @@ steep-turned n l h =
     swap : (x y : ℕ) → x * x + y * y ≡ y * y + x * x
     swap x y = omega arith
 
-    at : (j : ℕ) → 1 ≤ j → j ≤ 182 → Placed n (cosine_of n) (j * 2 ^ 24) (get_or cosines j 0) → Turned (8 * n) (cosine_of n) (half_pi - get_or arcs j 0) ((j * 2 ^ 24 * n - get_or cosines j 0 * cosine_of n) / 2 ^ 8)
+    at : (j : ℕ) → 1 ≤ j → j ≤ 182 → Placed n (cosine_of n) (j * 2 ^ 24) (cosine_at j) → Turned (8 * n) (cosine_of n) (half_pi - get_or arcs j 0) ((j * 2 ^ 24 * n - cosine_at j * cosine_of n) / 2 ^ 8)
     at j a b P =
         let k : j < 183 = omega arith in
-        let y = get_or cosines j 0 in
+        let y = cosine_at j in
         let S = node-slope j k in
         node-turned n (cosine_of n) (j * 2 ^ 24) y (half_pi - get_or arcs j 0) P (steep-node j a k)
         (subst (λ (z : ℕ). z ≤ 2 ^ 64) (swap y (j * 2 ^ 24)) (node j k).low) (subst (λ (z : ℕ). 2 ^ 64 - 2 ^ 34 ≤ z) (swap y (j * 2 ^ 24)) (norm-most y (j * 2 ^ 24) (node j k) S.0))
@@ -180,7 +180,7 @@ mid-case a l h = split n 3037000500 gentle steep
           X = 8 * n;
           r = cosine_of n;
           A = get_or arcs ((n - 2 ^ 16) / 2 ^ 24) 0;
-          s = (get_or cosines ((n - 2 ^ 16) / 2 ^ 24) 0 * n - (n - 2 ^ 16) / 2 ^ 24 * 2 ^ 24 * cosine_of n) / 2 ^ 8;
+          s = (cosine_at ((n - 2 ^ 16) / 2 ^ 24) * n - (n - 2 ^ 16) / 2 ^ 24 * 2 ^ 24 * cosine_of n) / 2 ^ 8;
           turned = gentle-turned n R.0 (omega arith);
           cosine = mid-cosine n R.0 R.1;
           X-lt = top n R.1;
@@ -194,7 +194,7 @@ mid-case a l h = split n 3037000500 gentle steep
           X = 8 * n;
           r = cosine_of n;
           A = half_pi - get_or arcs ((cosine_of n + 2 ^ 16) / 2 ^ 24 + 1) 0;
-          s = (((cosine_of n + 2 ^ 16) / 2 ^ 24 + 1) * 2 ^ 24 * n - get_or cosines ((cosine_of n + 2 ^ 16) / 2 ^ 24 + 1) 0 * cosine_of n) / 2 ^ 8;
+          s = (((cosine_of n + 2 ^ 16) / 2 ^ 24 + 1) * 2 ^ 24 * n - cosine_at ((cosine_of n + 2 ^ 16) / 2 ^ 24 + 1) * cosine_of n) / 2 ^ 8;
           turned = steep-turned n k R.1;
           cosine = mid-cosine n R.0 R.1;
           X-lt = top n R.1;

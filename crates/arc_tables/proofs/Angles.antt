@@ -1,13 +1,15 @@
--- The angles of a table, each with its tangent: one computed test on sharp enclosures of sine and cosine shows an entry; here for the tangents i / 128 and 128 / (i + 1).
+-- The angles of a table, each with its tangent: one computed test on sharp enclosures of sine and cosine shows an entry; here for the tangents i / 128, and 128 / (i + 1) by half pi less the angle.
 use mathlib.Core.Path.{◌≡◌, sym, subst₂}
-use mathlib.Core.Bool.{Bool, true, ◌&&◌}
+use mathlib.Core.Logic.{◌⊎◌, inl, inr}
+use mathlib.Core.Bool.{Bool, true, ◌&&◌, ◌||◌}
 use mathlib.Core.List.{List, [], ◌∷◌}
 use Prim.Native.Nat.{ℕ, ◌+◌, ◌-◌, ◌*◌, ◌^◌, ◌≤◌, ◌<◌}
 use native.Mathlib.Omega.{arith}
-use lib.Dec.{T, leb, leb→le}
+use lib.Dec.{T, eqb, eqb→eq, leb, leb→le}
 use lib.ListN.{get_or}
+use mir.Facts.{or_yes}
 use Rattle.series.specs.Series.{full, num, class}
-use Rattle.arc_tables.specs.Tables.{angles, steep}
+use Rattle.arc_tables.specs.Tables.{angles, half_pi}
 use Rattle.cases.proofs.Entries as table
 use Rattle.series.proofs.Waves.{Enc4}
 use Rattle.series.proofs.Sharp.{portion, part, sharp}
@@ -50,13 +52,27 @@ unfoldable pub good : (m x y A : ℕ) → Bool
 unfolding portion
 good m x y A = all_le (rules m x y A (part 0 A) (part 1 A) (part 2 A) (part 3 A))
 
-pub angle : (i : ℕ) → i < 128 → T (good 1 128 i (get_or angles i 0))
+pub angle : (i : ℕ) → i < 130 → T (good 1 128 i (get_or angles i 0))
 unfolding good angles portion num full class
 angle i h = table.entry (λ i A. good 1 128 i A) angles tt i h
 
-pub steep-angle : (i : ℕ) → i < 129 → T (good 1 (i + 1) 128 (get_or steep i 0))
-unfolding good steep portion num full class
-steep-angle i h = table.entry (λ i A. good 1 (i + 1) 128 A) steep tt i h
+-- what a test of half pi less each angle leaves out is the first
+pub past_first : (j : ℕ) (b : Bool) → 1 ≤ j → T (eqb j 0 || b) → T b
+past_first j b h t = go (or_yes (eqb j 0) b t)
+  where
+    positive : j ≡ 0 → ⊥
+    positive e = omega (arith, h)
+
+    go : T (eqb j 0) ⊎ T b → T b
+    go (inl u) = absurd (positive (eqb→eq j 0 u))
+    go (inr u) = u
+
+steep-test : (j : ℕ) → j < 130 → T (eqb j 0 || good 1 j 128 (half_pi - get_or angles j 0))
+unfolding good angles portion num full class
+steep-test j h = table.entry (λ j A. eqb j 0 || good 1 j 128 (half_pi - A)) angles tt j h
+
+pub steep-angle : (j : ℕ) → 1 ≤ j → j < 130 → T (good 1 j 128 (half_pi - get_or angles j 0))
+steep-angle j l h = past_first j (good 1 j 128 (half_pi - get_or angles j 0)) l (steep-test j h)
 
 -- the angle of a table's entry, with what the proof needs of it
 pub record Entry (m x₀ y₀ A : ℕ) : Type 0 where

@@ -1,62 +1,62 @@
 -- The arc sine's table: each node is a point of the circle to within one unit, and the cosines fall.
-use Prim.Native.Nat.{ℕ, ◌+◌, ◌*◌, ◌^◌, ◌≤◌, ◌<◌}
-use mathlib.Core.Bool.{Bool, ◌&&◌}
+use Prim.Native.Nat.{ℕ, ◌+◌, ◌-◌, ◌*◌, ◌^◌, ◌≤◌, ◌<◌}
+use mathlib.Core.Path.{◌≡◌, ap}
+use native.Mathlib.Nat.{mul-le-mul, mul-le-mul_right}
 use native.Mathlib.Omega.{arith}
-use lib.Dec.{T, leb, leb→le}
-use lib.Ieee.Fits.{and_l, and_r}
+use lib.Dec.{leb, leb→le}
 use lib.ListN.{get_or}
-use Rattle.scalar.proofs.WholeRoot.{root_ge}
+use Rattle.scalar.proofs.WholeRoot.{root_is, root_ge, root-lt, square-back}
+use Rattle.scalar.specs.Root.{root}
 use Rattle.cases.proofs.Entries as table
-use Rattle.arc_tables.specs.Tables.{cosines, arcs, half_pi}
+use Rattle.arc_tables.specs.Tables.{cosine_of, cosine_at, arcs, half_pi}
 
 -- a node of the table: its cosine x and its sine y
 pub record Norm (x y : ℕ) : Type 0 where
   pub low : x * x + y * y ≤ 2 ^ 64
   pub high : 2 ^ 64 ≤ (x + 1) * (x + 1) + y * y
 
--- ---- the table: the circle, and a cosine that is never further below 1 than 7/16 of the sine
-abbrev circle : (x y : ℕ) → Bool
-circle x y = leb (x * x + y * y) (2 ^ 64) && leb (2 ^ 64) ((x + 1) * (x + 1) + y * y)
-
-abbrev slope : (i x : ℕ) → Bool
-slope i x = leb (x + 1) (2 ^ 32) && leb (2 ^ 32) (x + 1 + i * (7 * 2 ^ 20))
-
-abbrev good : (i x : ℕ) → Bool
-good i x = circle x (i * 2 ^ 24) && slope i x
-
-good-node : (i : ℕ) → i < 183 → T (good i (get_or cosines i 0))
-unfolding cosines
-good-node i h = table.entry good cosines tt i h
-
-pub node : (i : ℕ) → i < 183 → Norm (get_or cosines i 0) (i * 2 ^ 24)
-node i h = go (get_or cosines i 0) (i * 2 ^ 24) (and_l (circle (get_or cosines i 0) (i * 2 ^ 24)) (slope i (get_or cosines i 0)) (good-node i h))
+-- ---- a sine and its cosine
+pub cosine_lt : (n : ℕ) → cosine_of n < 2 ^ 32
+unfolding cosine_of
+cosine_lt n = go _ (omega arith)
   where
-    go : (x y : ℕ) → T (circle x y) → Norm x y
-    go x y t =
-        let l = leb (x * x + y * y) (2 ^ 64) in
-        let k = leb (2 ^ 64) ((x + 1) * (x + 1) + y * y) in
+    go : (m : ℕ) → m < 2 ^ 64 → root m < 2 ^ 32
+    go m h = root-lt m (root m) (2 ^ 32) (root_is m).0 (omega (arith, h))
+
+pub cosine-norm : (n : ℕ) → n < 2 ^ 32 → Norm (cosine_of n) n
+unfolding cosine_of
+cosine-norm n h = go _ (let l : n ≤ 2 ^ 32 - 1 = omega arith in let s = mul-le-mul l l in omega (arith, s))
+  where
+    go : (m : ℕ) → m + 1 + n * n ≡ 2 ^ 64 → Norm (root m) n
+    go m e =
+        let R = root_is m in
         record {
-          low = leb→le _ _ (and_l l k t);
-          high = leb→le _ _ (and_r l k t);
+          low = omega (arith, R.0, e);
+          high = omega (arith, R.1, e);
         }
 
-pub node-slope : (i : ℕ) → i < 183 → (get_or cosines i 0 < 2 ^ 32) × (2 ^ 32 ≤ get_or cosines i 0 + 1 + i * (7 * 2 ^ 20))
-node-slope i h = go (get_or cosines i 0) (and_r (circle (get_or cosines i 0) (i * 2 ^ 24)) (slope i (get_or cosines i 0)) (good-node i h))
+-- ---- the table: the circle, and a cosine that is never further below 1 than 7/16 of the sine
+pub node : (i : ℕ) → i < 183 → Norm (cosine_at i) (i * 2 ^ 24)
+unfolding cosine_at
+node i h = cosine-norm (i * 2 ^ 24) (omega arith)
+
+pub node-slope : (i : ℕ) → i < 183 → (cosine_at i < 2 ^ 32) × (2 ^ 32 ≤ cosine_at i + 1 + i * (7 * 2 ^ 20))
+unfolding cosine_at
+node-slope i h = (cosine_lt (i * 2 ^ 24), go (cosine_at i) (2 ^ 32 - i * (7 * 2 ^ 20)) (omega arith) (node i h).high (mul-le-mul_right i (most i h)))
   where
-    go : (x : ℕ) → T (slope i x) → (x < 2 ^ 32) × (2 ^ 32 ≤ x + 1 + i * (7 * 2 ^ 20))
-    go x t =
-        let l = leb (x + 1) (2 ^ 32) in
-        let k = leb (2 ^ 32) (x + 1 + i * (7 * 2 ^ 20)) in
-        let a : x + 1 ≤ 2 ^ 32 = leb→le _ _ (and_l l k t) in
-        (omega arith, leb→le _ _ (and_r l k t))
+    most : (i : ℕ) → i < 183 → i ≤ 182
+    most i h = omega arith
+
+    go : (x z : ℕ) → z + i * (7 * 2 ^ 20) ≡ 2 ^ 32 → 2 ^ 64 ≤ (x + 1) * (x + 1) + i * 2 ^ 24 * (i * 2 ^ 24) → i * i ≤ 182 * i → 2 ^ 32 ≤ x + 1 + i * (7 * 2 ^ 20)
+    go x z e k s = let b = square-back z (x + 1) (omega (arith, k, s, ap (λ (t : ℕ). t * z) e, ap (λ (t : ℕ). t * i) e)) in omega (arith, e)
 
 -- by the squares
 pub square_le : (a b : ℕ) → a * a < (b + 1) * (b + 1) → a ≤ b
 square_le a b h = root_ge (a * a) b a (omega (arith, h)) (omega arith)
 
 -- the cosines fall
-pub node-falls : (i : ℕ) → i < 182 → get_or cosines (i + 1) 0 ≤ get_or cosines i 0
-node-falls i h = go (get_or cosines i 0) (get_or cosines (i + 1) 0) (node i (omega arith)) (node (i + 1) (omega arith))
+pub node-falls : (i : ℕ) → i < 182 → cosine_at (i + 1) ≤ cosine_at i
+node-falls i h = go (cosine_at i) (cosine_at (i + 1)) (node i (omega arith)) (node (i + 1) (omega arith))
   where
     go : (x z : ℕ) → Norm x (i * 2 ^ 24) → Norm z ((i + 1) * 2 ^ 24) → z ≤ x
     go x z N M = square_le z x (omega (arith, N.high, M.low))

@@ -13,7 +13,7 @@ use Rattle.arcs.specs.Atan.{cube_of, angle_of}
 use Rattle.series.specs.Series.{SinLe, SinGe}
 use Rattle.fixed.proofs.Round.{grain, rounded, place, place_is}
 use Rattle.fixed.proofs.Values.{ulp-exp}
-use Rattle.series.proofs.Bounds.{le-scaled, ge-scaled}
+use Rattle.series.proofs.Bounds.{ge-scaled}
 use Rattle.arc_tables.proofs.Angles.{Entry}
 use Rattle.arcs.proofs.Step.{below, over}
 
@@ -209,12 +209,6 @@ module _ (s : ℕ) (big : 2 ^ 30 ≤ s) (fits : s < 2 ^ 64) where
       go : (l z : ℕ) → l ≤ 33 → 133 - l ≤ z - 24 → z - 24 ≡ 99 + (z - 24 - 99)
       go l z h k = omega arith
 
-  pub low-is : (64 * (mant s * grain s) - 60 * v s) * 2 ^ 97 ≡ 16 * (mant s * place s) - 15 * 2 ^ (size (mant s * place s) - 24)
-  low-is = go (mant s) (grain s) (v s) (place s) (2 ^ (size (mant s * place s) - 24)) (place_is s (rounded s big fits).few) unit-is
-    where
-      go : (m o v P U : ℕ) → P ≡ 2 ^ 99 * o → U ≡ 2 ^ 99 * v → (64 * (m * o) - 60 * v) * 2 ^ 97 ≡ 16 * (m * P) - 15 * U
-      go m o v P U e f = omega (arith, ap (λ (x : ℕ). m * x) e)
-
   pub high_is : (64 * (mant s * grain s) + 60 * v s) * 2 ^ 97 ≡ 16 * (mant s * place s) + 15 * 2 ^ (size (mant s * place s) - 24)
   high_is = go (mant s) (grain s) (v s) (place s) (2 ^ (size (mant s * place s) - 24)) (place_is s (rounded s big fits).few) unit-is
     where
@@ -225,9 +219,6 @@ module _ (s : ℕ) (big : 2 ^ 30 ≤ s) (fits : s < 2 ^ 64) where
 module _ (n c A q : ℕ) (X : Reduced n c A q) (big : 2 ^ 30 ≤ angle_of A q) (fits : angle_of A q < 2 ^ 64) where
   abbrev s : ℕ
   s = angle_of A q
-
-  pub angle-le : SinLe (16 * (mant s * place s) - 15 * 2 ^ (size (mant s * place s) - 24)) (16 * 2 ^ 149) n c
-  angle-le = subst (λ (y : ℕ). SinLe y (16 * 2 ^ 149) n c) (low-is s big fits) (le-scaled (64 * (mant s * grain s) - 60 * v s) (2 ^ 56) n c (2 ^ 97) (end-le n c A q (mant s * grain s) (grain s) (v s) X (sizes s big fits)))
 
   pub angle-ge : SinGe (16 * (mant s * place s) + 15 * 2 ^ (size (mant s * place s) - 24)) (16 * 2 ^ 149) n c
   angle-ge = subst (λ (y : ℕ). SinGe y (16 * 2 ^ 149) n c) (high_is s big fits) (ge-scaled (64 * (mant s * grain s) + 60 * v s) (2 ^ 56) n c (2 ^ 97) (end_ge n c A q (mant s * grain s) (grain s) (v s) X (sizes s big fits)))

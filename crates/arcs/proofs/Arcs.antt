@@ -1,15 +1,14 @@
 -- A sine n with its cosine r is a small turn away from its node of the arc sine's table.
 -- With n = y + e and x = r + f the sine of that turn is x n - y r = r e + n f; and f is at most 8/7 e + 2, since x² - r² and n² - y² are the same to within 2 r + 1.
 use mathlib.Core.Path.{◌≡◌, sym, subst, subst₂}
-use Prim.Native.Nat.{ℕ, suc, ◌+◌, ◌-◌, ◌*◌, ◌/◌, ◌^◌, ◌≤◌, ◌<◌}
+use Prim.Native.Nat.{ℕ, ◌+◌, ◌-◌, ◌*◌, ◌/◌, ◌^◌, ◌≤◌, ◌<◌}
 use native.Mathlib.Nat.{lt_of_le_of_lt, mul-le-mul, mul-le-mul_left, le_of_mul-le-mul_right}
 use native.Mathlib.Omega.{arith}
 use lib.Dec.{lit<}
-use lib.ListN.{get_or}
 use Rattle.scalar.proofs.WholeRoot.{root_is, root_ge, root-lt}
-use Rattle.arc_tables.specs.Tables.{cosines}
-use Rattle.arc_tables.proofs.Nodes.{Norm, node, node-slope, square_le}
-use Rattle.arcs.specs.Asin.{cosine_of, sixth_of, arc_of}
+use Rattle.arc_tables.specs.Tables.{cosine_of, cosine_at}
+use Rattle.arc_tables.proofs.Nodes.{Norm, cosine_lt, cosine-norm, node, node-slope, square_le}
+use Rattle.arcs.specs.Asin.{sixth_of, arc_of}
 
 -- a sine n with its cosine r, against a node's angle below it with the cosine x and the sine y
 pub record Placed (n r x y : ℕ) : Type 0 where
@@ -53,27 +52,12 @@ place n r x y up down sizes even above far near = go (n - y) (x - r) (omega arit
         (subst₂ (λ (n x : ℕ). 7 * (n + y) ≤ 8 * (x + r)) (sym p) (sym q) even)
         sizes.1 (subst (λ (n : ℕ). n ≤ 182 * 2 ^ 24) (sym p) sizes.2) a b)
 
--- the whole root: n with its cosine is such a point too
-pub cosine-norm : (n : ℕ) → n < 2 ^ 32 → Norm (cosine_of n) n
-unfolding cosine_of
-cosine-norm n h = go (cosine_of n) (root_is (2 ^ 64 - 1 - n * n)) (let l : n ≤ 2 ^ 32 - 1 = omega arith in mul-le-mul l l)
-  where
-    go : (r : ℕ) → (r * r ≤ 2 ^ 64 - 1 - n * n) × (2 ^ 64 - 1 - n * n < suc r * suc r) → n * n ≤ (2 ^ 32 - 1) * (2 ^ 32 - 1) → Norm r n
-    go r R s =
-        record {
-          low = omega (arith, R.0, s);
-          high = omega (arith, R.1, s);
-        }
-
 -- ---- 3037000500 is the root of 1/2, rounded up: it parts the two cases
 pub gentle-cosine : (n : ℕ) → n ≤ 3037000499 → (3037000499 ≤ cosine_of n) × (cosine_of n < 2 ^ 32)
 unfolding cosine_of
 gentle-cosine n h =
     let s = mul-le-mul h h in
-    let R = root_is (2 ^ 64 - 1 - n * n) in (
-      root_ge (2 ^ 64 - 1 - n * n) (cosine_of n) 3037000499 R.1 (omega (arith, s)),
-      root-lt (2 ^ 64 - 1 - n * n) (cosine_of n) (2 ^ 32) R.0 (omega arith),
-    )
+    (root_ge (2 ^ 64 - 1 - n * n) (cosine_of n) 3037000499 (root_is (2 ^ 64 - 1 - n * n)).1 (omega (arith, s)), cosine_lt n)
 
 pub steep-cosine : (n : ℕ) → 3037000500 ≤ n → cosine_of n ≤ 3037000499
 unfolding cosine_of
@@ -82,11 +66,11 @@ steep-cosine n h =
     let l = root-lt (2 ^ 64 - 1 - n * n) (cosine_of n) 3037000500 (root_is (2 ^ 64 - 1 - n * n)).0 (omega (arith, s)) in
     omega arith
 
-pub gentle-placed : (n : ℕ) → 2 ^ 25 ≤ n → n ≤ 3037000499 → let i = (n - 2 ^ 16) / 2 ^ 24 in (1 ≤ i) × (i ≤ 181) × Placed n (cosine_of n) (get_or cosines i 0) (i * 2 ^ 24)
+pub gentle-placed : (n : ℕ) → 2 ^ 25 ≤ n → n ≤ 3037000499 → let i = (n - 2 ^ 16) / 2 ^ 24 in (1 ≤ i) × (i ≤ 181) × Placed n (cosine_of n) (cosine_at i) (i * 2 ^ 24)
 gentle-placed n l h =
     let i = (n - 2 ^ 16) / 2 ^ 24 in
     let b : i ≤ 181 = omega arith in
-    (omega arith, b, go i (cosine_of n) (get_or cosines i 0) (omega arith) (omega arith) (cosine-norm n (omega arith)) (gentle-cosine n h) (node i (omega arith)) b)
+    (omega arith, b, go i (cosine_of n) (cosine_at i) (omega arith) (omega arith) (cosine-norm n (omega arith)) (gentle-cosine n h) (node i (omega arith)) b)
   where
     go : (i r x : ℕ) → i * 2 ^ 24 + 2 ^ 16 ≤ n → n ≤ i * 2 ^ 24 + (2 ^ 24 + 2 ^ 16) → Norm r n → (3037000499 ≤ r) × (r < 2 ^ 32) → Norm x (i * 2 ^ 24) → i ≤ 181 → Placed n r x (i * 2 ^ 24)
     go i r x far near C R N b = place n r x (i * 2 ^ 24) N.low C.high (omega (arith, R.0), omega (arith, R.1), omega arith) (let a = above in omega (arith, R.0)) above far near
@@ -94,14 +78,14 @@ gentle-placed n l h =
         above : r ≤ x
         above = let m = mul-le-mul far far in square_le r x (omega (arith, m, C.low, N.high))
 
-pub steep-placed : (n : ℕ) → 3037000500 ≤ n → n < 2 ^ 32 → let j = (cosine_of n + 2 ^ 16) / 2 ^ 24 + 1 in (1 ≤ j) × (j ≤ 182) × Placed n (cosine_of n) (j * 2 ^ 24) (get_or cosines j 0)
+pub steep-placed : (n : ℕ) → 3037000500 ≤ n → n < 2 ^ 32 → let j = (cosine_of n + 2 ^ 16) / 2 ^ 24 + 1 in (1 ≤ j) × (j ≤ 182) × Placed n (cosine_of n) (j * 2 ^ 24) (cosine_at j)
 steep-placed n l h = go (cosine_of n) (steep-cosine n l) (cosine-norm n h)
   where
-    go : (r : ℕ) → r ≤ 3037000499 → Norm r n → let j = (r + 2 ^ 16) / 2 ^ 24 + 1 in (1 ≤ j) × (j ≤ 182) × Placed n r (j * 2 ^ 24) (get_or cosines j 0)
+    go : (r : ℕ) → r ≤ 3037000499 → Norm r n → let j = (r + 2 ^ 16) / 2 ^ 24 + 1 in (1 ≤ j) × (j ≤ 182) × Placed n r (j * 2 ^ 24) (cosine_at j)
     go r R C =
         let j = (r + 2 ^ 16) / 2 ^ 24 + 1 in
         let b : j ≤ 182 = omega arith in
-        (omega arith, b, at j (get_or cosines j 0) (omega arith) (omega arith) (node j (omega arith)) (node-slope j (omega arith)) b)
+        (omega arith, b, at j (cosine_at j) (omega arith) (omega arith) (node j (omega arith)) (node-slope j (omega arith)) b)
       where
         -- sine and cosine change places
         at : (j y : ℕ) → r + 2 ^ 16 ≤ j * 2 ^ 24 → j * 2 ^ 24 ≤ r + (2 ^ 24 + 2 ^ 16) → Norm y (j * 2 ^ 24) → (y < 2 ^ 32) × (2 ^ 32 ≤ y + 1 + j * (7 * 2 ^ 20)) → j ≤ 182 → Placed n r (j * 2 ^ 24) y

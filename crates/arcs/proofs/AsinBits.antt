@@ -10,8 +10,8 @@ use lib.ListN.{get_or}
 use borrow.Author.Tests.{le-leb, lt-leb, le-ltb, lt-ltb}
 use Rattle.cases.proofs.Cases.{split}
 use Rattle.fixed.specs.Fixed.{pick, pattern, digits, scaled_of}
-use Rattle.arc_tables.specs.Tables.{cosines, arcs, half_pi}
-use Rattle.arcs.specs.Asin.{cosine_of, gentle_arc, steep_arc, mid_arc, low_arc, asin_mag, asin_bits}
+use Rattle.arc_tables.specs.Tables.{cosine_of, cosine_at, arcs, half_pi}
+use Rattle.arcs.specs.Asin.{gentle_arc, steep_arc, mid_arc, low_arc, asin_mag, asin_bits}
 use Rattle.fixed.proofs.Sizes.{dig-low, dig-high}
 use Rattle.arcs.proofs.Reduce.{within}
 use Rattle.arcs.proofs.Signed.{sign}
@@ -55,15 +55,15 @@ mid-fits n l h = split n 3037000500 gentle steep
     gentle k =
         let i = (n - 2 ^ 16) / 2 ^ 24 in
         let P = gentle-placed n l (omega arith) in
-        let s = turn-size n (cosine_of n) (get_or cosines i 0) (i * 2 ^ 24) P.2 in
-        subst (λ (x : ℕ). (2 ^ 30 ≤ x) × (x < 2 ^ 64)) (sym (gentle-is n (omega arith))) (arc-big (get_or arcs i 0) ((get_or cosines i 0 * n - i * 2 ^ 24 * cosine_of n) / 2 ^ 8) (le_trans (arc-most i (omega arith)) (lit≤ tt)) s.0 s.1)
+        let s = turn-size n (cosine_of n) (cosine_at i) (i * 2 ^ 24) P.2 in
+        subst (λ (x : ℕ). (2 ^ 30 ≤ x) × (x < 2 ^ 64)) (sym (gentle-is n (omega arith))) (arc-big (get_or arcs i 0) ((cosine_at i * n - i * 2 ^ 24 * cosine_of n) / 2 ^ 8) (le_trans (arc-most i (omega arith)) (lit≤ tt)) s.0 s.1)
 
     steep : 3037000500 ≤ n → (2 ^ 30 ≤ mid_arc n) × (mid_arc n < 2 ^ 64)
     steep k =
         let j = (cosine_of n + 2 ^ 16) / 2 ^ 24 + 1 in
         let P = steep-placed n k h in
-        let s = turn-size n (cosine_of n) (j * 2 ^ 24) (get_or cosines j 0) P.2 in
-        subst (λ (x : ℕ). (2 ^ 30 ≤ x) × (x < 2 ^ 64)) (sym (steep-is n (omega arith))) (arc-big (half_pi - get_or arcs j 0) ((j * 2 ^ 24 * n - get_or cosines j 0 * cosine_of n) / 2 ^ 8) (omega arith) s.0 s.1)
+        let s = turn-size n (cosine_of n) (j * 2 ^ 24) (cosine_at j) P.2 in
+        subst (λ (x : ℕ). (2 ^ 30 ≤ x) × (x < 2 ^ 64)) (sym (steep-is n (omega arith))) (arc-big (half_pi - get_or arcs j 0) ((j * 2 ^ 24 * n - cosine_at j * cosine_of n) / 2 ^ 8) (omega arith) s.0 s.1)
 
 pub mag-fits : (a : ℕ) → 0x3980_0000 ≤ a → a < 0x3f80_0000 → (2 ^ 30 ≤ asin_mag a) × (asin_mag a < 2 ^ 64)
 mag-fits a l h = split a 0x3c00_0000 low mid

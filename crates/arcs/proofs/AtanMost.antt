@@ -6,7 +6,7 @@ use mathlib.Core.Logic.{◌⊎◌, inl, inr}
 use Prim.Native.Nat.{ℕ, zero, suc, ◌+◌, ◌-◌, ◌*◌, ◌/◌, ◌^◌, ◌≤◌, ◌<◌}
 use native.Mathlib.Nat.{le_trans, le_of_mul-le-mul_right, lt_of_le_of_lt, lt_of_not-le, not-le_of_lt, lt_of_lt_of_le, div-mul-le_self, mul-le-mul, mul-le-mul_left, mul-le-mul_right}
 use native.Mathlib.Omega.{arith}
-use lib.Dec.{T, leb, leb→le, eqb, eqb→eq, lit<, lit≤}
+use lib.Dec.{T, leb, leb→le, lit<, lit≤}
 use lib.Pow.{pow_mono}
 use lib.Count.{count_leading_zeros, leading_top}
 use lib.ListN.{get_or}
@@ -15,7 +15,7 @@ use Rattle.cases.proofs.Cases.{split}
 use Rattle.cases.proofs.Entries as table
 use Rattle.fixed.specs.Fixed.{digits, mant, pattern, scaled_of}
 use Rattle.fixed.proofs.Round.{rounded}
-use Rattle.arc_tables.specs.Tables.{angles, steep}
+use Rattle.arc_tables.specs.Tables.{angles, half_pi}
 use Rattle.arcs.specs.Atan.{cube_of, angle_of, gentle_of, steep_of, atan_mag}
 use Rattle.fixed.proofs.Sizes.{dig-low, dig-high}
 use Rattle.arcs.proofs.Reduce.{within, high-top, high-fine, high-coarse, low-is, mid-is, high_is, i_lt, q-most, at_lt, quo-most}
@@ -28,21 +28,22 @@ limit = 113187811477159935
 -- ---- the tables
 gentle-most : (i : ℕ) → i < 128 → get_or angles i 0 ≤ 2 ^ 56
 unfolding angles
-gentle-most i h = leb→le (get_or angles i 0) (2 ^ 56) (table.entry (λ i A. leb A (2 ^ 56)) angles tt i h)
+gentle-most i h = leb→le (get_or angles i 0) (2 ^ 56) (table.entry (λ i A. leb A (2 ^ 56)) angles tt i (omega (arith, h)))
 
-steep-test : (i : ℕ) → i < 129 → T (eqb i 0 || leb (get_or steep i 0) 112061995738161969)
-unfolding steep
-steep-test i h = table.entry (λ i A. eqb i 0 || leb A 112061995738161969) steep tt i h
+-- half pi less the table's angles
+steep-test : (j : ℕ) → j < 130 → T (leb j 1 || leb (half_pi - get_or angles j 0) 112061995738161969)
+unfolding angles
+steep-test j h = table.entry (λ j A. leb j 1 || leb (half_pi - A) 112061995738161969) angles tt j h
 
-steep-cases : (i : ℕ) → i < 129 → (i ≡ 0) ⊎ (get_or steep i 0 ≤ 112061995738161969)
-steep-cases i h = go (or_yes (eqb i 0) (leb (get_or steep i 0) 112061995738161969) (steep-test i h))
+steep-cases : (i : ℕ) → i < 129 → (i ≡ 0) ⊎ (half_pi - get_or angles (i + 1) 0 ≤ 112061995738161969)
+steep-cases i h = go (or_yes (leb (i + 1) 1) (leb (half_pi - get_or angles (i + 1) 0) 112061995738161969) (steep-test (i + 1) (omega (arith, h))))
   where
-    go : T (eqb i 0) ⊎ T (leb (get_or steep i 0) 112061995738161969) → (i ≡ 0) ⊎ (get_or steep i 0 ≤ 112061995738161969)
-    go (inl t) = inl (eqb→eq i 0 t)
-    go (inr t) = inr (leb→le (get_or steep i 0) 112061995738161969 t)
+    go : T (leb (i + 1) 1) ⊎ T (leb (half_pi - get_or angles (i + 1) 0) 112061995738161969) → (i ≡ 0) ⊎ (half_pi - get_or angles (i + 1) 0 ≤ 112061995738161969)
+    go (inl t) = inl (omega (arith, leb→le (i + 1) 1 t))
+    go (inr t) = inr (leb→le (half_pi - get_or angles (i + 1) 0) 112061995738161969 t)
 
-steep-first : get_or steep 0 0 ≡ 112624865531860442
-unfolding steep
+steep-first : half_pi - get_or angles 1 0 ≡ 112624865531860443
+unfolding angles
 steep-first = refl
 
 -- ---- sums
@@ -50,10 +51,10 @@ sum-le : (A q j : ℕ) → A + (q - j) ≤ A + q
 sum-le A q j = omega arith
 
 -- the first steep angle and a tangent of at most 2 ^ -7
-first-most : (q : ℕ) → q ≤ 2 ^ 49 → 112624865531860442 + (q - cube_of q) ≤ limit
-first-most q h = split q (2 ^ 49 - 2 ^ 36) (λ l. le_trans (sum-le 112624865531860442 q (cube_of q)) (omega arith)) (λ l. large (cube_of q) (cube-large l))
+first-most : (q : ℕ) → q ≤ 2 ^ 49 → 112624865531860443 + (q - cube_of q) ≤ limit
+first-most q h = split q (2 ^ 49 - 2 ^ 36) (λ l. le_trans (sum-le 112624865531860443 q (cube_of q)) (omega arith)) (λ l. large (cube_of q) (cube-large l))
   where
-    large : (j : ℕ) → 11000000000 ≤ j → 112624865531860442 + (q - j) ≤ limit
+    large : (j : ℕ) → 11000000000 ≤ j → 112624865531860443 + (q - j) ≤ limit
     large j g = omega arith
 
     cube-large : 2 ^ 49 - 2 ^ 36 ≤ q → 11000000000 ≤ cube_of q
@@ -96,9 +97,9 @@ module _ (n c d : ℕ) (top : c ≤ n) (pos : 0 < d) (fine : d * 2 ^ 8 ≤ n) (c
       later : (A q : ℕ) → A ≤ 112061995738161969 → q ≤ 2 ^ 49 + 2 ^ 41 → A + q ≤ limit
       later A q a b = omega arith
 
-      go : ((2 ^ 7 * c + d) / n ≡ 0) ⊎ (get_or steep ((2 ^ 7 * c + d) / n) 0 ≤ 112061995738161969) → steep_of n c d ≤ limit
-      go (inl e) = subst (λ (A : ℕ). A + (q - cube_of q) ≤ limit) (sym (ap (λ (i : ℕ). get_or steep i 0) e ∙ steep-first)) (first-most q (q-first e))
-      go (inr h) = le_trans (sum-le (get_or steep ((2 ^ 7 * c + d) / n) 0) q (cube_of q)) (later (get_or steep ((2 ^ 7 * c + d) / n) 0) q h q-le)
+      go : ((2 ^ 7 * c + d) / n ≡ 0) ⊎ (half_pi - get_or angles ((2 ^ 7 * c + d) / n + 1) 0 ≤ 112061995738161969) → steep_of n c d ≤ limit
+      go (inl e) = subst (λ (A : ℕ). A + (q - cube_of q) ≤ limit) (sym (ap (λ (i : ℕ). half_pi - get_or angles (i + 1) 0) e ∙ steep-first)) (first-most q (q-first e))
+      go (inr h) = le_trans (sum-le (half_pi - get_or angles ((2 ^ 7 * c + d) / n + 1) 0) q (cube_of q)) (later (half_pi - get_or angles ((2 ^ 7 * c + d) / n + 1) 0) q h q-le)
 
 -- ---- all of them
 pub atan-most : (a : ℕ) → 0x3980_0000 ≤ a → a < 0x4c80_0000 → atan_mag a ≤ limit

@@ -11,7 +11,7 @@ use lib.ListN.{get_or}
 use borrow.Author.Tests.{le-ltb, lt-ltb}
 use Rattle.fixed.specs.Fixed.{pick, digits}
 use Rattle.fixed.proofs.Sizes.{dig-low, dig-high}
-use Rattle.arc_tables.specs.Tables.{angles, steep}
+use Rattle.arc_tables.specs.Tables.{angles, half_pi}
 use Rattle.arcs.specs.Atan.{angle_of, low_angle, mid_angle, high_angle, atan_mag}
 use Rattle.cases.proofs.Cases.{split}
 use Rattle.arc_tables.proofs.Angles.{Entry, entry, angle, steep-angle}
@@ -123,7 +123,7 @@ module _ (n c d : ℕ) (top : n ≤ c) (pos : 0 < d) (fine : d * 2 ^ 8 ≤ c) (c
           final q h = omega (arith, h)
 
   pub E : Entry 1 128 i (get_or angles i 0)
-  E = entry 1 128 i (get_or angles i 0) (angle i i_lt)
+  E = entry 1 128 i (get_or angles i 0) (angle i (omega (arith, i_lt)))
 
   q-large : 2 ^ 43 ≤ get_or angles i 0 + q
   q-large = split i 1 (λ k. at_zero (get_or angles i 0) i q k P-q) (λ k. later i (get_or angles i 0) q k E.least)
@@ -240,8 +240,8 @@ module _ (n c d : ℕ) (top : c ≤ n) (pos : 0 < d) (fine : d * 2 ^ 8 ≤ n) (c
       go : (q r e : ℕ) → r * 2 ^ 56 ≤ (q + 1) * e → d ≤ r → (q + 1) * e ≤ (q + 1) * (d * (2 ^ 18 - 2 ^ 10)) → 2 ^ 38 * d ≤ q * d
       go q r e a b f = omega (arith, a, b, f)
 
-  pub steep-entry : Entry 1 (at + 1) 128 (get_or steep at 0)
-  steep-entry = entry 1 (at + 1) 128 (get_or steep at 0) (steep-angle at at_lt)
+  pub steep-entry : Entry 1 (at + 1) 128 (half_pi - get_or angles (at + 1) 0)
+  steep-entry = entry 1 (at + 1) 128 (half_pi - get_or angles (at + 1) 0) (steep-angle (at + 1) (omega arith) (omega (arith, at_lt)))
 
   den-is : den ≡ (at + 1) * c + 128 * n
   den-is = go at
@@ -249,7 +249,7 @@ module _ (n c d : ℕ) (top : c ≤ n) (pos : 0 < d) (fine : d * 2 ^ 8 ≤ n) (c
       go : (i : ℕ) → c * (i + 1) + 2 ^ 7 * n ≡ (i + 1) * c + 128 * n
       go i = omega arith
 
-  pub steep-reduced : Reduced n c (get_or steep at 0) quo
+  pub steep-reduced : Reduced n c (half_pi - get_or angles (at + 1) 0) quo
   steep-reduced =
       record {
         x₀ = at + 1;
@@ -261,7 +261,7 @@ module _ (n c d : ℕ) (top : c ≤ n) (pos : 0 < d) (fine : d * 2 ^ 8 ≤ n) (c
         q-low = subst (λ (y : ℕ). quo * y ≤ rest * 2 ^ 56) den-is quo-low;
         q-high = subst (λ (y : ℕ). rest * 2 ^ 56 ≤ (quo + 1) * y) den-is quo-high;
         most = quo-most;
-        large = large (get_or steep at 0) quo steep-entry.least;
+        large = large (half_pi - get_or angles (at + 1) 0) quo steep-entry.least;
         way = inr quo-least;
       }
     where
@@ -364,7 +364,7 @@ high-case a l h =
     record {
       n = n;
       c = e;
-      A = get_or steep i 0;
+      A = half_pi - get_or angles (i + 1) 0;
       q = (n * (i + 1) - 2 ^ 7 * e) * 2 ^ 56 / (e * (i + 1) + 2 ^ 7 * n);
       k = 2 ^ (a / 2 ^ 23 - 3);
       red = steep-reduced n e (2 ^ 16) (high-top (digits a) e (dig-low a) top) (lit< tt) (high-fine (digits a) (dig-low a)) (high-coarse (digits a) e (dig-high a) top);

@@ -3,14 +3,9 @@ use Rattle.std.specs.Prelude.{ℕ, ◌+◌, ◌-◌, ◌*◌, ◌/◌, ◌%◌, 
 use Rattle.std.specs.Float.{binary32}
 use Rattle.std.specs.Float.Ieee.{of_bits, to_bits}
 use Rattle.fixed.specs.Fixed.{pick, scaled_of, pattern}
-use Rattle.scalar.specs.Root.{root}
-use Rattle.arc_tables.specs.Tables.{cosines, arcs, half_pi}
+use Rattle.arc_tables.specs.Tables.{cosine_of, cosine_at, arcs, half_pi}
 
 -- Sines and cosines are in units of 2 ^ -32, angles in units of 2 ^ -56.
--- The cosine to the sine n
-unfoldable pub cosine_of : ℕ → ℕ
-cosine_of n = root (2 ^ 64 - 1 - n * n)
-
 -- s³ / 6, for the sine s * 2 ^ -56
 abbrev pub sixth_of : ℕ → ℕ
 sixth_of s =
@@ -25,17 +20,17 @@ arc_of A s = A + (s + sixth_of s)
 abbrev pub gentle_arc : (n c : ℕ) → ℕ
 gentle_arc n c =
     let i = (n - 2 ^ 16) / 2 ^ 24 in
-    arc_of (get_or arcs i 0) ((get_or cosines i 0 * n - i * 2 ^ 24 * c) / 2 ^ 8)
+    arc_of (get_or arcs i 0) ((cosine_at i * n - i * 2 ^ 24 * c) / 2 ^ 8)
 
 -- above 45 degrees: the cosine j / 256 of the table's angle, taken from half pi, is above c by 2 ^ -16 at least
 abbrev pub steep_arc : (n c : ℕ) → ℕ
 steep_arc n c =
     let j = (c + 2 ^ 16) / 2 ^ 24 + 1 in
-    arc_of (half_pi - get_or arcs j 0) ((j * 2 ^ 24 * n - get_or cosines j 0 * c) / 2 ^ 8)
+    arc_of (half_pi - get_or arcs j 0) ((j * 2 ^ 24 * n - cosine_at j * c) / 2 ^ 8)
 
 -- x from 2 ^ -7 on and below 1; 3037000499 is the root of 1/2
 unfoldable pub mid_arc : ℕ → ℕ
-unfolding cosine_of cosines arcs
+unfolding cosine_of cosine_at arcs
 mid_arc n = pick (leb n 3037000499) (gentle_arc n (cosine_of n)) (steep_arc n (cosine_of n))
 
 -- In all that follows a is the pattern of |x|. x from 2 ^ -12 to 2 ^ -7: no table

@@ -3,7 +3,7 @@ use Rattle.std.specs.Prelude.{ℕ, ◌+◌, ◌-◌, ◌*◌, ◌/◌, ◌%◌, 
 use Rattle.std.specs.Float.{binary32}
 use Rattle.std.specs.Float.Ieee.{of_bits, to_bits}
 use Rattle.fixed.specs.Fixed.{pattern, pick, digits, scaled_of}
-use Rattle.arc_tables.specs.Tables.{angles, steep}
+use Rattle.arc_tables.specs.Tables.{angles, half_pi}
 
 -- v³ / 3, for v = q * 2 ^ -56
 abbrev pub cube_of : ℕ → ℕ
@@ -19,12 +19,11 @@ gentle_of n c d =
     let i = (2 ^ 7 * n - d) / c in
     angle_of (get_or angles i 0) ((2 ^ 7 * n - i * c) * 2 ^ 56 / (2 ^ 7 * c + i * n))
 
--- for c ≤ n: the table's 128 / j is below it, j being above 128 c / n by d / n at least
+-- for c ≤ n: 128 / j is below it, j being above 128 c / n by d / n at least; its angle is half pi less the table's
 abbrev pub steep_of : (n c d : ℕ) → ℕ
 steep_of n c d =
-    let i = (2 ^ 7 * c + d) / n in
-    let j = i + 1 in
-    angle_of (get_or steep i 0) ((n * j - 2 ^ 7 * c) * 2 ^ 56 / (c * j + 2 ^ 7 * n))
+    let j = (2 ^ 7 * c + d) / n + 1 in
+    angle_of (half_pi - get_or angles j 0) ((n * j - 2 ^ 7 * c) * 2 ^ 56 / (c * j + 2 ^ 7 * n))
 
 -- In all that follows a is the pattern of |x|. x from 2 ^ -12 to 2 ^ -7: no table
 abbrev pub low_angle : ℕ → ℕ
@@ -40,7 +39,7 @@ high_angle a = steep_of (4 * digits a) (2 ^ (152 - a / 2 ^ 23)) (2 ^ 16)
 
 -- from the bit pattern of x to that of its arc tangent: below 2 ^ -12 x itself, from 2 ^ 26 on half pi, and a NaN as it is
 unfoldable pub atan_mag : ℕ → ℕ
-unfolding angles steep
+unfolding angles
 atan_mag a = pick (ltb a 0x3c00_0000) (low_angle a) (pick (ltb a 0x3f80_0000) (mid_angle a) (high_angle a))
 
 unfoldable pub atan_bits : ℕ → ℕ

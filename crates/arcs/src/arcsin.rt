@@ -1,12 +1,12 @@
 // The arc sine: the cosine by a whole root, and then the angle by the sine of its difference from one of the table's.
 // Stays: what is asked of a sine n (n < 2^32), of what is rooted (0 < n) and of a pattern a (0x3980_0000 ≤ a), in whose other end
 // the functions differ. Each works with its number at the full width, so a narrower type would be widened in every line.
-ghost use Rattle.std.specs.Prelude.{◌≡◌, ◌+◌, ◌-◌, ◌*◌, ◌^◌, ◌<◌, ◌≤◌, get_or};
+ghost use Rattle.std.specs.Prelude.{◌≡◌, ◌+◌, ◌-◌, ◌*◌, ◌^◌, ◌<◌, ◌≤◌};
 ghost use Rattle.scalar.specs.Root.{root};
-ghost use Rattle.arc_tables.specs.Tables.{cosines};
-ghost use Rattle.arcs.specs.Asin.{cosine_of, sixth_of, arc_of, gentle_arc, steep_arc, mid_arc, low_arc, asin_mag, asin_bits};
+ghost use Rattle.arc_tables.specs.Tables.{cosine_of, cosine_at};
+ghost use Rattle.arcs.specs.Asin.{sixth_of, arc_of, gentle_arc, steep_arc, mid_arc, low_arc, asin_mag, asin_bits};
 
-use arc_entries::{node_angle, node_cosine};
+use arc_entries::{HALF_PI, node_angle, node_cosine};
 use fixed::{pack, power, scaled};
 
 // s^3 / 6, for the sine s * 2^-56
@@ -98,7 +98,7 @@ fn near_cosine(n: u64, g: u64) -> u64
 // The cosine to the sine i / 256 + e * 2^-32, by the chord from the table's i, whose cosine is x, to the next:
 // off by at most one part in 100,000
 fn chord(i: usize, x: u64, e: u64) -> u64
-    requires { (1 ≤ i) × (i ≤ 181) × (x ≡ get_or cosines i 0) × (2 ^ 16 ≤ e) × (e ≤ 2 ^ 24 + 2 ^ 16) }
+    requires { (1 ≤ i) × (i ≤ 181) × (x ≡ cosine_at i) × (2 ^ 16 ≤ e) × (e ≤ 2 ^ 24 + 2 ^ 16) }
     ensures { (0 < result) × (result ≤ 2 ^ 32) × (2 ^ 32 ≤ result + (i * 2 ^ 24 + e)) }
 {
     x - (x - node_cosine(i + 1)) * e / 0x100_0000
@@ -125,7 +125,7 @@ fn steep_arc(n: u64) -> u64
     let j = (c + 0x1_0000) / 0x100_0000 + 1;
     let y = node_cosine(j as usize);
     arc_sum(
-        113187804032455044 - node_angle(j as usize),
+        HALF_PI - node_angle(j as usize),
         (j * 0x100_0000 * n - y * c) / 256,
     )
 }

@@ -3,7 +3,7 @@
 ghost use Rattle.std.specs.Prelude.{◌≡◌, ◌+◌, ◌-◌, ◌*◌, ◌/◌, ◌%◌, ◌^◌, ◌<◌, ◌≤◌};
 ghost use Rattle.arcs.specs.Atan.{cube_of, angle_of, low_angle, mid_angle, high_angle, atan_mag, atan_bits};
 
-use arc_entries::{gentle_angle, steep_angle};
+use arc_entries::{HALF_PI, gentle_angle};
 use fixed::{high_product, pack, power, scaled};
 
 // v^3 / 3 for v = q * 2^-56
@@ -59,10 +59,9 @@ fn high_angle(a: u32) -> u64
 {
     let n = 4 * ((0x80_0000 + a % 0x80_0000) as u64);
     let e = power(152 - a / 0x80_0000);
-    let i = (128 * e + 0x1_0000) / n;
-    let j = i + 1;
+    let j = (128 * e + 0x1_0000) / n + 1;
     let q = quotient(n * j - 128 * e, e * j + 128 * n);
-    angle_sum(steep_angle(i as usize), q)
+    angle_sum(HALF_PI - gentle_angle(j as usize), q)
 }
 
 fn atan_mag(a: u32) -> u64

@@ -42,7 +42,7 @@ use Rattle.shapes.specs.declared.Mark.{Mark}
 use Rattle.slot_sheet.specs.declared.SlotSheet.{SlotSheet}
 use Rattle.slot_sheet.specs.Sheet.{sheet_by, sheet_cells_by, slot_sheet_with, sheet_cells_with}
 use Rattle.muf_records.specs.Records.{es_row_at, records_answer_with}
-use Rattle.call_lists.specs.Calls.{EsRows, flat, records, muf_with, Call, a_muf, a_sheet, a_nominal, SlotRows, rows_of, part_of, answer_with, answer_of, state_left, after_with, after_of, answered, prepares, picked_slot}
+use Rattle.call_lists.specs.Calls.{EsRows, flat, records, muf_with, Call, a_muf, a_sheet, a_nominal, SlotRows, shown_of, part_of, answer_with, answer_of, state_left, after_with, after_of, answered, prepares, picked_slot}
 use Rattle.call_lists.specs.Lists.{SameProfile}
 use Rattle.call_lists.proofs.Alike.{Alike, gethp-same, genion-same, alosfv-same, three-same}
 use Rattle.call_lists.proofs.Prepared.{Common, common-self, lecden-alike, lecden-others, lecden-common}
@@ -170,7 +170,7 @@ abbrev shown : Ionogram → List Mark → Result SlotRows Refusal
 shown ion marks = Ok (record { ion = ion; marks = marks })
 
 sheet-seen : (a b : Bool) (find : Finder) (s t : IonoState) (k nang : ℕ) (layers : List LayerMuf) (cells : List ℤ) → (a ≡ true → b ≡ true → AgreesAt find t k) → Common s t → (a ≡ true → b ≡ true → slot_at t k ≡ slot_at s k)
-    → (part_of rows_of (sheet_by a b find t k layers) ≡ part_of rows_of (sheet_by a b gethp_of s k layers)) × (sheet_cells_by a b find t k nang cells ≡ sheet_cells_by a b gethp_of s k nang cells)
+    → (part_of shown_of (sheet_by a b find t k layers) ≡ part_of shown_of (sheet_by a b gethp_of s k layers)) × (sheet_cells_by a b find t k nang cells ≡ sheet_cells_by a b gethp_of s k nang cells)
 sheet-seen true true find s t k nang layers cells agree c same =
     let u = lecden_of t k in
     let v = lecden_of s k in
@@ -182,13 +182,13 @@ sheet-seen true true find s t k nang layers cells agree c same =
 sheet-seen true false find s t k nang layers cells agree c same = (refl, refl)
 sheet-seen false b find s t k nang layers cells agree c same = (refl, refl)
 
-sheet-left : (a b : Bool) (find : Finder) (s t : IonoState) (k : ℕ) (layers : List LayerMuf) → state_left (λ (x : SlotSheet). x.state) t (sheet_by a b find t k layers) ≡ prepared_if (is_ok (part_of rows_of (sheet_by a b gethp_of s k layers))) t k
+sheet-left : (a b : Bool) (find : Finder) (s t : IonoState) (k : ℕ) (layers : List LayerMuf) → state_left (λ (x : SlotSheet). x.state) t (sheet_by a b find t k layers) ≡ prepared_if (is_ok (part_of shown_of (sheet_by a b gethp_of s k layers))) t k
 sheet-left true true find s t k layers = refl
 sheet-left true false find s t k layers = refl
 sheet-left false b find s t k layers = refl
 
 -- it is answered where the slot number is at most 2 and there is room: its arguments alone decide
-sheet-answered : (a b : Bool) (s : IonoState) (k : ℕ) (layers : List LayerMuf) → is_ok (part_of rows_of (sheet_by a b gethp_of s k layers)) ≡ (a && b)
+sheet-answered : (a b : Bool) (s : IonoState) (k : ℕ) (layers : List LayerMuf) → is_ok (part_of shown_of (sheet_by a b gethp_of s k layers)) ≡ (a && b)
 sheet-answered true true s k layers = refl
 sheet-answered true false s k layers = refl
 sheet-answered false b s k layers = refl

@@ -49,8 +49,8 @@ pub record SlotRows : Type 0 where
   pub ion : Ionogram
   pub marks : List Mark
 
-abbrev pub rows_of : SlotSheet → SlotRows
-rows_of a = record { ion = a.ion; marks = a.marks }
+abbrev pub shown_of : SlotSheet → SlotRows
+shown_of a = record { ion = a.ion; marks = a.marks }
 
 -- all that a call gives back but the state: its hour, or its refusal, and its Es rows; its rows and marks, or its refusal, and its cells; or its hour, or its refusal
 pub data Answer : Type 0 where
@@ -65,7 +65,7 @@ part_of f (Err r) = Err r
 
 unfoldable pub answer_with : Finder → IonoState → Call → Answer
 answer_with find s (a_muf es f2d clat clck c) = let d = muf_with find s es f2d clat clck c in of_muf (part_of (λ a. a.hour) (answer_by d)) (es_after es (rewrite_by d))
-answer_with find s (a_sheet k nang layers cells) = of_sheet (part_of rows_of (slot_sheet_with find s k nang layers cells)) (sheet_cells_with find s k nang cells)
+answer_with find s (a_sheet k nang layers cells) = of_sheet (part_of shown_of (slot_sheet_with find s k nang layers cells)) (sheet_cells_with find s k nang cells)
 answer_with find s (a_nominal points f2m3 es km gcd gcdkm) = of_nominal (nommuf_of points f2m3 es km gcd gcdkm)
 
 abbrev pub answer_of : IonoState → Call → Answer

@@ -14,7 +14,7 @@ use Rattle.muf.specs.Curmuf.{curmuf_of, es_after_of}
 use Rattle.muf_records.specs.Records.{records_muf_of, records_after_of}
 use Rattle.slot_sheet.specs.Sheet.{slot_sheet_of, sheet_cells_of}
 use Rattle.nominal.specs.Nommuf.{nommuf_of}
-use Rattle.call_lists.specs.Calls.{flat, records, Call, a_muf, a_sheet, a_nominal, of_muf, of_sheet, of_nominal, rows_of, part_of, answer_of, state_left, after_of, answered, picked_slot}
+use Rattle.call_lists.specs.Calls.{flat, records, Call, a_muf, a_sheet, a_nominal, of_muf, of_sheet, of_nominal, shown_of, part_of, answer_of, state_left, after_of, answered, picked_slot}
 use Rattle.call_lists.specs.Lists.{Every, ListOfCalls}
 
 -- ---- how many
@@ -65,6 +65,6 @@ pub record WithContracts : Type 0 where
   pub records-muf : (s : IonoState) (es : List EsParams) (f2d clat clck : List Float) (c : PathNumbers) → let r = records_muf_of s es f2d clat clck c in
       (answer_of s (a_muf (records es) f2d clat clck c) ≡ of_muf (part_of (λ a. a.hour) r) (records (records_after_of s es f2d clat clck c))) × (after_of s (a_muf (records es) f2d clat clck c) ≡ state_left (λ a. a.state) s r)
   pub sheet : (s : IonoState) (k nang : ℕ) (layers : List LayerMuf) (cells : List ℤ) → let r = slot_sheet_of s k nang layers cells in
-      (answer_of s (a_sheet k nang layers cells) ≡ of_sheet (part_of rows_of r) (sheet_cells_of s k nang cells)) × (after_of s (a_sheet k nang layers cells) ≡ state_left (λ a. a.state) s r)
+      (answer_of s (a_sheet k nang layers cells) ≡ of_sheet (part_of shown_of r) (sheet_cells_of s k nang cells)) × (after_of s (a_sheet k nang layers cells) ≡ state_left (λ a. a.state) s r)
   pub nominal : (s : IonoState) (points : List LayerParams) (f2m3 : List Float) (es : List EsParams) (km : ℕ) (gcd gcdkm : Float)
       → (answer_of s (a_nominal points f2m3 es km gcd gcdkm) ≡ of_nominal (nommuf_of points f2m3 es km gcd gcdkm)) × (after_of s (a_nominal points f2m3 es km gcd gcdkm) ≡ s)

@@ -5,9 +5,14 @@
 // of them are scanned are handed on apart, as the Rust has them.
 #![tactic(auto)]
 
-ghost use Rattle.std.specs.Prelude.{◌≡◌, true, map, ℕ, ◌+◌, ◌*◌, ◌≤◌, ◌<◌, length, take, get_or, pos};
-ghost use Rattle.scalar.specs.F32.{◌/f◌, at as number_at};
-ghost use Rattle.cell_test.specs.Cell.{khz_of, sqcos_of, low_of, high_of, in_doubt, Told};
+ghost use Rattle.std.specs.Prelude.{◌≡◌, true, map, ℕ, ◌+◌, ◌*◌, ◌^◌, ◌≤◌, ◌<◌, length, take, get_or, pos, T};
+ghost use Rattle.std.specs.Float.{binary32};
+ghost use Rattle.std.specs.Float.Ieee.{fits, to_bits};
+ghost use Rattle.std.specs.Float.Ieee.Positive.{positive};
+ghost use Rattle.scalar.specs.F32.{◌/f◌, ◌≤f◌, at as number_at};
+ghost use Rattle.scalar.specs.Literals.{f0_000001, f1};
+ghost use Rattle.cell_test.specs.Cell.{khz_of, sqcos_of, low_pattern_of, high_pattern_of, in_doubt, Told};
+ghost use Rattle.cell_test.specs.Laws.{product_of};
 ghost use Rattle.cell_rows.specs.Row.{RowTold, angle_cells_of, cell_scan_of};
 
 use cell_test::IN_DOUBT;
@@ -22,10 +27,13 @@ pub fn padded(x: [f32; 30]) -> [f32; 32]
     r
 }
 
-// A guess at the cell's kHz, half a kHz low, with the root as the machine takes it. No proof rests on that: the
-// test refuses a wrong guess.
-fn rough_khz(fvv: f32, sqcos: f32) -> f32 {
-    1000.0 * (fvv / sqcos.sqrt()) - 0.5
+// The products of the numbers n, or of those that are more.
+fn products(n: &[u32; 32], more: u32, sqcos: &[f32; 32]) -> [u32; 32]
+    requires few { (more ≤ 1) × ((i : ℕ) → i < 32 → get_or n.now i 0 < 2 ^ 22) }
+    requires cosines { (i : ℕ) → i < 32 → T (f0_000001 ≤f number_at sqcos.now i) × T (number_at sqcos.now i ≤f f1) }
+    ensures { (i : ℕ) → i < 32 → get_or result i 0 ≡ to_bits binary32 (product_of (get_or n.now i 0 + more) (number_at sqcos.now i)) }
+{
+    from_fn(|i| cell_test::product(n[i] + more, sqcos[i]))
 }
 
 // The cell that was told, and worked out where it is in doubt.
@@ -47,15 +55,18 @@ fn is_sure(told: &[u32; 32]) -> bool
 }
 
 // The rows as they are laid out for all angles: each row's frequency, its distance from the Earth's
-// centre, and the bounds of the test that follow from the frequency.
+// centre, and what follows from the frequency: the number that a cell is guessed from, and the bounds of the test, by their patterns.
 #[derive(Clone, Copy, Debug, PartialEq)]
 pub struct Rows {
     pub fv: [f32; 32],
     pub radii: [f32; 32],
-    pub low: [f32; 32],
-    pub high: [f32; 32],
-    pub ghost lows: { low ≡ map low_of fv },
-    pub ghost highs: { high ≡ map high_of fv },
+    pub plain: [f32; 32],
+    pub low: [u32; 32],
+    pub high: [u32; 32],
+    pub ghost lows: { low ≡ map low_pattern_of fv },
+    pub ghost highs: { high ≡ map high_pattern_of fv },
+    pub ghost held: { (i : ℕ) → i < 32 → T (fits binary32 (number_at fv i)) },
+    pub ghost plains: { (i : ℕ) → i < 32 → T (positive (number_at plain i)) },
 }
 
 impl Rows {
@@ -66,21 +77,38 @@ impl Rows {
         Rows {
             fv,
             radii,
+            plain: from_fn(|i| cell_test::plain(fv[i])),
             low: from_fn(|i| cell_test::low(fv[i])),
             high: from_fn(|i| cell_test::high(fv[i])),
         }
     }
 
-    // The cells for an angle, `IN_DOUBT` where one is in doubt. Floats are compared in steps of their own: the compiler makes vector
+    // The squares of the cosines at the rows' heights for an angle. Floats are compared in a step of its own: the compiler makes vector
     // instructions of a step that does little else.
+    fn cosines(&self, rcosd: f32) -> [f32; 32]
+        ensures { (i : ℕ) → i < 32 → number_at result i ≡ sqcos_of (rcosd /f number_at self.now.radii i) }
+    {
+        let uncut: [f32; 32] = from_fn(|i| cell_test::uncut(rcosd / self.radii[i]));
+        from_fn(|i| cell_test::cut(uncut[i]))
+    }
+
+    // A number for each cell, which may be wrong.
+    fn numbers(&self, sqcos: &[f32; 32]) -> [u32; 32]
+        requires { (i : ℕ) → i < 32 → T (f0_000001 ≤f number_at sqcos.now i) }
+        ensures { (i : ℕ) → i < 32 → get_or result i 0 < 2 ^ 22 }
+    {
+        from_fn(|i| cell_test::guess(self.plain[i], sqcos[i]))
+    }
+
+    // The cells for an angle, `IN_DOUBT` where one is in doubt.
     fn guess(&self, rcosd: f32) -> [u32; 32]
         ensures { RowTold self.now.fv self.now.radii rcosd result }
     {
-        let uncut: [f32; 32] = from_fn(|i| cell_test::uncut(rcosd / self.radii[i]));
-        let sqcos: [f32; 32] = from_fn(|i| cell_test::cut(uncut[i]));
-        let khz: [f32; 32] = from_fn(|i| rough_khz(self.fv[i], sqcos[i]));
-        let n: [u32; 32] = from_fn(|i| cell_test::digits(khz[i]));
-        from_fn(|i| cell_test::tested(n[i], self.fv[i], sqcos[i], self.low[i], self.high[i]))
+        let sqcos = self.cosines(rcosd);
+        let n = self.numbers(&sqcos);
+        let p = products(&n, 0, &sqcos);
+        let q = products(&n, 1, &sqcos);
+        from_fn(|i| cell_test::told(n[i], p[i], q[i], self.low[i], self.high[i]))
     }
 
     // The thirty cells of an angle.

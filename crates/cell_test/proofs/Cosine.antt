@@ -21,7 +21,7 @@ use Rattle.std.proofs.lemmas.Float.{lt_irrefl, lt_of_lt_of_le}
 use Rattle.cell_test.specs.Cell.{sqcos_of}
 
 -- ---- a square has no sign
-square-sign : (x : Float) → sgn (mul binary32 x x) ≡ false
+pub square-sign : (x : Float) → sgn (mul binary32 x x) ≡ false
 unfolding mul
 square-sign nan = refl
 square-sign (inf true) = refl
@@ -122,3 +122,12 @@ by_test sphe false h = let k = floored sphe h in subst (Cosine sphe) k.0 k
 
 pub squared : (sphe : Float) → Cosine sphe (sqcos_of sphe)
 squared sphe = by_test sphe _ refl
+
+either-fits : (b : Bool) (x y : Float) → T (fits binary32 x) → T (fits binary32 y) → T (fits binary32 (or_second b x y))
+unfolding or_second
+either-fits true x y f g = g
+either-fits false x y f g = f
+
+pub squared-fits : (sphe : Float) → T (fits binary32 (sqcos_of sphe))
+unfolding sqcos_of max_of
+squared-fits sphe = let d = f1 -f sphe *f sphe in either-fits (is_nan d || lt d f0_000001) d f0_000001 (sub-fits binary32 f1 (sphe *f sphe)) small-fits

@@ -59,9 +59,13 @@ thousand-finite : T (finite f1000)
 unfolding of_bits
 thousand-finite = tt
 
-under-finite : T (finite under_one)
+pub under-finite : T (finite under_one)
 unfolding of_bits
 under-finite = tt
+
+pub over-finite : T (finite over_one)
+unfolding of_bits
+over-finite = tt
 
 pub one : Is f1 (2 ^ 149)
 unfolding of_bits
@@ -79,17 +83,21 @@ pub most-mhz : Is (of_bits binary32 0x44800000) (2 ^ 159)
 unfolding of_bits
 most-mhz = (refl, refl)
 
-under_one_lem : Is under_one ((2 ^ 24 - 14) * 2 ^ 125)
+pub under_one_lem : Is under_one ((2 ^ 24 - 14) * 2 ^ 125)
 unfolding of_bits
 under_one_lem = (refl, refl)
 
-over-one : Is over_one ((2 ^ 24 + 14) * 2 ^ 125)
+pub over-one : Is over_one ((2 ^ 24 + 14) * 2 ^ 125)
 unfolding of_bits
 over-one = (refl, refl)
 
-whole : (n : ℕ) → n ≤ 2 ^ 22 → HasValue (of_int binary32 (pos n)) false n 1
+pub whole : (n : ℕ) → n ≤ 2 ^ 22 → HasValue (of_int binary32 (pos n)) false n 1
 unfolding of_int
 whole n h = round_whole binary32 false n (le_trans h (lit≤ {m = 2 ^ 22} {n = 2 ^ 24} tt))
+
+-- 1 MHz: the numbers of its row stand for those of any where the row is not seen
+pub own : Sized f1 (2 ^ 139) (2 ^ 159)
+own = record { size = 2 ^ 149; is = one; least = lit≤ tt; most = lit≤ tt }
 
 -- ---- the numbers on the way
 module _ (fvv s : Float) (f : Sized fvv (2 ^ 139) (2 ^ 159)) (c : Sized s (2 ^ 129) (2 ^ 149)) where
@@ -146,6 +154,12 @@ module _ (fvv s : Float) (f : Sized fvv (2 ^ 139) (2 ^ 159)) (c : Sized s (2 ^ 1
 
   bound-pos : (C G : ℕ) → 2 ^ 148 ≤ C → Within (K * C) L G → C ≤ 2 ^ 150 → 0 < G
   bound-pos C G lo g hi = lt_of_lt_of_le (pow_pos 100) (spread (K * C) L G (2 ^ 100) (2 ^ 200) (pow_pos 149) g (le_trans (lit≤ {n = 2 ^ 144 * 2 ^ 148} tt) (mul-le-mul k-size.0 lo)) (le_trans (mul-le-mul k-size.1 hi) (lit≤ tt))).0
+
+  pub bound-value : (b : Float) (C : ℕ) → Is b C → 2 ^ 148 ≤ C → C ≤ 2 ^ 150 → (X : ℕ) × Is ((f1000 *f fvv) *f (f1000 *f fvv) *f b) X
+  bound-value b C h lo hi = let g = bound b C h lo hi in (g.X, g.is)
+
+  pub khz-above : T (positive (f1000 *f fvv))
+  khz-above = positive_of_value (f1000 *f fvv) W L w.is W-pos
 
   -- the root, the quotient and the frequency
   root : RootOf (sqrt_of s) (S * L)
@@ -214,8 +228,14 @@ module _ (fvv s : Float) (f : Sized fvv (2 ^ 139) (2 ^ 159)) (c : Sized s (2 ^ 1
         product (x *f x) s A S a.is c.is (lt_of_lt_of_le (pow_pos 148) a-size.0) S_pos
         (le_trans (lit≤ {n = 2 ^ 148 * 2 ^ 129} tt) (mul-le-mul a-size.0 c.least)) (lt_of_le_of_lt (mul-le-mul a-size.1 c.most) (lit< tt))
 
+    b-size : (2 ^ 100 ≤ b.X) × (b.X ≤ 2 * 2 ^ 300)
+    b-size = spread (A * S) L b.X (2 ^ 100) (2 ^ 300) (pow_pos 149) b.within (le_trans (lit≤ {n = 2 ^ 148 * 2 ^ 129} tt) (mul-le-mul a-size.0 c.least)) (le_trans (mul-le-mul a-size.1 c.most) (lit≤ tt))
+
     B-pos : 0 < b.X
-    B-pos = lt_of_lt_of_le (pow_pos 100) (spread (A * S) L b.X (2 ^ 100) (2 ^ 300) (pow_pos 149) b.within (le_trans (lit≤ {n = 2 ^ 148 * 2 ^ 129} tt) (mul-le-mul a-size.0 c.least)) (le_trans (mul-le-mul a-size.1 c.most) (lit≤ tt))).0
+    B-pos = lt_of_lt_of_le (pow_pos 100) b-size.0
+
+    pub product-value : (X : ℕ) × Is (x *f x *f s) X × (X ≤ 2 * 2 ^ 300)
+    product-value = (b.X, b.is, b-size.1)
 
     not-above : T (le (x *f x *f s) ((f1000 *f fvv) *f (f1000 *f fvv) *f under_one)) → n * L ≤ P
     not-above t =
@@ -241,7 +261,7 @@ at-most-nan (inf s) h = h
 at-most-nan (fin s m e) h = h
 
 -- what is tame is a zero or in the range
-tame-size : (fvv : Float) → T (fits binary32 fvv) → T (tame fvv) → Zero fvv ⊎ Sized fvv (2 ^ 139) (2 ^ 159)
+pub tame-size : (fvv : Float) → T (fits binary32 fvv) → T (tame fvv) → Zero fvv ⊎ Sized fvv (2 ^ 139) (2 ^ 159)
 unfolding tame
 tame-size fvv f t =
     let a = of_bits binary32 0x3a800000 in
@@ -251,7 +271,7 @@ tame-size fvv f t =
       | inr k ↦ inr (sized a fvv b (2 ^ 139) (2 ^ 159) f least-mhz most-mhz (pow_pos 139) (pow_pos 159) (and_l (le a fvv) (le fvv b) k) (and_r (le a fvv) (le fvv b) k))
     ]
 
-cosine-size : (s : Float) → T (fits binary32 s) → T (f0_000001 ≤f s) → T (s ≤f f1) → Sized s (2 ^ 129) (2 ^ 149)
+pub cosine-size : (s : Float) → T (fits binary32 s) → T (f0_000001 ≤f s) → T (s ≤f f1) → Sized s (2 ^ 129) (2 ^ 149)
 cosine-size s f l m =
     let z = sized f0_000001 s f1 (8796093 * 2 ^ 106) (2 ^ 149) f millionth one (lit< tt) (pow_pos 149) l m in
     record { size = z.size; is = z.is; least = le_trans (lit≤ {n = 8796093 * 2 ^ 106} tt) z.least; most = z.most }
@@ -266,10 +286,6 @@ test-suffices fvv s n f g at_least_lem at_most l below-high above_low = go (tame
     low_end : (z : Sized fvv (2 ^ 139) (2 ^ 159)) (n : ℕ) → n < 2 ^ 22 → T (of_int binary32 (pos n) *f of_int binary32 (pos n) *f s ≤f ((f1000 *f fvv) *f (f1000 *f fvv) *f under_one)) → n * L ≤ P fvv s z c
     low_end z zero l t = le_trans (le_of_eq (zero-mul L)) zero-le
     low_end z (suc n) l t = not-above fvv s z c (suc n) (zero-lt-suc n) (le_of_lt l) t
-
-    -- by the numbers of a row at 1 MHz, which the product does not see
-    own : Sized f1 (2 ^ 139) (2 ^ 159)
-    own = record { size = 2 ^ 149; is = one; least = lit≤ tt; most = lit≤ tt }
 
     nothing : (n : ℕ) → n < 2 ^ 22 → Zero fvv → T (product_of n s ≤f ((f1000 *f fvv) *f (f1000 *f fvv) *f under_one)) → trunc_of (f1000 *f (fvv /f sqrt_of s)) ≡ pos n
     nothing zero l z t =

@@ -24,7 +24,7 @@ Zero nan = ⊥
 Zero (inf s) = ⊥
 Zero (fin s m e) = m ≡ 0
 
-of-value : (x : Float) (s : Bool) (c : ℕ) → 0 < c → HasValue x s 0 c → Zero x
+pub of-value : (x : Float) (s : Bool) (c : ℕ) → 0 < c → HasValue x s 0 c → Zero x
 of-value nan s c p h = h
 of-value (inf t) s c p h = h
 of-value (fin t m e) s c p h = elim (eq-zero-or-pos m) [ inl z ↦ z | inr k ↦ absurd (lt_irrefl 0 (subst (λ (z : ℕ). 0 < z) (h.1 ∙ zero-mul (down e)) (mul-pos (mul-pos k (up_pos e)) p))) ]

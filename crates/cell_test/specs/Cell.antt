@@ -1,8 +1,8 @@
 -- A cell of the reflectrix from the row's frequency and the square of the cosine at the layer, and the bounds of the test that a guess at it has to pass. Definitions only.
 -- A number n is the cell where n * n * sqcos is at most the lower bound and (n + 1) * (n + 1) * sqcos at least the upper one, each product rounded; Laws.antt says so.
-use Rattle.std.specs.Prelude.{◌≡◌, Bool, ◌&&◌, ◌||◌, cond, ℕ, ◌^◌, ◌<◌, ℤ, pos, T, Float}
+use Rattle.std.specs.Prelude.{◌≡◌, Bool, ◌&&◌, ◌||◌, cond, ℕ, ◌-◌, ◌^◌, ◌<◌, leb, ℤ, pos, Float}
 use Rattle.std.specs.Float.{nan, binary32}
-use Rattle.std.specs.Float.Ieee.{of_bits}
+use Rattle.std.specs.Float.Ieee.{of_bits, to_bits}
 use Rattle.scalar.specs.F32.{◌-f◌, ◌*f◌, ◌/f◌, ◌≤f◌, ◌==f◌}
 use Rattle.scalar.specs.Literals.{f0, f0_000001, f1, f1000}
 use Rattle.scalar.specs.Scalar.{max_of, trunc_of}
@@ -42,13 +42,16 @@ high_of fvv = khz_square_of fvv *f over_one
 abbrev pub in_doubt : ℕ
 in_doubt = 2 ^ 31
 
--- what a guess n is tested with: the row's frequency, the square of the cosine, cut, and the two bounds
-pub record Tested (n : ℕ) (fvv sqcos low high : Float) : Type 0 where
-  pub guessed : n < 2 ^ 22
-  pub least : T (f0_000001 ≤f sqcos)
-  pub most : T (sqcos ≤f f1)
-  pub lower : low ≡ low_of fvv
-  pub upper : high ≡ high_of fvv
+-- The bounds by their patterns, which are in order as the floats are. Where the frequency is not tame the upper one is above every product's.
+unfoldable pub low_pattern_of : Float → ℕ
+low_pattern_of fvv = cond (tame fvv) (to_bits binary32 (low_of fvv)) 0
+
+unfoldable pub high_pattern_of : Float → ℕ
+high_pattern_of fvv = cond (tame fvv) (to_bits binary32 (high_of fvv)) (2 ^ 32 - 1)
+
+-- what is told of a guess n, from the patterns p of n * n * sqcos and q of (n + 1) * (n + 1) * sqcos and those of the bounds
+unfoldable pub told_of : ℕ → ℕ → ℕ → ℕ → ℕ → ℕ
+told_of n p q low high = cond (leb high q) (cond (leb p low) n in_doubt) in_doubt
 
 -- What is answered for a cell: a number below that one, and then it is the cell, or one from there on, which says nothing.
 pub record Told (fvv sqcos : Float) (r : ℕ) : Type 0 where

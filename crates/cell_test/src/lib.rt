@@ -2,12 +2,15 @@
 // says whether it is the cell.
 #![tactic(auto)]
 
-ghost use Rattle.std.specs.Prelude.{◌≡◌, ◌^◌, ◌<◌, T};
-ghost use Rattle.order.specs.Units.{real};
+ghost use Rattle.std.specs.Prelude.{◌≡◌, ◌^◌, ◌≤◌, ◌<◌, pos, T};
+ghost use Rattle.std.specs.Float.{binary32};
+ghost use Rattle.std.specs.Float.Ieee.{fits, of_int, to_bits};
+ghost use Rattle.std.specs.Float.Ieee.Positive.{positive};
 ghost use Rattle.scalar.specs.F32.{◌-f◌, ◌*f◌, ◌≤f◌};
 ghost use Rattle.scalar.specs.Literals.{f0_000001, f1};
 ghost use Rattle.scalar.specs.Scalar.{max_of};
-ghost use Rattle.cell_test.specs.Cell.{khz_of, sqcos_of, tame, low_of, high_of, Tested, Told};
+ghost use Rattle.cell_test.specs.Cell.{khz_of, sqcos_of, tame, low_pattern_of, high_pattern_of, told_of};
+ghost use Rattle.cell_test.specs.Laws.{product_of};
 
 // The square of the cosine before it is cut.
 pub fn uncut(sphe: f32) -> f32
@@ -31,7 +34,7 @@ pub fn squared_cosine(sphe: f32) -> f32
 }
 
 // The cell itself, with a root and a division.
-// Stays: a row's fvv and an angle's sqcos, here and below, meet in one cell and are no pair that is kept.
+// Stays: a row's fvv and an angle's sqcos meet in one cell and are no pair that is kept.
 pub fn khz(fvv: f32, sqcos: f32) -> i32
     ensures { result ≡ khz_of fvv sqcos }
 {
@@ -48,37 +51,68 @@ fn is_tame(fvv: f32) -> bool
     fvv == 0.0 || fvv >= 0.0009765625 && fvv <= 1024.0
 }
 
-// What the square of a number that is not above the cell, by the square of the cosine, is at most.
-pub fn low(fvv: f32) -> f32
-    ensures { result ≡ low_of fvv }
+// What a cell is guessed from: the frequency in kHz, or a number of which 0 is guessed. Above zero in any case.
+pub fn plain(fvv: f32) -> f32
+    ensures { T (positive result) }
+{
+    if fvv >= 0.0009765625 && fvv <= 1024.0 {
+        1000.0 * fvv
+    } else {
+        0.000001
+    }
+}
+
+// What the square of a number that is not above the cell, by the square of the cosine, is at most. By its
+// pattern, as all that is tested: a comparison of whole numbers is made for several places at once. That the format
+// holds fvv is said too, since an array does not tell it of its numbers.
+// Stays: beside `high`, since one function of both would be handed the factor and what a frequency that is not tame gets.
+pub fn low(fvv: f32) -> u32
+    ensures value { result ≡ low_pattern_of fvv }
+    ensures held { T (fits binary32 fvv) }
 {
     if is_tame(fvv) {
         let khz = 1000.0 * fvv;
-        return khz * khz * 0.99999917;
+        return f32::to_bits(khz * khz * 0.99999917);
     }
-    0.0 / 0.0
+    0
 }
 
 // What that of a number above the cell is at least.
-pub fn high(fvv: f32) -> f32
-    ensures { result ≡ high_of fvv }
+pub fn high(fvv: f32) -> u32
+    ensures { result ≡ high_pattern_of fvv }
 {
-    let khz = 1000.0 * fvv;
-    khz * khz * 1.0000008
+    if is_tame(fvv) {
+        let khz = 1000.0 * fvv;
+        return f32::to_bits(khz * khz * 1.0000008);
+    }
+    0xffff_ffff
 }
 
-// v where it is above zero, else 0: a number in any case.
-fn from_zero(v: f32) -> f32
-    ensures { T (real result) }
-{
-    if v > 0.0 { v } else { 0.0 }
-}
-
-// The nearest whole number, as the last 22 digits of a sum's pattern.
-pub fn digits(v: f32) -> u32
+// A guess at the cell's kHz, with the root as the machine takes it: the whole number nearest to half a kHz
+// less, as the last 22 digits of a sum's pattern. No proof rests on that: the test refuses a wrong guess.
+pub fn guess(plain: f32, sqcos: f32) -> u32
+    requires { T (positive plain) × T (f0_000001 ≤f sqcos) }
     ensures { result < 2 ^ 22 }
 {
-    f32::to_bits(from_zero(v) + 12582912.0) % 0x40_0000
+    f32::to_bits(plain / sqcos.sqrt() - 0.5 + 12582912.0) % 0x40_0000
+}
+
+// The number n as a float: 2^23 and n, of whose pattern n is the end, less 2^23.
+// Stays: not a cast, which the compiler makes place by place.
+fn whole(n: u32) -> f32
+    requires { n ≤ 2 ^ 22 }
+    ensures { result ≡ of_int binary32 (pos n) }
+{
+    f32::from_bits(0x4b00_0000 + n) - 8388608.0
+}
+
+// The square of n by the square of the cosine, by its pattern.
+pub fn product(n: u32, sqcos: f32) -> u32
+    requires { (n ≤ 2 ^ 22) × T (f0_000001 ≤f sqcos) × T (sqcos ≤f f1) }
+    ensures { result ≡ to_bits binary32 (product_of n sqcos) }
+{
+    let x = whole(n);
+    f32::to_bits(x * x * sqcos)
 }
 
 // From this number on an answer says that the cell is in doubt.
@@ -86,18 +120,11 @@ pub fn digits(v: f32) -> u32
 // would take twice the room and a test at each.
 pub const IN_DOUBT: u32 = 0x8000_0000;
 
-// The number n where it passes the test, which says that it is the cell, else `IN_DOUBT`. Both products are
-// tested, with no branch. Nothing is asked: a caller has the five by place, and says of each place what they
-// are. Of a guess no digit is cut.
-pub fn tested(n: u32, fvv: f32, sqcos: f32, low: f32, high: f32) -> u32
-    ensures { Tested n fvv sqcos low high → Told fvv sqcos result }
+// The number n where it passes the test, which says that it is the cell, else `IN_DOUBT`: by the patterns of the products
+// of n and of n + 1, and of the bounds. Both are tested, with no branch.
+pub fn told(n: u32, p: u32, q: u32, low: u32, high: u32) -> u32
+    ensures { result ≡ told_of n p q low high }
 {
-    let x = (n % 0x40_0000) as f32;
-    let m = (n % 0x40_0000 + 1) as f32;
-    let kept = if x * x * sqcos <= low { n } else { IN_DOUBT };
-    if high <= m * m * sqcos {
-        kept
-    } else {
-        IN_DOUBT
-    }
+    let kept = if p <= low { n } else { IN_DOUBT };
+    if high <= q { kept } else { IN_DOUBT }
 }

@@ -8,13 +8,13 @@ use Rattle.circuit_sheet.specs.declared.Sheet.{Sheet}
 use Rattle.layers.specs.declared.IonoState.{IonoState}
 use Rattle.profile.specs.Lecden.{lecden_of}
 use Rattle.circuit_sheet.specs.CircuitSheet.{slots_of, sheet_of}
-use Rattle.circuit_plot.specs.declared.Profile.{Profile}
+use Rattle.circuit_plot.specs.declared.DrawnProfile.{DrawnProfile}
 use Rattle.circuit_plot.specs.declared.Plot.{Plot}
 
-unfoldable pub profile_of : IonoState → ℕ → Profile
+unfoldable pub profile_of : IonoState → ℕ → DrawnProfile
 profile_of s k = let t = lecden_of s k in record { htr = t.htr; fnsq = t.fnsq }
 
-unfoldable pub profiles_of : IonoState → List Profile
+unfoldable pub profiles_of : IonoState → List DrawnProfile
 profiles_of s = profile_of s 0 ∷ profile_of s 1 ∷ profile_of s 2 ∷ []
 
 -- the sheet, and the profiles of the circuit that it is of

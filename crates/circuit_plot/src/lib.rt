@@ -11,7 +11,7 @@ use refusal::Refusal;
 // Fifty heights in km, and at each the square of the plasma frequency, in MHz².
 // Stays: two columns, since they are the state's `htr` and `fnsq`, which are the Rust's.
 #[derive(Clone, Copy, Debug, PartialEq)]
-pub struct Profile {
+pub struct DrawnProfile {
     pub htr: [f32; 50],
     pub fnsq: [f32; 50],
 }
@@ -20,27 +20,27 @@ pub struct Profile {
 #[derive(Drop)]
 pub struct Plot {
     pub sheet: Sheet,
-    pub profiles: [Profile; 3],
+    pub profiles: [DrawnProfile; 3],
 }
 
-fn profile_at(s: IonoState, k: usize) -> Profile
+fn profile_at(s: IonoState, k: usize) -> DrawnProfile
     requires { k < 3 }
     ensures { result ≡ profile_of s k }
 {
     let t = profile::lecden_slot(s, k);
     let htr = t.htr;
     let fnsq = t.fnsq;
-    Profile { htr, fnsq }
+    DrawnProfile { htr, fnsq }
 }
 
-fn profiles(s: IonoState) -> [Profile; 3]
+fn profiles(s: IonoState) -> [DrawnProfile; 3]
     ensures { result ≡ profiles_of s }
 {
     std::array::from_fn(|k| profile_at(s, k))
 }
 
 // What is drawn of a file, or where it is turned away.
-pub fn of_file(file: &[u8]) -> Result<Plot, Refusal>
+pub fn plot_of(file: &[u8]) -> Result<Plot, Refusal>
     ensures { result ≡ plot_of file.now }
 {
     let c = circuit::read(file)?;

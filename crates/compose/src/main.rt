@@ -2,5 +2,5 @@
 #![tactic(auto)]
 
 fn main() {
-    output::answer(&mut [0u8; composing::INPUT], composing::compose);
+    output::answer(&mut [0u8; composing::INPUT], composing::composed_text);
 }

@@ -82,7 +82,7 @@ fn number_word(r: Row, w: &[u8]) -> Result<Row, Fault>
     requires { 0 < r.left }
     ensures { result ≡ number_by (decimal_read w.now) r }
 {
-    let v = decimals::read(w).ok_or(Fault::NotANumber)?;
+    let v = decimals::read_decimal(w).ok_or(Fault::NotANumber)?;
     Ok(store(r, v))
 }
 
@@ -131,7 +131,7 @@ fn ended(row: Option<Row>) -> Result<Option<Row>, Fault>
 }
 
 // None is a line without a word.
-pub fn read(line: &[u8]) -> Result<Option<Row>, Fault>
+pub fn read_line(line: &[u8]) -> Result<Option<Row>, Fault>
     ensures { result ≡ row_of line.now }
 {
     let e = words::until(line, b'#');

@@ -83,7 +83,7 @@ fn with_row(draft: Option<Draft>, r: Row) -> Result<Draft, Fault>
 fn with_line(draft: Option<Draft>, line: &[u8]) -> Result<Option<Draft>, Fault>
     ensures { result ≡ with_line draft line.now }
 {
-    match compose_line::read(line)? {
+    match compose_line::read_line(line)? {
         None => Ok(draft),
         Some(r) => Ok(Some(with_row(draft, r)?)),
     }

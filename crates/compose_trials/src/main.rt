@@ -5,7 +5,7 @@
 use lines::Page;
 
 fn print(text: &[u8]) {
-    io::write_all(1, composing::compose(text).text());
+    io::write_all(1, composing::composed_text(text).text());
 }
 
 fn lines() {

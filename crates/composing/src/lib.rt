@@ -16,7 +16,7 @@ pub const ROOM: usize = 4096;
 
 // The file of the circuit that a text says, or what is wrong with the text.
 // Stays: a page of either case, for the reason in crate `circuit_turn`; here what is wrong is put by `put_wrong`.
-pub fn compose(text: &[u8]) -> Page<ROOM>
+pub fn composed_text(text: &[u8]) -> Page<ROOM>
     ensures { result ≡ composed_text text.now }
 {
     let mut page = Page::new();

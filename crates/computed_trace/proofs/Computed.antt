@@ -14,7 +14,7 @@ use Rattle.std.proofs.Math.Bool.{and-false}
 use Rattle.refusal.specs.declared.Refusal.{Refusal}
 use Rattle.figures.specs.Nearest.{times_of}
 use Rattle.trace_lines.specs.Trace.{rises, fit}
-use Rattle.computed_trace.specs.Computed.{fit_number, all_fit, khz_rows, height_rows, scaled_of, trace_by, trace_of, TraceFits}
+use Rattle.computed_trace.specs.Computed.{fit_number, all_fit, khz_rows, height_rows, fit_column_of, trace_by, trace_of, TraceFits}
 use Rattle.computed_trace.specs.declared.ComputedTrace.{ComputedTrace}
 use Rattle.std.proofs.lemmas.Bool.{and_parts}
 
@@ -51,7 +51,7 @@ module _ (k : ℕ) where
   pub scaled-by : {F : Type 0} (R : Float → ℕ → Type 0) (S : F → F → Float → Refusal → Type 0)
       → (x : List Float) (r : Result (List ℕ) Refusal)
       → IfOk r (λ y. AllZipBelow R x y 30) → IfErr r (λ e. (v : Float) × IsAmong x v × (p : F) × (q : F) × S p q v e)
-      → ((v : Float) (n : ℕ) → R v n → Ok n ≡ number_of v) → ((p q : F) (v : Float) (e : Refusal) → S p q v e → Err e ≡ number_of v) → r ≡ scaled_of k x
+      → ((v : Float) (n : ℕ) → R v n → Ok n ≡ number_of v) → ((p q : F) (v : Float) (e : Refusal) → S p q v e → Err e ≡ number_of v) → r ≡ fit_column_of k x
   scaled-by R S x (Ok y) a b f g = let p = all_taken R f x y a.whole in rw (p.0, p.1)
   scaled-by R S x (Err e) a b f g =
       let v = b.0 in

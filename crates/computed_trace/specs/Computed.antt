@@ -23,8 +23,8 @@ abbrev pub height_rows : List Float → List ℕ
 height_rows hprim = map (times_of 10) hprim
 
 -- a column's numbers, where all are fit
-abbrev pub scaled_of : ℕ → List Float → Result (List ℕ) Refusal
-scaled_of k x = cond (all_fit k x) (Ok (map (times_of k) x)) (Err Refusal.Traces)
+abbrev pub fit_column_of : ℕ → List Float → Result (List ℕ) Refusal
+fit_column_of k x = cond (all_fit k x) (Ok (map (times_of k) x)) (Err Refusal.Traces)
 
 abbrev pub trace_by : Bool → List ℕ → List ℕ → Result ComputedTrace Refusal
 trace_by true khz height = Ok (record { khz = khz; height = height })

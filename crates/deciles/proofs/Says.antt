@@ -1,5 +1,6 @@
 -- Number and value of an answer, case by case of the definition. The block that is looked up is 0 exactly where the time block is below 1.
 use Rattle.std.specs.Prelude.{Result, Ok, Err}
+use Rattle.std.specs.Result.{result_unwrap_or}
 use mathlib.Core.Bool.{Bool, true, false, cond}
 use mathlib.Core.List.{List}
 use mathlib.Core.Path.{◌≡◌, refl}
@@ -16,7 +17,7 @@ use Rattle.scalar.specs.Literals.{f0, f57_29577}
 use Rattle.scalar.proofs.Casts.{between}
 use Rattle.refusal.specs.declared.Refusal.{Refusal}
 use Rattle.refusal.specs.Number.{answer_number}
-use Rattle.deciles.specs.F2dis.{j_of, i_of, icl_of, time_block_of, icc_by, icc_of, place_of, classical_of, spread_of, f2dis_of, deviation_value, DeviationSays}
+use Rattle.deciles.specs.F2dis.{j_of, i_of, icl_of, time_block_of, icc_by, icc_of, place_of, classical_of, spread_of, f2dis_of, DeviationSays}
 
 -- is it above 6, is it below 1
 no_block : (above below : Bool) (z : ℤ) → lt_z (pos 6) z ≡ above → lt_z z (pos 1) ≡ below → eqb (icc_by above below z) 0 ≡ below
@@ -30,7 +31,7 @@ block-below : (abb : Float) → eqb (icc_of abb) 0 ≡ lt_z (time_block_of abb) 
 unfolding icc_of
 block-below abb = no_block _ _ (time_block_of abb) refl refl
 
-says-by : (whole none below : Bool) (x y : Float) → let r : Result Float Refusal = cond whole (cond none (Ok x) (cond below (Err Refusal.TimeBlock) (Ok y))) (Err Refusal.MufLists) in (answer_number r ≡ cond whole (cond none 0 (cond below 12 0)) 10) × (deviation_value r ≡ cond whole (cond none x (cond below f0 y)) f0)
+says-by : (whole none below : Bool) (x y : Float) → let r : Result Float Refusal = cond whole (cond none (Ok x) (cond below (Err Refusal.TimeBlock) (Ok y))) (Err Refusal.MufLists) in (answer_number r ≡ cond whole (cond none 0 (cond below 12 0)) 10) × (result_unwrap_or r f0 ≡ cond whole (cond none x (cond below f0 y)) f0)
 says-by true true below x y = (refl, refl)
 says-by true false true x y = (refl, refl)
 says-by true false false x y = (refl, refl)

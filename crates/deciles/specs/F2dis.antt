@@ -1,6 +1,7 @@
 -- `f2dis`: how far the F2 MUF spreads about its median, as a standard deviation. With no table (its first number at most 0) the classical value; else by time block, sunspot row, hemisphere, latitude and the half of the distribution in which `freq` lies.
 use Rattle.std.specs.Prelude.{Bool, true, false, cond, List, ◌≡◌, ℕ, zero, suc, ◌+◌, ◌*◌, ◌-◌, eqb, Result, Ok, Err, ℤ, pos, nat_abs, get_or, length, Float, Option, Some, None}
 use Rattle.std.specs.Int.Signed.{lt_z}
+use Rattle.std.specs.Result.{result_unwrap_or}
 use Rattle.std.specs.Float.{nan}
 use Rattle.scalar.specs.F32.{◌+f◌, ◌-f◌, ◌*f◌, ◌/f◌, ◌≤f◌, ◌>f◌}
 use Rattle.scalar.specs.Literals.{f0, f0_001, f0_15, f1_28, f1_28155, f1_55, f4, f9_5, f10, f50, f57_29577, f100}
@@ -83,11 +84,6 @@ f2dis_of f2d fmuf ssn clat freq abb =
     (Ok (spread_of fmuf (get_or f2d (place_of icc j iz) nan)))))
     (Err Refusal.MufLists)
 
--- the value, +0 beside a refusal
-abbrev pub deviation_value : Result Float Refusal → Float
-deviation_value (Ok x) = x
-deviation_value (Err r) = f0
-
 -- by these an answer says, its tests in order: 10, and +0, where the list has not 576 numbers; 0, and the classical value, with no table; 12, and +0, where the time block is below 1; else 0, and the spread of the decile that is looked up
 unfoldable pub DeviationSays : Result Float Refusal → List Float → Float → Float → Float → Float → Float → Type 0
 DeviationSays r f2d fmuf ssn clat freq abb =
@@ -97,4 +93,4 @@ DeviationSays r f2d fmuf ssn clat freq abb =
     let none = get_or f2d 0 nan ≤f f0 in
     let below = lt_z (time_block_of abb) (pos 1) in
     (answer_number r ≡ cond whole (cond none 0 (cond below 12 0)) 10)
-    × (deviation_value r ≡ cond whole (cond none (classical_of fmuf) (cond below f0 (spread_of fmuf decile))) f0)
+    × (result_unwrap_or r f0 ≡ cond whole (cond none (classical_of fmuf) (cond below f0 (spread_of fmuf decile))) f0)

@@ -7,7 +7,7 @@ use Rattle.lines.specs.Text.{decimal_of}
 use Rattle.figures.specs.Nearest.{nearest}
 use Rattle.aligned.specs.Ascii.{ascii}
 use Rattle.aligned.specs.Aligned.{right}
-use Rattle.decimal_text.specs.declared.Kind.{Kind}
+use Rattle.decimal_text.specs.declared.NumberKind.{NumberKind}
 
 -- n units of the last of so many places: the whole part, the point, and n's last digits, zeros in front too
 unfoldable pub placed_text : ℕ → ℕ → List ℕ
@@ -34,15 +34,15 @@ abbrev pub NumberWidth : Type 0
 NumberWidth = (width places : ℕ) (v : Float) → length (number_text width places v) ≡ width
 
 -- what a number is, beside its size
-abbrev pub finite_kind : Bool → Kind
-finite_kind false = Kind.Plus
-finite_kind true = Kind.Minus
+abbrev pub finite_kind : Bool → NumberKind
+finite_kind false = NumberKind.Plus
+finite_kind true = NumberKind.Minus
 
-abbrev pub infinite_kind : Bool → Kind
-infinite_kind false = Kind.Infinity
-infinite_kind true = Kind.MinusInfinity
+abbrev pub infinite_kind : Bool → NumberKind
+infinite_kind false = NumberKind.Infinity
+infinite_kind true = NumberKind.MinusInfinity
 
-unfoldable pub number_kind_of : Float → Kind
-number_kind_of nan = Kind.NotANumber
+unfoldable pub number_kind_of : Float → NumberKind
+number_kind_of nan = NumberKind.NotANumber
 number_kind_of (inf s) = infinite_kind s
 number_kind_of (fin s m e) = finite_kind s

@@ -12,7 +12,7 @@ use lines::Page;
 
 // What a number is, beside its size.
 #[derive(Clone, Copy, Debug, PartialEq, Eq)]
-pub enum Kind {
+pub enum NumberKind {
     NotANumber,
     Infinity,
     MinusInfinity,
@@ -61,22 +61,22 @@ fn put_placed<const N: usize>(page: &mut Page<N>, places: usize, n: u64)
     put_digits(page, places, n);
 }
 
-fn kind_of(v: f32) -> Kind
+fn kind_of(v: f32) -> NumberKind
     ensures { result ≡ number_kind_of v }
 {
     if v.is_nan() {
-        return Kind::NotANumber;
+        return NumberKind::NotANumber;
     }
     if v.is_infinite() {
         if v.is_sign_negative() {
-            return Kind::MinusInfinity;
+            return NumberKind::MinusInfinity;
         }
-        return Kind::Infinity;
+        return NumberKind::Infinity;
     }
     if v.is_sign_negative() {
-        return Kind::Minus;
+        return NumberKind::Minus;
     }
-    Kind::Plus
+    NumberKind::Plus
 }
 
 // n units after their sign, if they have one, at the right of so many characters.
@@ -114,11 +114,11 @@ pub fn put_number<const N: usize>(page: &mut Page<N>, width: usize, places: usiz
 {
     let n = figures::times(v, ten_power(places));
     match kind_of(v) {
-        Kind::NotANumber => aligned::put_right(page, width, b"NaN"),
-        Kind::Infinity => aligned::put_right(page, width, b"inf"),
-        Kind::MinusInfinity => aligned::put_right(page, width, b"-inf"),
-        Kind::Plus => put_units(page, width, b"", places, n),
-        Kind::Minus if n == 0 => put_units(page, width, b"", places, n),
-        Kind::Minus => put_units(page, width, b"-", places, n),
+        NumberKind::NotANumber => aligned::put_right(page, width, b"NaN"),
+        NumberKind::Infinity => aligned::put_right(page, width, b"inf"),
+        NumberKind::MinusInfinity => aligned::put_right(page, width, b"-inf"),
+        NumberKind::Plus => put_units(page, width, b"", places, n),
+        NumberKind::Minus if n == 0 => put_units(page, width, b"", places, n),
+        NumberKind::Minus => put_units(page, width, b"-", places, n),
     }
 }

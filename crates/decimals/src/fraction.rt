@@ -37,7 +37,7 @@ fn sign(minus: bool) -> u32
 // The bits of the f32 nearest to n / 10^places, a half to the even one; a zero has its sign too.
 // Stays: `places` up to 9 is asked of one caller, which has counted them; a type for such a number would ask the same where it is
 // made, and be no plainer.
-pub fn nearest(minus: bool, n: u32, places: u32) -> u32
+pub fn nearest_bits(minus: bool, n: u32, places: u32) -> u32
     requires { places ≤ 9 }
     ensures { result ≡ to_bits binary32 (round binary32 minus n (10 ^ places)) }
 {

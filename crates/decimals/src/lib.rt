@@ -9,7 +9,7 @@ ghost use Rattle.std.specs.Prelude.{◌≡◌, true, ◌&&◌, leb, ◌+◌, ◌
 ghost use Rattle.std.specs.List.{list_all};
 ghost use Rattle.decimals.specs.Decimal.{is_digit, all_digits, value_from, fine_of, parts_of, unsigned_of, starts_with_minus, sign_length, decimal_read};
 
-pub use fraction::nearest;
+pub use fraction::nearest_bits;
 
 fn digits(t: &[u8]) -> bool
     ensures { result ≡ list_all is_digit t.now }
@@ -49,7 +49,7 @@ fn parts(minus: bool, whole: &[u8], rest: &[u8]) -> Option<u32>
         return None;
     }
     let v = value(rest, value(whole, 0));
-    Some(nearest(minus, v, rest.len() as u32))
+    Some(nearest_bits(minus, v, rest.len() as u32))
 }
 
 fn unsigned(minus: bool, u: &[u8]) -> Option<u32>
@@ -61,7 +61,7 @@ fn unsigned(minus: bool, u: &[u8]) -> Option<u32>
 }
 
 // The bits of the f32 nearest to the decimal that a word is; none where it is not a decimal of one to nine digits.
-pub fn read(word: &[u8]) -> Option<u32>
+pub fn read_decimal(word: &[u8]) -> Option<u32>
     ensures { result ≡ decimal_read word.now }
 {
     match word {

@@ -10,7 +10,7 @@ use refusal::Refusal;
 
 // deciles 576; numbers: fmuf, ssn, clat, freq, abb; out: the deviation
 #[tactic(auto, unfolding(crate::specs::F2disWords::f2dis_left))]
-pub fn f2dis(deciles: &[f32], numbers: &[u32], out: &mut [u32]) -> Result<(), Refusal>
+pub fn f2dis_into(deciles: &[f32], numbers: &[u32], out: &mut [u32]) -> Result<(), Refusal>
     ensures { (answer_number result ≡ (f2dis_left deciles.now numbers.now out.old).number) × (out.new ≡ (f2dis_left deciles.now numbers.now out.old).words) }
 {
     if numbers.len() < 5 || out.is_empty() {

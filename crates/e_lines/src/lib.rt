@@ -74,10 +74,10 @@ pub fn zero_line() -> LayerMuf
 
 // Off the profile, or fixed: those of a parabola that peaks at 110 km and is 20 km in
 // semi-thickness.
-fn e_heights(t: IonoState, fxe: f32) -> HeightPair
-    ensures { result ≡ e_heights_with gethp_of t fxe }
+fn e_heights(t: &IonoState, fxe: f32) -> HeightPair
+    ensures { result ≡ e_heights_with gethp_of t.now fxe }
 {
-    if layers::profile_only(t) {
+    if layers::profile_only(*t) {
         return HeightPair::from(heights::gethp(t, fxe));
     }
     HeightPair {
@@ -97,9 +97,9 @@ fn e_found(g: HopGeometry, h: HeightPair, fxe: f32) -> LayerMuf
 
 // Stays: gcdkm and amind are the Rust's, as `hops` takes them; the circuit's four numbers are put together
 // in `layer_mufs`, which stands on this crate.
-pub fn e_line(t: IonoState, fxe: f32, gcdkm: f32, amind: f32) -> Result<LayerMuf, Refusal>
-    ensures value { result ≡ e_line_of t fxe gcdkm amind }
-    ensures e_says { ESays result t fxe gcdkm amind }
+pub fn e_line(t: &IonoState, fxe: f32, gcdkm: f32, amind: f32) -> Result<LayerMuf, Refusal>
+    ensures value { result ≡ e_line_of t.now fxe gcdkm amind }
+    ensures e_says { ESays result t.now fxe gcdkm amind }
 {
     let h = e_heights(t, fxe);
     let g = hops::hop_geometry(gcdkm, amind, h.hp, h.ht, true)?;

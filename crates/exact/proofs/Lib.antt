@@ -1,2 +1,3 @@
--- Laws of enclosures.
+-- Laws of the unit in the last place and of enclosures.
+pub mod Unit
 pub mod Enclosure

@@ -1,4 +1,5 @@
--- `asin_of x` is less than one unit in the last place from the arc sine of x, for every f32.
+-- `asin_of x` is less than one unit in the last place from the arc sine of x, for every f32; to the side of 0 the unit is that just below the result.
+-- From 2 ^ -12 on the tangents at the two ends of the rounded angle show it, below that x³ / 6 is a small part of a unit, and at 1 the ends lie on either side of half pi.
 use mathlib.Core.Path.{◌≡◌, refl, sym, ap, ◌∙◌, subst, subst₂}
 use mathlib.Core.Logic.{◌⊎◌, inl, inr}
 use mathlib.Core.Bool.{Bool, true, false, cond}
@@ -6,9 +7,8 @@ use Prim.Native.Nat.{ℕ, zero, suc, ◌+◌, ◌-◌, ◌*◌, ◌/◌, ◌%◌
 use native.Mathlib.Nat.{le_trans, le_of_eq, le_of_lt, le_refl, lt_of_le_of_lt, lt_of_not-le, not-le_of_lt, mul_assoc, mul_comm, mul_right_comm, mul-one, mul-le-mul, mul-le-mul_left, mul-le-mul_right, le_of_mul-le-mul_right, eq_of_mul-eq-mul_right, add-le-add}
 use native.Mathlib.Omega.{arith}
 use lib.Dec.{leb, eqb, lit<, lit≤}
-use lib.Pow.{pow_pos, pow_mono}
+use lib.Pow.{pow_pos}
 use lib.Ieee.{Float, nan, inf, fin, binary32, up, down, size, of_bits, to_bits}
-use lib.Ieee.Digits.{size-le}
 use lib.Ieee.Fits.{down_pos}
 use lib.Ieee.Bits.{of_bits-to_bits, to_bits-lt}
 use lib.Ieee.Exact.{HasValue}
@@ -24,9 +24,11 @@ use Rattle.fixed.proofs.Sizes.{finite-value, size-lt}
 use Rattle.scalar.specs.Root.{steps}
 use Rattle.exact_arcs.specs.Asin.{NearAsin, AsinNear}
 use Rattle.scalar.proofs.Patterns.{steps-is}
+use Rattle.exact.proofs.Unit.{below_ulps}
+use Rattle.exact_arcs.proofs.Below.{Below, below, small_unit, small_below, small_room}
 use Rattle.arcs.specs.Asin.{sixth_of, arc_of, asin_mag, asin_bits, asin_of}
 use Rattle.arcs.proofs.Cosine.{Cosine}
-use Rattle.arcs.proofs.Angle.{Sizes, sizes, v, low-is, high_is}
+use Rattle.arcs.proofs.Angle.{Sizes, sizes, v, high_is}
 use Rattle.arcs.proofs.AsinBits.{mag-fits, small-bits, mid-bits, one-bits, outside-bits}
 use Rattle.arc_bounds.proofs.Ends.{small-cos, small-sine-le, small-sine-ge, half-plus, half-minus, half-sine}
 use Rattle.arc_bounds.proofs.Fine.{fine, enc}
@@ -38,8 +40,8 @@ use Rattle.arc_bounds.proofs.SineRoom.{cos-low, sine-low, either-high}
 pub record Within (n c v : ℕ) : Type 0 where
   pub top : n ≤ c
   pub two : 16 * v + 15 * 2 ^ (size v - 24) ≤ 2 * (16 * 2 ^ 149)
-  pub plus : CosineNotNegative (16 * v - 15 * 2 ^ (size v - 24)) (16 * 2 ^ 149)
-  pub low : SineAtMost (16 * v - 15 * 2 ^ (size v - 24)) (16 * 2 ^ 149) n c
+  pub plus : CosineNotNegative (16 * v - 15 * 2 ^ (size (v - 1) - 24)) (16 * 2 ^ 149)
+  pub low : SineAtMost (16 * v - 15 * 2 ^ (size (v - 1) - 24)) (16 * 2 ^ 149) n c
   pub high : SineAtLeast (16 * v + 15 * 2 ^ (size v - 24)) (16 * 2 ^ 149) n c ⊎ CosineNotPositive (16 * v + 15 * 2 ^ (size v - 24)) (16 * 2 ^ 149)
 
 -- of x only its value counts
@@ -61,7 +63,7 @@ same n c n' c' v P e W =
       top = le_of_mul-le-mul_right {k = c} (le_trans (le_of_eq e) (le_trans (mul-le-mul_right c' W.top) (le_of_eq (mul_comm c c')))) P;
       two = W.two;
       plus = W.plus;
-      low = le_same (16 * v - 15 * 2 ^ (size v - 24)) (16 * 2 ^ 149) n c n' c' P e W.low;
+      low = le_same (16 * v - 15 * 2 ^ (size (v - 1) - 24)) (16 * 2 ^ 149) n c n' c' P e W.low;
       high = go W.high;
     }
   where
@@ -82,8 +84,8 @@ near-at s z n c k v C K e f W (fin a m i) (fin b l j) h g =
       h.0 ∙ sym g.0,
       W'.top,
       subst (λ (y : ℕ). 16 * y + 15 * 2 ^ (size y - 24) ≤ 2 * (16 * 2 ^ 149)) st W'.two,
-      subst (λ (y : ℕ). CosineNotNegative (16 * y - 15 * 2 ^ (size y - 24)) (16 * 2 ^ 149)) st W'.plus,
-      subst (λ (y : ℕ). SineAtMost (16 * y - 15 * 2 ^ (size y - 24)) (16 * 2 ^ 149) (m * up i) (down i)) st W'.low,
+      subst (λ (y : ℕ). CosineNotNegative (16 * y - 15 * 2 ^ (size (y - 1) - 24)) (16 * 2 ^ 149)) st W'.plus,
+      subst (λ (y : ℕ). SineAtMost (16 * y - 15 * 2 ^ (size (y - 1) - 24)) (16 * 2 ^ 149) (m * up i) (down i)) st W'.low,
       subst (λ (y : ℕ). SineAtLeast (16 * y + 15 * 2 ^ (size y - 24)) (16 * 2 ^ 149) (m * up i) (down i) ⊎ CosineNotPositive (16 * y + 15 * 2 ^ (size y - 24)) (16 * 2 ^ 149)) st W'.high,
     )
 
@@ -117,8 +119,15 @@ module _ (X r A s : ℕ) (T : Turned X r A s) (C : Cosine X r) (X-lt : X < 2 ^ 3
       go : (r : ℕ) → 1 ≤ r → 8 * r - 8 + 8 ≡ 8 * r
       go r h = omega arith
 
+  -- the sizes of the lower end
+  L : Below S
+  L = below S (go (sixth_of s) T.large) fits
+    where
+      go : (j : ℕ) → 2 ^ 43 ≤ A + s → 2 ^ 34 ≤ A + (s + j)
+      go j h = omega arith
+
   y₁ : ℕ
-  y₁ = 64 * (mant S * O) - 60 * u
+  y₁ = 64 * L.p - 60 * L.v
 
   y₂ : ℕ
   y₂ = 64 * (mant S * O) + 60 * u
@@ -127,30 +136,30 @@ module _ (X r A s : ℕ) (T : Turned X r A s) (C : Cosine X r) (X-lt : X < 2 ^ 3
   unfolding y₂
   y₂-most = end-2 X r A s (mant S * O) O u T Z
 
+  least : (p v : ℕ) → Sizes S p O v → 2 ^ 42 ≤ 64 * p - 60 * v
+  least p v Z = go (sixth_of s) Z.s-under T.large
+    where
+      go : (j : ℕ) → A + (s + j) ≤ 64 * p + 32 * O → 2 ^ 43 ≤ A + s → 2 ^ 42 ≤ 64 * p - 60 * v
+      go j a e = omega (arith, a, e, Z.p-least, Z.v-o)
+
+  less : (a b : ℕ) → a - b ≤ a + b
+  less a b = omega arith
+
   y₁-least : 2 ^ 42 ≤ y₁
   unfolding y₁
-  y₁-least = go (sixth_of s) (mant S * O) O u Z.s-under Z.p-least Z.v-o T.large
-    where
-      go : (j p o u : ℕ) → A + (s + j) ≤ 64 * p + 32 * o → 2 ^ 23 * o ≤ p → u ≤ 2 * o → 2 ^ 43 ≤ A + s → 2 ^ 42 ≤ 64 * p - 60 * u
-      go j p o u a b c e = omega (arith, a, b, c, e)
+  y₁-least = least L.p L.v L.sizes
 
   y₁-most : y₁ ≤ 2 ^ 57
-  unfolding y₁ y₂
-  y₁-most = le_trans (go (64 * (mant S * O)) (60 * u)) y₂-most
-    where
-      go : (a b : ℕ) → a - b ≤ a + b
-      go a b = omega arith
+  unfolding y₁
+  y₁-most = le_trans (less (64 * L.p) (60 * L.v)) (end-2 X r A s L.p O L.v T L.sizes)
 
   y₂-least : 2 ^ 42 ≤ y₂
-  unfolding y₁ y₂
-  y₂-least = le_trans y₁-least (go (64 * (mant S * O)) (60 * u))
-    where
-      go : (a b : ℕ) → a - b ≤ a + b
-      go a b = omega arith
+  unfolding y₂
+  y₂-least = le_trans (least (mant S * O) u Z) (less (64 * (mant S * O)) (60 * u))
 
   tan-low : SinLe y₁ (2 ^ 56) X (8 * r + 16)
   unfolding y₁
-  tan-low = lower X r A s (mant S * O) O u T Z C
+  tan-low = lower X r A s L.p O L.v T L.sizes C
 
   tan-high : SinGe y₂ (2 ^ 56) X (8 * r - 8)
   unfolding y₂
@@ -182,8 +191,8 @@ module _ (X r A s : ℕ) (T : Turned X r A s) (C : Cosine X r) (X-lt : X < 2 ^ 3
       record {
         top = le_of_lt X-lt;
         two = subst (λ (y : ℕ). y ≤ 2 * (16 * 2 ^ 149)) (high_is S big fits) (mul-le-mul_right (2 ^ 97) y₂-most);
-        plus = subst (λ (y : ℕ). CosineNotNegative y (16 * 2 ^ 149)) (low-is S big fits) plus-at;
-        low = subst (λ (y : ℕ). SineAtMost y (16 * 2 ^ 149) X (2 ^ 35)) (low-is S big fits) low-at;
+        plus = subst (λ (y : ℕ). CosineNotNegative y (16 * 2 ^ 149)) L.is plus-at;
+        low = subst (λ (y : ℕ). SineAtMost y (16 * 2 ^ 149) X (2 ^ 35)) L.is low-at;
         high = subst (λ (y : ℕ). SineAtLeast y (16 * 2 ^ 149) X (2 ^ 35) ⊎ CosineNotPositive y (16 * 2 ^ 149)) (high_is S big fits) high-at;
       }
 
@@ -217,21 +226,17 @@ near-one b e =
 -- ---- below 2 ^ -12
 small-within : (w : ℕ) → w ≤ 2 ^ 137 → Within (16 * w) (16 * 2 ^ 149) w
 small-within w h =
-    let t : w ≤ 2 ^ 149 = le_trans h (lit≤ tt) in
     let u = 2 ^ (size w - 24) in
-    let U : u ≤ 2 ^ 114 = pow_mono {i = size w - 24} {j = 114} (go (size w) (size-le w 138 (lt_of_le_of_lt h (lit< tt)))) in
-    let sv = le_trans (mul-le-mul_right (2 ^ 16) h) (lit≤ tt) in
-    let su = le_trans (mul-le-mul_right (2 ^ 16) U) (lit≤ tt) in
+    let d = 2 ^ (size (w - 1) - 24) in
+    let sv = small_room h in
+    let sd = small_room (small_below w h) in
     record {
-      top = mul-le-mul_left 16 t;
-      two = le_trans (add-le-add (mul-le-mul_left 16 h) (mul-le-mul_left 15 U)) (lit≤ tt);
-      plus = small-cos (16 * 2 ^ 149) w u (pow_pos 153) sv su (ulps w) (pow_pos (size w - 24));
-      low = small-sine-le (16 * 2 ^ 149) w u (pow_pos 153) sv su (ulps w) (pow_pos (size w - 24));
-      high = inl (small-sine-ge (16 * 2 ^ 149) w u (pow_pos 153) sv su (ulps w) (pow_pos (size w - 24)));
+      top = le_trans (mul-le-mul_left 16 h) (lit≤ tt);
+      two = le_trans (add-le-add (mul-le-mul_left 16 h) (mul-le-mul_left 15 (small_unit w h))) (lit≤ tt);
+      plus = small-cos (16 * 2 ^ 149) w d (pow_pos 153) sv sd (below_ulps w) (pow_pos (size (w - 1) - 24));
+      low = small-sine-le (16 * 2 ^ 149) w d (pow_pos 153) sv sd (below_ulps w) (pow_pos (size (w - 1) - 24));
+      high = inl (small-sine-ge (16 * 2 ^ 149) w u (pow_pos 153) sv (small_room (small_unit w h)) (ulps w) (pow_pos (size w - 24)));
     }
-  where
-    go : (z : ℕ) → z ≤ 138 → z - 24 ≤ 114
-    go z k = omega arith
 
 sixteenth : (n c : ℕ) → n * (16 * c) ≡ 16 * n * c
 sixteenth n c = omega arith

@@ -1,35 +1,37 @@
--- `atan_of x` is less than one unit of its last place from the arc tangent of x, for every f32.
+-- `atan_of x` is less than one unit in the last place from the arc tangent of x, for every f32; to the side of 0 the unit is that just below the result.
+-- From 2 ^ -12 on the tangents at the two ends of the rounded angle show it, below that x³ / 3 is a part of a unit, and from 2 ^ 26 on the ends lie on either side of half pi.
 use mathlib.Core.Path.{◌≡◌, refl, sym, ap, ◌∙◌, subst, subst₂}
 use mathlib.Core.Bool.{Bool}
 use Prim.Native.Nat.{ℕ, ◌+◌, ◌-◌, ◌*◌, ◌/◌, ◌%◌, ◌^◌, ◌≤◌, ◌<◌}
-use native.Mathlib.Nat.{le_trans, le_of_lt, mul_assoc, mul_right_comm, mul-le-mul, mul-le-mul_left, mul-le-mul_right, eq_of_mul-eq-mul_right, mul-one, mul-pos, add-le-add, lt_of_le_of_lt}
+use native.Mathlib.Nat.{le_trans, le_of_lt, mul_assoc, mul_right_comm, mul-le-mul, mul-le-mul_left, eq_of_mul-eq-mul_right, mul-one, mul-pos, add-le-add}
 use native.Mathlib.Omega.{arith}
 use lib.Dec.{leb, lit<, lit≤}
 use lib.Pow.{pow_pos, pow_mono}
 use lib.Ieee.{Float, nan, inf, fin, binary32, up, down, size, of_bits, to_bits}
-use lib.Ieee.Digits.{size-le}
 use lib.Ieee.Bits.{of_bits-to_bits, to_bits-lt}
 use lib.Ieee.Exact.{HasValue}
 use Rattle.fixed.specs.Fixed.{mant, pattern, digits}
-use Rattle.arcs.specs.Atan.{angle_of, atan_bits, atan_of}
+use Rattle.arcs.specs.Atan.{cube_of, angle_of, atan_bits, atan_of}
 use Rattle.scalar.specs.Root.{steps}
 use Rattle.series.specs.Series.{Later, SinLe, SinGe, num, class}
 use Rattle.exact_arcs.specs.Atan.{NearAtan, AtanNear}
-use Rattle.fixed.proofs.Round.{place, pattern_lt}
+use Rattle.fixed.proofs.Round.{grain, place, pattern_lt}
 use Rattle.scalar.proofs.Nan.{nan_pattern}
 use Rattle.cases.proofs.Cases.{split}
 use Rattle.fixed.proofs.Values.{value, is-inf, v-small, ulps, packed-value, normal-value, sign-plus}
 use Rattle.scalar.proofs.Patterns.{steps-is}
-use Rattle.series.proofs.Bounds.{le_same, ge-same}
-use Rattle.arcs.proofs.Angle.{angle-le, angle-ge, angle-2}
+use Rattle.exact.proofs.Unit.{below_ulps}
+use Rattle.series.proofs.Bounds.{le-scaled, le_same, ge-same}
+use Rattle.arcs.proofs.Angle.{Reduced, cube-small, end-le, angle-ge, angle-2}
 use Rattle.arcs.proofs.Reduce.{case}
 use Rattle.arcs.proofs.AtanBits.{small-bits, mid-bits, big-bits, nan-bits, angle-big}
+use Rattle.exact_arcs.proofs.Below.{below, small_unit, small_below, small_room}
 use Rattle.arc_bounds.proofs.Ends.{small-le, small-ge, half_le, half-ge, nearest-plus, nearest-minus}
 
 -- ---- what is asked of the value v of r, in units of 2 ^ -149, where x = n / c
 pub record Within (n c v : ℕ) : Type 0 where
   pub two : 16 * v + 15 * 2 ^ (size v - 24) ≤ 2 * (16 * 2 ^ 149)
-  pub low : SinLe (16 * v - 15 * 2 ^ (size v - 24)) (16 * 2 ^ 149) n c
+  pub low : SinLe (16 * v - 15 * 2 ^ (size (v - 1) - 24)) (16 * 2 ^ 149) n c
   pub high : SinGe (16 * v + 15 * 2 ^ (size v - 24)) (16 * 2 ^ 149) n c
 
 -- from values to nearness: z is |x| in units of 2 ^ -149, and z = n * k, 2 ^ 149 = c * k
@@ -43,9 +45,19 @@ near-at s z n c k v C K e f W (fin a m i) (fin b l j) h g =
     let x : m * up i * c ≡ n * down i = eq_of_mul-eq-mul_right k K (m * up i * c) (n * down i) (mul_assoc (m * up i) c k ∙ ap (λ (y : ℕ). m * up i * y) e ∙ h.1 ∙ ap (λ (y : ℕ). y * down i) f ∙ mul_right_comm n k (down i)) in (
       h.0 ∙ sym g.0,
       subst (λ (y : ℕ). 16 * y + 15 * 2 ^ (size y - 24) ≤ 2 * (16 * 2 ^ 149)) st W.two,
-      subst (λ (y : ℕ). SinLe (16 * y - 15 * 2 ^ (size y - 24)) (16 * 2 ^ 149) (m * up i) (down i)) st (le_same (16 * v - 15 * 2 ^ (size v - 24)) (16 * 2 ^ 149) n c (m * up i) (down i) C x W.low),
+      subst (λ (y : ℕ). SinLe (16 * y - 15 * 2 ^ (size (y - 1) - 24)) (16 * 2 ^ 149) (m * up i) (down i)) st (le_same (16 * v - 15 * 2 ^ (size (v - 1) - 24)) (16 * 2 ^ 149) n c (m * up i) (down i) C x W.low),
       subst (λ (y : ℕ). SinGe (16 * y + 15 * 2 ^ (size y - 24)) (16 * 2 ^ 149) (m * up i) (down i)) st (ge-same (16 * v + 15 * 2 ^ (size v - 24)) (16 * 2 ^ 149) n c (m * up i) (down i) C x W.high),
     )
+
+-- the lower end of a rounded angle
+lower : (n c A q : ℕ) → Reduced n c A q → angle_of A q < 2 ^ 64 → let s = angle_of A q in SinLe (16 * (mant s * place s) - 15 * 2 ^ (size (mant s * place s - 1) - 24)) (16 * 2 ^ 149) n c
+lower n c A q X fits =
+    let s = angle_of A q in
+    let L = below s (go (cube_of q) (cube-small q (omega (arith, X.most))) X.large) fits in
+    subst (λ (y : ℕ). SinLe y (16 * 2 ^ 149) n c) L.is (le-scaled (64 * L.p - 60 * L.v) (2 ^ 56) n c (2 ^ 97) (end-le n c A q L.p (grain s) L.v X L.sizes))
+  where
+    go : (j : ℕ) → 4 * j ≤ q → 2 ^ 43 ≤ A + q → 2 ^ 34 ≤ A + (q - j)
+    go j h l = omega arith
 
 near-mid : (b : ℕ) → 0x3980_0000 ≤ b % 2 ^ 31 → b % 2 ^ 31 < 0x4c80_0000 → NearAtan (of_bits binary32 b) (of_bits binary32 (atan_bits b))
 near-mid b l h =
@@ -54,7 +66,7 @@ near-mid b l h =
     let s = angle_of C.A C.q in
     let w = angle-big C.n C.c C.A C.q C.red in
     near-at (leb (2 ^ 31) b) (digits a * 2 ^ (a / 2 ^ 23 - 1)) C.n C.c C.k (mant s * place s) C.c_pos C.k-pos C.unit C.value
-    (record { two = angle-2 C.n C.c C.A C.q C.red w.0 w.1; low = angle-le C.n C.c C.A C.q C.red w.0 w.1; high = angle-ge C.n C.c C.A C.q C.red w.0 w.1 })
+    (record { two = angle-2 C.n C.c C.A C.q C.red w.0 w.1; low = lower C.n C.c C.A C.q C.red w.1; high = angle-ge C.n C.c C.A C.q C.red w.0 w.1 })
     (of_bits binary32 b) (of_bits binary32 (atan_bits b)) (normal-value b (le_trans (lit≤ tt) l) (omega arith))
     (subst (λ (g : Bool). HasValue (of_bits binary32 (atan_bits b)) g (mant s * place s) (2 ^ 149)) (sign-plus b (pattern s) (pattern_lt s w.0 w.1))
     (packed-value (atan_bits b) s (b / 2 ^ 31) (mid-bits b l h ∙ ap (λ (y : ℕ). b / 2 ^ 31 * 2 ^ 31 + pattern y) C.is) w.0 w.1))
@@ -96,23 +108,18 @@ near-inf s (fin b l j) g =
 -- ---- below 2 ^ -12
 small-within : (v : ℕ) → v ≤ 2 ^ 137 → Within (16 * v) (16 * 2 ^ 149) v
 small-within v h =
-    let u = 2 ^ (size v - 24) in
-    let U : u ≤ 2 ^ 114 = pow_mono {i = size v - 24} {j = 114} (go (size v) (size-le v 138 (lt_of_le_of_lt h (lit< tt)))) in
     record {
-      two = le_trans (add-le-add (mul-le-mul_left 16 h) (mul-le-mul_left 15 U)) (lit≤ tt);
-      low = small-le (16 * 2 ^ 149) v u (pow_pos 153) (le_trans (mul-le-mul_right (2 ^ 16) h) (lit≤ tt)) (le_trans (mul-le-mul_right (2 ^ 16) U) (lit≤ tt)) (ulps v) (pow_pos (size v - 24));
-      high = small-ge (16 * 2 ^ 149) v u (pow_pos 153) (le_trans (mul-le-mul_right (2 ^ 16) h) (lit≤ tt)) (le_trans (mul-le-mul_right (2 ^ 16) U) (lit≤ tt)) (ulps v) (pow_pos (size v - 24));
+      two = le_trans (add-le-add (mul-le-mul_left 16 h) (mul-le-mul_left 15 (small_unit v h))) (lit≤ tt);
+      low = small-le (16 * 2 ^ 149) v (2 ^ (size (v - 1) - 24)) (pow_pos 153) (small_room h) (small_room (small_below v h)) (below_ulps v) (pow_pos (size (v - 1) - 24));
+      high = small-ge (16 * 2 ^ 149) v (2 ^ (size v - 24)) (pow_pos 153) (small_room h) (small_room (small_unit v h)) (ulps v) (pow_pos (size v - 24));
     }
-  where
-    go : (z : ℕ) → z ≤ 138 → z - 24 ≤ 114
-    go z k = omega arith
 
 -- the same statement with x = v / 2 ^ 149
 halved : (n c v : ℕ) → 0 < c → Within (16 * n) (16 * c) v → Within n c v
 halved n c v C W =
     record {
       two = W.two;
-      low = le_same (16 * v - 15 * 2 ^ (size v - 24)) (16 * 2 ^ 149) (16 * n) (16 * c) n c (mul-pos (lit< tt) C) (go n c) W.low;
+      low = le_same (16 * v - 15 * 2 ^ (size (v - 1) - 24)) (16 * 2 ^ 149) (16 * n) (16 * c) n c (mul-pos (lit< tt) C) (go n c) W.low;
       high = ge-same (16 * v + 15 * 2 ^ (size v - 24)) (16 * 2 ^ 149) (16 * n) (16 * c) n c (mul-pos (lit< tt) C) (go n c) W.high;
     }
   where

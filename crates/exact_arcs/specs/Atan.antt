@@ -1,4 +1,4 @@
--- What it is for an f32 r to be less than one unit in the last place from the arc tangent of x, and that `atan_of x` is. The arc tangent is spoken of as an inverse, by the partial sums of sine and cosine; that it is one number is `TangentPins` of `series`.
+-- What it is for an f32 r to be less than one unit in the last place from the arc tangent of x (to the side of 0 the unit just below r, away from 0 its own), and that `atan_of x` is. The arc tangent is spoken of as an inverse, by the partial sums of sine and cosine; that it is one number is `TangentPins` of `series`.
 use Rattle.std.specs.Prelude.{◌+◌, ◌-◌, ◌*◌, ◌≤◌, ◌≡◌, T, Float}
 use Rattle.std.specs.Float.{nan, inf, fin, binary32}
 use Rattle.std.specs.Float.Ieee.{up, down, fits}

@@ -1,4 +1,4 @@
--- The terms of the power series fall below every fraction (`small` of `series`), so from some number of terms on a partial sum and the same with its last term once more are both less than one unit in the last place from `exp_of x`.
+-- The terms of the power series fall below every fraction (`small` of `series`), so from some number of terms on a partial sum and the same with its last term once more are both less than one unit in the last place from `exp_of x`, below it of the unit there.
 use mathlib.Core.Path.{◌≡◌, sym, ap, subst, subst₂}
 use mathlib.Core.Bool.{true, false}
 use Prim.Native.Nat.{ℕ, zero, suc, ◌+◌, ◌-◌, ◌*◌, ◌^◌, ◌≤◌, ◌<◌}
@@ -7,14 +7,15 @@ use native.Mathlib.Omega.{arith}
 use lib.Pow.{pow_pos}
 use lib.Ieee.{Float, nan, inf, fin, up, down, size}
 use lib.Ieee.Fits.{down_pos}
-use Rattle.series.specs.Series.{full, num, one, Close}
+use Rattle.series.specs.Series.{full, num, one, Later}
 use Rattle.series.proofs.Addition.{full-pos, exp-over}
 use Rattle.series.proofs.Weighted.{grows, above}
 use Rattle.series.proofs.Falling.{small}
 use Rattle.cases.proofs.Cases.{split}
 use Rattle.exponential.specs.Exp.{exp_of}
 use Rattle.scalar.specs.Root.{steps}
-use Rattle.exact.specs.Unit.{ulp}
+use Rattle.exact.specs.Unit.{ulp, ulp_below}
+use Rattle.exact.specs.Between.{Between}
 use Rattle.exact_exponential.specs.Exp.{NearExp}
 use Rattle.exact_exponential.specs.Enclosure.{NearerThan, upper_sum, Inside, Enclosed, EnclosedBelow, EnclosedExp, ExpEnclosed, ExpOneNumber, ExpRises, ExpPins}
 use Rattle.series.proofs.Terms.{full-1}
@@ -94,14 +95,11 @@ exp-pins n m d a b D B l g = split m n (λ h. let o = le_dest h in absurd (never
             less x y h p = omega arith
 
 -- ---- from 15/16 of a unit to less than one
-module _ (v u a b : ℕ) (U : 0 < u) (B : 0 < b) (c : Close (16 * 2 ^ 149) (16 * v) 0 (15 * u) a 0 b) where
-  unit-pos : 0 < u * b
-  unit-pos = mul-pos U B
-
-  within : NearerThan v u a b
-  within = record { low = low (2 ^ 149 * a) (v * b) (u * b) unit-pos (first (2 ^ 149) c.low); high = high (2 ^ 149 * a) (v * b) (u * b) unit-pos (second (2 ^ 149) c.high) (add-mul v u b) }
+module _ (v l u a b : ℕ) (L : 0 < l) (U : 0 < u) (B : 0 < b) (c : Between (16 * 2 ^ 149) (16 * v) 0 (15 * l) (15 * u) a 0 b) where
+  within : NearerThan v l u a b
+  within = record { low = low (2 ^ 149 * a) (v * b) (l * b) (mul-pos L B) (first (2 ^ 149) c.low); high = high (2 ^ 149 * a) (v * b) (u * b) (mul-pos U B) (second (2 ^ 149) c.high) (add-mul v u b) }
     where
-      first : (P : ℕ) → 16 * v * b + 16 * P * 0 ≤ 16 * P * a + (0 + 15 * u) * b → 16 * (v * b) ≤ 16 * (P * a) + 15 * (u * b)
+      first : (P : ℕ) → 16 * v * b + 16 * P * 0 ≤ 16 * P * a + (0 + 15 * l) * b → 16 * (v * b) ≤ 16 * (P * a) + 15 * (l * b)
       first P h = omega (arith, h)
 
       second : (P : ℕ) → 16 * P * a + 0 * b ≤ 16 * P * 0 + (16 * v + 15 * u) * b → 16 * (P * a) ≤ 16 * (v * b) + 15 * (u * b)
@@ -114,35 +112,35 @@ module _ (v u a b : ℕ) (U : 0 < u) (B : 0 < b) (c : Close (16 * 2 ^ 149) (16 *
       high x y z p h e = omega arith
 
   -- with t more above, where 32 * 2 ^ 149 * t is at most b
-  within_more : (t : ℕ) → 32 * 2 ^ 149 * t ≤ b → NearerThan v u (a + t) b
+  within_more : (t : ℕ) → 32 * 2 ^ 149 * t ≤ b → NearerThan v l u (a + t) b
   within_more t h =
       record {
         low = more within.low (2 ^ 149);
         high = high (2 ^ 149) c.high h;
       }
     where
-      more : v * b < 2 ^ 149 * a + u * b → (P : ℕ) → v * b < 2 ^ 149 * (a + t) + u * b
+      more : v * b < 2 ^ 149 * a + l * b → (P : ℕ) → v * b < 2 ^ 149 * (a + t) + l * b
       more k P = le_trans k (add (2 ^ 149))
         where
-          add : (P : ℕ) → P * a + u * b ≤ P * (a + t) + u * b
+          add : (P : ℕ) → P * a + l * b ≤ P * (a + t) + l * b
           add P = omega arith
 
       high : (P : ℕ) → 16 * P * a + 0 * b ≤ 16 * P * 0 + (16 * v + 15 * u) * b → 32 * P * t ≤ b → P * (a + t) < (v + u) * b
-      high P k l = omega (arith, k, l, mul-le-mul_right b U, B)
+      high P k g = omega (arith, k, g, mul-le-mul_right b U, B)
 
   -- with t more below, where 32 * v * t is at most b
-  within-less : (t : ℕ) → 32 * v * t ≤ b → NearerThan v u a (b + t)
+  within-less : (t : ℕ) → 32 * v * t ≤ b → NearerThan v l u a (b + t)
   within-less t h =
       record {
         low = low (2 ^ 149) c.low h;
         high = le_trans within.high (mul-le-mul_left (v + u) (omega arith));
       }
     where
-      low : (P : ℕ) → 16 * v * b + 16 * P * 0 ≤ 16 * P * a + (0 + 15 * u) * b → 32 * v * t ≤ b → v * (b + t) < P * a + u * (b + t)
-      low P k l = omega (arith, k, l, mul-le-mul_right b U, B)
+      low : (P : ℕ) → 16 * v * b + 16 * P * 0 ≤ 16 * P * a + (0 + 15 * l) * b → 32 * v * t ≤ b → v * (b + t) < P * a + l * (b + t)
+      low P k g = omega (arith, k, g, mul-le-mul_right b L, B)
 
-module _ (n d v u : ℕ) (D : 0 < d) (U : 0 < u) where
-  enclose : (N : ℕ) × ((k : ℕ) → N ≤ k → Close (16 * 2 ^ 149) (16 * v) 0 (15 * u) (num one n d k) 0 (full d k)) → Enclosed n d v u
+module _ (n d v l u : ℕ) (D : 0 < d) (L : 0 < l) (U : 0 < u) where
+  enclose : Later (λ k. Between (16 * 2 ^ 149) (16 * v) 0 (15 * l) (15 * u) (num one n d k) 0 (full d k)) → Enclosed n d v l u
   enclose S =
       let M = 32 * 2 ^ 149 in
       let k = S.0 + (2 * n + M * n ^ (2 * n)) in
@@ -151,11 +149,11 @@ module _ (n d v u : ℕ) (D : 0 < d) (U : 0 < u) where
       record {
         terms = k;
         inside = inside n d k D small.0;
-        lower = within v u (num one n d k) (full d k) U (full-pos d k D) c;
-        upper = within_more v u (num one n d k) (full d k) U (full-pos d k D) c (n ^ k) small.1;
+        lower = within v l u (num one n d k) (full d k) L U (full-pos d k D) c;
+        upper = within_more v l u (num one n d k) (full d k) L U (full-pos d k D) c (n ^ k) small.1;
       }
 
-  enclose-below : (N : ℕ) × ((k : ℕ) → N ≤ k → Close (16 * 2 ^ 149) (16 * v) 0 (15 * u) (full d k) 0 (num one n d k)) → EnclosedBelow n d v u
+  enclose-below : Later (λ k. Between (16 * 2 ^ 149) (16 * v) 0 (15 * l) (15 * u) (full d k) 0 (num one n d k)) → EnclosedBelow n d v l u
   enclose-below S =
       let M = 32 * v in
       let k = S.0 + (2 * n + M * n ^ (2 * n)) in
@@ -165,14 +163,14 @@ module _ (n d v u : ℕ) (D : 0 < d) (U : 0 < u) where
       record {
         terms = k;
         inside = inside n d k D small.0;
-        upper = within v u (full d k) (num one n d k) U P c;
-        lower = within-less v u (full d k) (num one n d k) U P c (n ^ k) (le_trans small.1 (above-one n d k));
+        upper = within v l u (full d k) (num one n d k) L U P c;
+        lower = within-less v l u (full d k) (num one n d k) L U P c (n ^ k) (le_trans small.1 (above-one n d k));
       }
 
 -- ---- every case
 by-case : (x r : Float) → NearExp x r → EnclosedExp x r
-by-case (fin false m e) (fin false n f) h = enclose (m * up e) (down e) (steps (fin false n f)) (ulp (fin false n f)) (down_pos e) (pow_pos (size (steps (fin false n f)) - 24)) h
-by-case (fin true m e) (fin false n f) h = enclose-below (m * up e) (down e) (steps (fin false n f)) (ulp (fin false n f)) (down_pos e) (pow_pos (size (steps (fin false n f)) - 24)) h
+by-case (fin false m e) (fin false n f) h = enclose (m * up e) (down e) (steps (fin false n f)) (ulp_below (fin false n f)) (ulp (fin false n f)) (down_pos e) (pow_pos (size (steps (fin false n f) - 1) - 24)) (pow_pos (size (steps (fin false n f)) - 24)) h
+by-case (fin true m e) (fin false n f) h = enclose-below (m * up e) (down e) (steps (fin false n f)) (ulp_below (fin false n f)) (ulp (fin false n f)) (down_pos e) (pow_pos (size (steps (fin false n f) - 1) - 24)) (pow_pos (size (steps (fin false n f)) - 24)) h
 by-case (fin false m e) (fin true n f) h = h
 by-case (fin true m e) (fin true n f) h = h
 by-case (fin false m e) nan h = h

@@ -1,62 +1,51 @@
--- `exp_of x` is less than one unit in its last place from e ^ x, for every f32: by the cases of its pattern.
+-- `exp_of x` is less than one unit in its last place from e ^ x, below it less than one of the unit there, for every f32: by the cases of its pattern.
 use mathlib.Core.Path.{◌≡◌, refl, sym, ap, ◌∙◌, subst, subst₂}
 use mathlib.Core.Bool.{Bool, true, false, true≢false, false≢true}
 use Prim.Native.Nat.{ℕ, ◌+◌, ◌-◌, ◌*◌, ◌/◌, ◌%◌, ◌^◌, ◌≤◌, ◌<◌}
-use native.Mathlib.Nat.{le_trans, le_of_eq, le_refl, lt_of_lt_of_le, mul_assoc, mul_comm, mul_right_comm, mul-le-mul, mul-le-mul_left, mul-le-mul_right, le_of_mul-le-mul_right, eq_of_mul-eq-mul_right, div-le_of_le-mul}
+use native.Mathlib.Nat.{le_trans, le_of_eq, le_refl, lt_of_lt_of_le, mul_assoc, mul_comm, mul_right_comm, mul-le-mul, mul-le-mul_right, le_of_mul-le-mul_right, eq_of_mul-eq-mul_right, div-le_of_le-mul}
 use native.Mathlib.Omega.{arith}
 use lib.Dec.{leb, lit<, lit≤}
 use lib.Pow.{pow_pos, pow_mono, pow-add}
 use borrow.Author.Tests.{le-leb, lt-leb}
-use lib.Ieee.{Float, nan, inf, fin, binary32, up, down, size, of_bits, to_bits}
+use lib.Ieee.{Float, nan, inf, fin, binary32, up, down, of_bits, to_bits}
 use lib.Ieee.Fits.{down_pos}
 use lib.Ieee.Bits.{of_bits-to_bits, to_bits-lt}
 use lib.Ieee.Exact.{HasValue}
-use Rattle.series.specs.Series.{full, num, one, Close}
+use Rattle.series.specs.Series.{full, num, one}
 use Rattle.cases.proofs.Cases.{split}
-use Rattle.series.proofs.WaveFraction.{wider}
-use Rattle.series.proofs.ExpFraction.{same_sum, same-rec}
 use Rattle.fixed.specs.Fixed.{scaled_of, digits}
-use Rattle.fixed.proofs.Values.{value, value-normal, normal-value, subnormal, ulp-ge}
+use Rattle.fixed.proofs.Values.{value, value-normal, normal-value, subnormal}
 use Rattle.exponential.specs.Tables.{ln2}
 use Rattle.exponential.specs.Exp.{power_of, rounded_to24, lowered, grown, shrunk, exp_bits, exp_of}
 use Rattle.exponential.proofs.ExpCases.{at-nan, at-tiny, at_top, at-plus, at-bottom, at-minus, lowered-normal, lowered-subnormal, scaled-ge, below-plus, below-minus}
-use Rattle.scalar.specs.Root.{steps}
 use Rattle.exact_exponential.specs.Exp.{NearExp, ExpNear}
 use Rattle.scalar.proofs.Nan.{nan_pattern, the-nan}
 use Rattle.scalar.proofs.Sign.{plus-zero}
 use Rattle.scalar.proofs.Patterns.{steps-is}
 use Rattle.exponential_bounds.proofs.ExpPower.{power-ge, power_le, power-under}
-use Rattle.exponential_bounds.proofs.ExpNear.{Sums, Recs, near_up, near_down, near_sub}
+use Rattle.exponential_bounds.proofs.ExpNear.{Sums, Recs, same-sums, same-recs, rounded-ge, near_up, near_down, near_sub}
 use Rattle.exponential_bounds.proofs.ExpEnds.{past_top, past-bottom, tiny-up, tiny-down, last, last-enc}
 use Rattle.exact_exponential.proofs.Special.{an-inf, minus-inf}
 
 -- ---- from values to nearness. x is n / d
-module _ (v w X c : ℕ) (W : w ≤ 2 ^ (size v - 24)) where
-  near-plus : (x r : Float) → HasValue x false X c → HasValue r false v (2 ^ 149) → ((n d : ℕ) → 0 < d → n * c ≡ X * d → Sums n d v w) → NearExp x r
+module _ (v X c : ℕ) where
+  near-plus : (x r : Float) → HasValue x false X c → HasValue r false v (2 ^ 149) → ((n d : ℕ) → 0 < d → n * c ≡ X * d → Sums n d v) → NearExp x r
   near-plus nan r h k S = absurd h
   near-plus (inf a) r h k S = absurd h
   near-plus (fin a m e) nan h k S = absurd k
   near-plus (fin a m e) (inf b) h k S = absurd k
   near-plus (fin true m e) (fin b n f) h k S = absurd (true≢false h.0)
   near-plus (fin false m e) (fin true n f) h k S = absurd (true≢false k.0)
-  near-plus (fin false m e) (fin false n f) h k S =
-      let st : steps (fin false n f) ≡ v = steps-is (fin false n f) false v k in
-      let s = S (m * up e) (down e) (down_pos e) h.1 in
-      subst (λ (z : ℕ). (N : ℕ) × ((k : ℕ) → N ≤ k → Close (16 * 2 ^ 149) (16 * z) 0 (15 * 2 ^ (size z - 24)) (num one (m * up e) (down e) k) 0 (full (down e) k))) (sym st)
-      (s.0, λ k l. wider (16 * 2 ^ 149) (16 * v) 0 (15 * w) (15 * 2 ^ (size v - 24)) (num one (m * up e) (down e) k) 0 (full (down e) k) (mul-le-mul_left 15 W) (s.1 k l))
+  near-plus (fin false m e) (fin false n f) h k S = subst (λ (z : ℕ). Sums (m * up e) (down e) z) (sym (steps-is (fin false n f) false v k)) (S (m * up e) (down e) (down_pos e) h.1)
 
-  near-minus : (x r : Float) → HasValue x true X c → HasValue r false v (2 ^ 149) → ((n d : ℕ) → 0 < d → n * c ≡ X * d → Recs n d v w) → NearExp x r
+  near-minus : (x r : Float) → HasValue x true X c → HasValue r false v (2 ^ 149) → ((n d : ℕ) → 0 < d → n * c ≡ X * d → Recs n d v) → NearExp x r
   near-minus nan r h k S = absurd h
   near-minus (inf a) r h k S = absurd h
   near-minus (fin a m e) nan h k S = absurd k
   near-minus (fin a m e) (inf b) h k S = absurd k
   near-minus (fin false m e) (fin b n f) h k S = absurd (false≢true h.0)
   near-minus (fin true m e) (fin true n f) h k S = absurd (true≢false k.0)
-  near-minus (fin true m e) (fin false n f) h k S =
-      let st : steps (fin false n f) ≡ v = steps-is (fin false n f) false v k in
-      let s = S (m * up e) (down e) (down_pos e) h.1 in
-      subst (λ (z : ℕ). (N : ℕ) × ((k : ℕ) → N ≤ k → Close (16 * 2 ^ 149) (16 * z) 0 (15 * 2 ^ (size z - 24)) (full (down e) k) 0 (num one (m * up e) (down e) k))) (sym st)
-      (s.0, λ k l. wider (16 * 2 ^ 149) (16 * v) 0 (15 * w) (15 * 2 ^ (size v - 24)) (full (down e) k) 0 (num one (m * up e) (down e) k) (mul-le-mul_left 15 W) (s.1 k l))
+  near-minus (fin true m e) (fin false n f) h k S = subst (λ (z : ℕ). Recs (m * up e) (down e) z) (sym (steps-is (fin false n f) false v k)) (S (m * up e) (down e) (down_pos e) h.1)
 
 near-inf : (X c : ℕ) (x : Float) → HasValue x false X c → ((n d : ℕ) → n * c ≡ X * d → (k : ℕ) × (2 ^ 128 * full d k ≤ num one n d k)) → NearExp x (inf false)
 near-inf X c nan h S = absurd h
@@ -113,16 +102,13 @@ low-result c h =
     (subnormal c (omega arith)))
     (λ l. subst (λ (y : ℕ). HasValue (of_bits binary32 y) false (y * 1) (2 ^ 149)) (omega arith) (result 0 (2 ^ 23) (le_refl (2 ^ 23)) (lit≤ tt) (lit< tt)))
 
--- ---- what is rounded_to24 has 24 bits
+-- ---- what is rounded has 24 bits
 module _ (R : ℕ) (r : R ≤ ln2) where
-  rounded-ge : 2 ^ 23 ≤ rounded_to24 (power_of R)
-  rounded-ge = go (power_of R) (power-ge R r)
-    where
-      go : (h : ℕ) → 2 ^ 62 ≤ h → 2 ^ 23 ≤ rounded_to24 h
-      go h k = omega arith
+  from-23 : 2 ^ 23 ≤ rounded_to24 (power_of R)
+  from-23 = rounded-ge (power_of R) (power-ge R r)
 
-  rounded-le : rounded_to24 (power_of R) ≤ 2 ^ 24
-  rounded-le = go (power_of R) (power_le R r)
+  to-24 : rounded_to24 (power_of R) ≤ 2 ^ 24
+  to-24 = go (power_of R) (power_le R r)
     where
       go : (h : ℕ) → h ≤ 2 ^ 63 → rounded_to24 h ≤ 2 ^ 24
       go h k = omega arith
@@ -131,7 +117,7 @@ module _ (R : ℕ) (r : R ≤ ln2) where
 below_top : (X : ℕ) → X ≤ 0xb1_7217 * 2 ^ 39 → (126 + X / ln2) * 2 ^ 23 + rounded_to24 (power_of (X % ln2)) < 255 * 2 ^ 23
 below_top X h =
     split (X / ln2) 127
-    (λ k. less (X / ln2) (rounded_to24 (power_of (X % ln2))) k (rounded-le (X % ln2) (omega arith)))
+    (λ k. less (X / ln2) (rounded_to24 (power_of (X % ln2))) k (to-24 (X % ln2) (omega arith)))
     (λ k. at-127 (X / ln2) (power_of (X % ln2)) (omega arith) (power-under (X % ln2) (omega arith) last (2 ^ 63 - 2 ^ 39) (omega arith) last-enc.high))
   where
     less : (e m : ℕ) → e < 127 → m ≤ 2 ^ 24 → (126 + e) * 2 ^ 23 + m < 255 * 2 ^ 23
@@ -154,11 +140,11 @@ module _ (b : ℕ) (s : b / 2 ^ 31 < 1) (l : 0x3300_0000 ≤ b % 2 ^ 31) where
       let v = rounded_to24 (power_of R) in
       let top : X ≤ 0xb1_7217 * 2 ^ 39 = below-plus (b % 2 ^ 31) h in
       let r : R ≤ ln2 = small X in
-      let near : Sums X (2 ^ 56) (v * 2 ^ e) (2 ^ e) = subst (λ (x : ℕ). Sums x (2 ^ 56) (v * 2 ^ e) (2 ^ e)) (whole X) (near_up (X / ln2) R (few X top) r) in
-      near-plus (v * 2 ^ e) (2 ^ e) (X * 2 ^ 93) (2 ^ 149) (ulp-ge v e (rounded-ge R r)) (of_bits binary32 b) (of_bits binary32 (e * 2 ^ 23 + v))
+      let near : Sums X (2 ^ 56) (v * 2 ^ e) = subst (λ (x : ℕ). Sums x (2 ^ 56) (v * 2 ^ e)) (whole X) (near_up (X / ln2) R (few X top) r) in
+      near-plus (v * 2 ^ e) (X * 2 ^ 93) (2 ^ 149) (of_bits binary32 b) (of_bits binary32 (e * 2 ^ 23 + v))
       (plus-value (lt_of_lt_of_le h (lit≤ tt)))
-      (result e v (rounded-ge R r) (rounded-le R r) (below_top X top))
-      (λ n d D q. (near.0, λ k g. same_sum X (2 ^ 56) n d (pow_pos 56) (cross n d X q) (16 * 2 ^ 149) (16 * (v * 2 ^ e)) (15 * 2 ^ e) k (near.1 k g)))
+      (result e v (from-23 R r) (to-24 R r) (below_top X top))
+      (λ n d D q. same-sums X (2 ^ 56) n d (pow_pos 56) D (cross n d X q) (v * 2 ^ e) near)
     where
       small : (X : ℕ) → X % ln2 ≤ ln2
       small X = omega arith
@@ -178,10 +164,10 @@ module _ (X e R : ℕ) (few : e ≤ 150) (r : R ≤ ln2) (q : X + R ≡ (e + 1) 
   usual k =
       let f = 125 - e in
       let v = rounded_to24 h in
-      let near : Recs X (2 ^ 56) (v * 2 ^ f) (2 ^ f) = subst (λ (y : ℕ). Recs X (2 ^ 56) (v * 2 ^ y) (2 ^ y)) (line e) (near_down (e + 1) R X (omega arith) r q (omega arith)) in
-      near-minus (v * 2 ^ f) (2 ^ f) (X * 2 ^ 93) (2 ^ 149) (ulp-ge v f (rounded-ge R r)) x (of_bits binary32 (f * 2 ^ 23 + v)) hx
-      (result f v (rounded-ge R r) (rounded-le R r) (fine e v (rounded-le R r)))
-      (λ n d D p. (near.0, λ k g. same-rec X (2 ^ 56) n d (pow_pos 56) (cross n d X p) (16 * 2 ^ 149) (16 * (v * 2 ^ f)) (15 * 2 ^ f) k (near.1 k g)))
+      let near : Recs X (2 ^ 56) (v * 2 ^ f) = subst (λ (y : ℕ). Recs X (2 ^ 56) (v * 2 ^ y)) (line e) (near_down (e + 1) R X (omega arith) r q (omega arith)) in
+      near-minus (v * 2 ^ f) (X * 2 ^ 93) (2 ^ 149) x (of_bits binary32 (f * 2 ^ 23 + v)) hx
+      (result f v (from-23 R r) (to-24 R r) (fine e v (to-24 R r)))
+      (λ n d D p. same-recs X (2 ^ 56) n d (pow_pos 56) D (cross n d X p) (v * 2 ^ f) near)
     where
       line : (e : ℕ) → 126 - (e + 1) ≡ 125 - e
       line e = omega arith
@@ -192,9 +178,9 @@ module _ (X e R : ℕ) (few : e ≤ 150) (r : R ≤ ln2) (q : X + R ≡ (e + 1) 
   under : 125 < e → NearExp x (of_bits binary32 ((h / 2 ^ (e - 87) + 1) / 2))
   under k =
       let v = (h / 2 ^ (e - 87) + 1) / 2 in
-      let near : Recs X (2 ^ 56) (v * 1) 1 = subst (λ (y : ℕ). Recs X (2 ^ 56) ((h / 2 ^ y + 1) / 2 * 1) 1) (line e) (near_sub (e + 1) R X (omega arith) r q (omega arith)) in
-      near-minus (v * 1) 1 (X * 2 ^ 93) (2 ^ 149) (pow_pos (size (v * 1) - 24)) x (of_bits binary32 v) hx (low-result v (half (h / 2 ^ (e - 87)) down))
-      (λ n d D p. (near.0, λ k g. same-rec X (2 ^ 56) n d (pow_pos 56) (cross n d X p) (16 * 2 ^ 149) (16 * (v * 1)) (15 * 1) k (near.1 k g)))
+      let near : Recs X (2 ^ 56) (v * 1) = subst (λ (y : ℕ). Recs X (2 ^ 56) ((h / 2 ^ y + 1) / 2 * 1)) (line e) (near_sub (e + 1) R X (omega arith) r q (omega arith)) in
+      near-minus (v * 1) (X * 2 ^ 93) (2 ^ 149) x (of_bits binary32 v) hx (low-result v (half (h / 2 ^ (e - 87)) down))
+      (λ n d D p. same-recs X (2 ^ 56) n d (pow_pos 56) D (cross n d X p) (v * 1) near)
     where
       line : (e : ℕ) → e + 1 - 88 ≡ e - 87
       line e = omega arith
@@ -242,7 +228,7 @@ past-plus b s l h =
 past-minus : (b : ℕ) → 1 ≤ b / 2 ^ 31 → 0x42d0_0000 ≤ b % 2 ^ 31 → b % 2 ^ 31 < 0x7f80_0000 → NearExp (of_bits binary32 b) (of_bits binary32 0)
 past-minus b s l h =
     let X = scaled_of (b % 2 ^ 31) 94 in
-    near-minus (0 * 1) 1 (X * 2 ^ 93) (2 ^ 149) (pow_pos (size (0 * 1) - 24)) (of_bits binary32 b) (of_bits binary32 0) (minus-value b s (omega arith) h) (low-result 0 (lit≤ tt))
+    near-minus (0 * 1) (X * 2 ^ 93) (2 ^ 149) (of_bits binary32 b) (of_bits binary32 0) (minus-value b s (omega arith) h) (low-result 0 (lit≤ tt))
     (λ n d D q. past-bottom n d D (cut n d (units n d X 0xd0_0000 (cross n d X q) (scaled-ge (b % 2 ^ 31) 0xd0_0000 (lit≤ tt) (omega arith) (lit< tt)))))
   where
     cut : (n d : ℕ) → 0xd0_0000 * d ≤ n * 2 ^ 17 → 104 * d ≤ n * 1
@@ -257,8 +243,8 @@ tiny-near b h =
     let w = v-tiny b h in
     let v = w.0 in
     split (b / 2 ^ 31) 1
-    (λ s. near-plus (2 ^ 23 * 2 ^ 126) (2 ^ 126) v (2 ^ 149) (ulp-ge (2 ^ 23) 126 (le_refl (2 ^ 23))) (of_bits binary32 b) (of_bits binary32 0x3f80_0000) (subst (λ (x : Bool). HasValue (of_bits binary32 b) x v (2 ^ 149)) (sign-plus b s) w.1) one_value (λ n d D q. tiny-up n d D (small n d v q w.2)))
-    (λ s. near-minus (2 ^ 23 * 2 ^ 126) (2 ^ 126) v (2 ^ 149) (ulp-ge (2 ^ 23) 126 (le_refl (2 ^ 23))) (of_bits binary32 b) (of_bits binary32 0x3f80_0000) (subst (λ (x : Bool). HasValue (of_bits binary32 b) x v (2 ^ 149)) (sign-minus b s) w.1) one_value (λ n d D q. tiny-down n d D (small n d v q w.2)))
+    (λ s. near-plus (2 ^ 23 * 2 ^ 126) v (2 ^ 149) (of_bits binary32 b) (of_bits binary32 0x3f80_0000) (subst (λ (x : Bool). HasValue (of_bits binary32 b) x v (2 ^ 149)) (sign-plus b s) w.1) one_value (λ n d D q. tiny-up n d D (small n d v q w.2)))
+    (λ s. near-minus (2 ^ 23 * 2 ^ 126) v (2 ^ 149) (of_bits binary32 b) (of_bits binary32 0x3f80_0000) (subst (λ (x : Bool). HasValue (of_bits binary32 b) x v (2 ^ 149)) (sign-minus b s) w.1) one_value (λ n d D q. tiny-down n d D (small n d v q w.2)))
   where
     small : (n d v : ℕ) → n * 2 ^ 149 ≡ v * d → v ≤ 2 ^ 124 → n * 2 ^ 25 ≤ d
     small n d v e k = le_of_mul-le-mul_right {k = 2 ^ 124} (le_trans (le_of_eq (mul_assoc n (2 ^ 25) (2 ^ 124) ∙ e)) (le_trans (mul-le-mul_right d k) (le_of_eq (mul_comm (2 ^ 124) d)))) (pow_pos 124)

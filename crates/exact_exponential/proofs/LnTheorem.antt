@@ -1,16 +1,15 @@
--- `ln_of x` is less than one unit in its last place from the logarithm of x, for every f32: by the cases of its pattern.
+-- `ln_of x` is less than one unit in its last place from the logarithm of x, towards zero less than one of the unit there, for every f32: by the cases of its pattern.
 use mathlib.Core.Path.{◌≡◌, refl, sym, ap, ◌∙◌, subst, subst₂}
 use mathlib.Core.Bool.{Bool, true, false, cond, true≢false, false≢true}
 use Prim.Native.Nat.{ℕ, zero, suc, ◌+◌, ◌-◌, ◌*◌, ◌/◌, ◌%◌, ◌^◌, ◌≤◌, ◌<◌}
-use native.Mathlib.Nat.{not-le_of_lt, le_trans, le_of_eq, le_of_lt, le_refl, lt_of_lt_of_le, one-mul, mul_assoc, mul_comm, mul_left_comm, mul-le-mul_right, mul-pos, eq_of_mul-eq-mul_right}
+use native.Mathlib.Nat.{le_trans, le_of_eq, le_of_lt, le_refl, lt_of_lt_of_le, one-mul, mul_assoc, mul_comm, mul_left_comm, mul-le-mul_right, mul-pos, eq_of_mul-eq-mul_right}
 use native.Mathlib.Omega.{arith}
 use lib.Dec.{lit<, lit≤}
 use lib.IntN.{pos, negsuc}
-use lib.Pow.{pow_pos, pow-add}
+use lib.Pow.{pow_pos, pow_mono, pow-add}
 use lib.Count.{count_leading_zeros}
 use borrow.Author.Tests.{le-leb, lt-leb}
 use lib.Ieee.{Float, nan, inf, fin, binary32, up, down, size, of_bits, to_bits}
-use lib.Ieee.Digits.{size-lt, size-le}
 use lib.Ieee.Fits.{down_pos}
 use lib.Ieee.Bits.{of_bits-to_bits, to_bits-lt}
 use lib.Ieee.Exact.{HasValue}
@@ -18,7 +17,7 @@ use Rattle.series.specs.Series.{full, num}
 use Rattle.cases.proofs.Cases.{split}
 use Rattle.fixed.specs.Fixed.{mant, pattern}
 use Rattle.fixed.proofs.Round.{rounded, place, pattern_lt}
-use Rattle.fixed.proofs.Values.{value-normal, subnormal, packed-value, ulp-ge}
+use Rattle.fixed.proofs.Values.{value-normal, subnormal, packed-value, ulp-exp}
 use Rattle.exponential.specs.Tables.{ln2}
 use Rattle.logarithm.specs.Ln.{rest_of, above, below, ln_bits, ln_of}
 use Rattle.logarithm.proofs.LnCases.{ln-zero, ln-none, ln-inf, ln-1, ln-up, ln-down, ln-deep, shifted}
@@ -29,7 +28,9 @@ use Rattle.scalar.proofs.Nan.{nan_pattern, the-nan}
 use Rattle.scalar.proofs.Sign.{plus-zero}
 use Rattle.scalar.proofs.Patterns.{steps-is}
 use Rattle.exact_exponential.proofs.Special.{an-inf, minus-inf, minus-zero}
-use Rattle.exponential_bounds.proofs.Exponents.{lower-le, upper-ge, same-le, same-ge}
+use Rattle.exact.proofs.Unit.{below_le}
+use Rattle.exponential_bounds.proofs.Units.{unit, unit_below}
+use Rattle.exponential_bounds.proofs.Exponents.{same-le, same-ge}
 use Rattle.exponential_bounds.proofs.LnSum.{Good, good-up, good-down}
 
 -- ---- an exponent of either sign
@@ -46,46 +47,22 @@ module _ (a b d X D : ℕ) where
   high-minus : b < a → ExpLe (a - b) d D X → PowGe (upper true a b) d X D
   high-minus h E = subst (λ (y : Bool). PowGe (cond y (pos (b - a)) (negsuc (a - suc b))) d X D) (sym (lt-leb a b h)) (subst (λ (n : ℕ). ExpLe n d D X) (omega arith) E)
 
--- ---- the unit of the last place is at least the place, and below the value
+-- ---- the unit below the value is less than it
 module _ (S : ℕ) (from : 2 ^ 30 ≤ S) (fit : S < 2 ^ 64) where
   abbrev v : ℕ
   v = mant S * place S
 
-  abbrev u : ℕ
-  u = 2 ^ (size v - 24)
-
-  wide : place S ≤ u
-  wide = ulp-ge (mant S) (133 - count_leading_zeros 64 S) (rounded S from fit).least
-
   v-pos : 0 < v
   v-pos = mul-pos (lt_of_lt_of_le (lit< tt) (rounded S from fit).least) (pow_pos (133 - count_leading_zeros 64 S))
 
-  under : 15 * u < 16 * v
-  under = go u v (split v u (λ l. absurd (short (size v) (size-le v (size v - 24) l) (size-lt v))) (λ l. l)) v-pos
+  under : 15 * unit_below v < 16 * v
+  under =
+      let R = rounded S from fit in
+      let e = 133 - count_leading_zeros 64 S in
+      go (place S) (unit_below v) v (le_trans (below_le v) (le_trans (pow_mono (ulp-exp (mant S) e R.least R.most).1) (le_of_eq (pow-add 2 e 1)))) (pow_pos e) (mul-le-mul_right (place S) R.least)
     where
-      -- a number above 0 has a digit
-      short : (z : ℕ) → z ≤ z - 24 → v < 2 ^ z → ⊥
-      short z h k = split z 1 (λ l. not-le_of_lt (lt_of_lt_of_le k (le_of_eq (ap (λ (x : ℕ). 2 ^ x) (none z l)))) v-pos) (λ l. omega arith)
-        where
-          none : (z : ℕ) → z < 1 → z ≡ 0
-          none z l = omega arith
-
-      go : (u v : ℕ) → u ≤ v → 0 < v → 15 * u < 16 * v
-      go u v h k = omega arith
-
-  -- with the unit in the place of the place
-  module _ (a b : ℕ) (G : Good S a b) where
-    low-u : ExpLe (16 * v - 15 * u) (16 * 2 ^ 149) a b
-    low-u = lower-le (16 * v - 15 * u) (16 * 2 ^ 149) (16 * v - 15 * place S) (16 * 2 ^ 149) a b (lit< tt) (lit< tt) (mul-le-mul_right (16 * 2 ^ 149) (less (16 * v) u (place S) wide)) G.low
-      where
-        less : (x u p : ℕ) → p ≤ u → x - 15 * u ≤ x - 15 * p
-        less x u p h = omega arith
-
-    high-u : ExpGe (16 * v + 15 * u) (16 * 2 ^ 149) a b
-    high-u = upper-ge (16 * v + 15 * u) (16 * 2 ^ 149) (16 * v + 15 * place S) (16 * 2 ^ 149) a b (lit< tt) (lit< tt) (mul-le-mul_right (16 * 2 ^ 149) (more (16 * v) u (place S) wide)) G.high
-      where
-        more : (x u p : ℕ) → p ≤ u → x + 15 * p ≤ x + 15 * u
-        more x u p h = omega arith
+      go : (p u v : ℕ) → u ≤ p * 2 ^ 1 → 0 < p → 2 ^ 23 * p ≤ v → 15 * u < 16 * v
+      go p u v h k l = omega arith
 
 not-zero : (X W D c : ℕ) → X ≡ 0 → X * c ≡ W * D → 0 < W → 0 < D → ⊥
 not-zero X W D c z e w d = omega (arith, ap (λ (x : ℕ). x * c) z, mul-pos w d)
@@ -104,9 +81,9 @@ module _ (S a b W : ℕ) (G : Good S a b) (B : 0 < b) (P : 0 < W) where
       let X = suc m * up e in
       let D = down e in
       let V' = mant S * place S in
-      subst (λ (z : ℕ). PowLe (lower false (16 * z) (15 * 2 ^ (size z - 24))) (16 * 2 ^ 149) X D × PowGe (upper false (16 * z) (15 * 2 ^ (size z - 24))) (16 * 2 ^ 149) X D) (sym (steps-is (fin false n f) false V' k)) (
-        low-plus (16 * V') (15 * 2 ^ (size V' - 24)) (16 * 2 ^ 149) X D (le_of_lt (under S G.from G.fits)) (same-le (16 * V' - 15 * 2 ^ (size V' - 24)) (16 * 2 ^ 149) a b X D B (Q X D h.1) (low-u S G.from G.fits a b G)),
-        high-plus (16 * V') (15 * 2 ^ (size V' - 24)) (16 * 2 ^ 149) X D (same-ge (16 * V' + 15 * 2 ^ (size V' - 24)) (16 * 2 ^ 149) a b X D B (Q X D h.1) (high-u S G.from G.fits a b G)),
+      subst (λ (z : ℕ). PowLe (lower false (16 * z) (15 * unit_below z)) (16 * 2 ^ 149) X D × PowGe (upper false (16 * z) (15 * unit z)) (16 * 2 ^ 149) X D) (sym (steps-is (fin false n f) false V' k)) (
+        low-plus (16 * V') (15 * unit_below V') (16 * 2 ^ 149) X D (le_of_lt (under S G.from G.fits)) (same-le (16 * V' - 15 * unit_below V') (16 * 2 ^ 149) a b X D B (Q X D h.1) G.low),
+        high-plus (16 * V') (15 * unit V') (16 * 2 ^ 149) X D (same-ge (16 * V' + 15 * unit V') (16 * 2 ^ 149) a b X D B (Q X D h.1) G.high),
       )
 
   near-minus : (x r : Float) → HasValue x false W (2 ^ 149) → HasValue r true (mant S * place S) (2 ^ 149) → ((X D : ℕ) → X * 2 ^ 149 ≡ W * D → a * X ≡ D * b) → NearLn x r
@@ -121,9 +98,9 @@ module _ (S a b W : ℕ) (G : Good S a b) (B : 0 < b) (P : 0 < W) where
       let X = suc m * up e in
       let D = down e in
       let V' = mant S * place S in
-      subst (λ (z : ℕ). PowLe (lower true (16 * z) (15 * 2 ^ (size z - 24))) (16 * 2 ^ 149) X D × PowGe (upper true (16 * z) (15 * 2 ^ (size z - 24))) (16 * 2 ^ 149) X D) (sym (steps-is (fin true n f) true V' k)) (
-        low-minus (16 * V') (15 * 2 ^ (size V' - 24)) (16 * 2 ^ 149) X D (mul-pos {m = 16} (lit< tt) (v-pos S G.from G.fits)) (same-ge (16 * V' + 15 * 2 ^ (size V' - 24)) (16 * 2 ^ 149) a b D X B (Q X D h.1) (high-u S G.from G.fits a b G)),
-        high-minus (16 * V') (15 * 2 ^ (size V' - 24)) (16 * 2 ^ 149) X D (under S G.from G.fits) (same-le (16 * V' - 15 * 2 ^ (size V' - 24)) (16 * 2 ^ 149) a b D X B (Q X D h.1) (low-u S G.from G.fits a b G)),
+      subst (λ (z : ℕ). PowLe (lower true (16 * z) (15 * unit z)) (16 * 2 ^ 149) X D × PowGe (upper true (16 * z) (15 * unit_below z)) (16 * 2 ^ 149) X D) (sym (steps-is (fin true n f) true V' k)) (
+        low-minus (16 * V') (15 * unit V') (16 * 2 ^ 149) X D (mul-pos {m = 16} (lit< tt) (v-pos S G.from G.fits)) (same-ge (16 * V' + 15 * unit V') (16 * 2 ^ 149) a b D X B (Q X D h.1) G.high),
+        high-minus (16 * V') (15 * unit_below V') (16 * 2 ^ 149) X D (under S G.from G.fits) (same-le (16 * V' - 15 * unit_below V') (16 * 2 ^ 149) a b D X B (Q X D h.1) G.low),
       )
 
 -- ---- above 1: x is m * 2 ^ E / 2 ^ 23
@@ -228,7 +205,7 @@ high-1 b d = high-plus 0 b d 1 1 (0, le_refl 1)
 ln-near-1 : NearLn (of_bits binary32 0x3f80_0000) (of_bits binary32 0)
 ln-near-1 =
     subst₂ (λ (x y : Float). NearLn x y) (sym one_f32_is) (sym plus-zero)
-    (low-1 (15 * 2 ^ (size 0 - 24)) (16 * 2 ^ 149) (mul-pos {m = 15} (lit< tt) (pow_pos (size 0 - 24))), high-1 (15 * 2 ^ (size 0 - 24)) (16 * 2 ^ 149))
+    (low-1 (15 * unit_below 0) (16 * 2 ^ 149) (mul-pos {m = 15} (lit< tt) (pow_pos (size (0 - 1) - 24))), high-1 (15 * unit 0) (16 * 2 ^ 149))
 
 -- ---- below 0, at 0, and where x is no number
 near_none : (x : Float) (W c : ℕ) → 0 < W → HasValue x true W c → NearLn x nan

@@ -5,13 +5,13 @@ use Rattle.std.specs.Float.{nan, inf, fin, binary32}
 use Rattle.std.specs.Float.Ieee.{up, down, fits}
 use Rattle.series.specs.Series.{full, num, one, ExpLe, ExpGe}
 use Rattle.scalar.specs.Root.{steps}
-use Rattle.exact.specs.Unit.{ulp}
+use Rattle.exact.specs.Unit.{ulp, ulp_below}
 use Rattle.exponential.specs.Exp.{exp_of}
 use Rattle.exact_exponential.specs.Exp.{NearExp}
 
--- a / b is less than u / 2 ^ 149 from v / 2 ^ 149
-pub record NearerThan (v u a b : ℕ) : Type 0 where
-  pub low : v * b < 2 ^ 149 * a + u * b
+-- a / b is more than v / 2 ^ 149 less l / 2 ^ 149, and less than v / 2 ^ 149 and u / 2 ^ 149
+pub record NearerThan (v l u a b : ℕ) : Type 0 where
+  pub low : v * b < 2 ^ 149 * a + l * b
   pub high : 2 ^ 149 * a < (v + u) * b
 
 -- the lower fraction is p / f and the upper one p' / f
@@ -22,24 +22,24 @@ upper_sum n d N = num one n d N + n ^ N
 abbrev pub Inside : (n d N : ℕ) → Type 0
 Inside n d N = (k : ℕ) → N ≤ k → (num one n d N * full d k ≤ num one n d k * full d N) × (num one n d k * full d N ≤ upper_sum n d N * full d k)
 
--- e ^ (n / d): both fractions are less than u from v
-pub record Enclosed (n d v u : ℕ) : Type 0 where
+-- e ^ (n / d): both fractions are less than l below v and less than u above it
+pub record Enclosed (n d v l u : ℕ) : Type 0 where
   pub terms : ℕ
   pub inside : Inside n d terms
-  pub lower : NearerThan v u (num one n d terms) (full d terms)
-  pub upper : NearerThan v u (upper_sum n d terms) (full d terms)
+  pub lower : NearerThan v l u (num one n d terms) (full d terms)
+  pub upper : NearerThan v l u (upper_sum n d terms) (full d terms)
 
 -- e ^ -(n / d): the reciprocals of both are
-pub record EnclosedBelow (n d v u : ℕ) : Type 0 where
+pub record EnclosedBelow (n d v l u : ℕ) : Type 0 where
   pub terms : ℕ
   pub inside : Inside n d terms
-  pub upper : NearerThan v u (full d terms) (num one n d terms)
-  pub lower : NearerThan v u (full d terms) (upper_sum n d terms)
+  pub upper : NearerThan v l u (full d terms) (num one n d terms)
+  pub lower : NearerThan v l u (full d terms) (upper_sum n d terms)
 
--- every case of an f32 x and a result r
+-- every case of an f32 x and a result r; below r the unit is that of the floats there
 abbrev pub EnclosedExp : Float → Float → Type 0
-EnclosedExp (fin false m e) (fin false n f) = Enclosed (m * up e) (down e) (steps (fin false n f)) (ulp (fin false n f))
-EnclosedExp (fin true m e) (fin false n f) = EnclosedBelow (m * up e) (down e) (steps (fin false n f)) (ulp (fin false n f))
+EnclosedExp (fin false m e) (fin false n f) = Enclosed (m * up e) (down e) (steps (fin false n f)) (ulp_below (fin false n f)) (ulp (fin false n f))
+EnclosedExp (fin true m e) (fin false n f) = EnclosedBelow (m * up e) (down e) (steps (fin false n f)) (ulp_below (fin false n f)) (ulp (fin false n f))
 EnclosedExp (fin s m e) (fin true n f) = NearExp (fin s m e) (fin true n f)
 EnclosedExp (fin s m e) nan = NearExp (fin s m e) nan
 EnclosedExp (fin s m e) (inf t) = NearExp (fin s m e) (inf t)

@@ -1,6 +1,6 @@
 -- The literal form for sine and cosine: a partial sum of 18 or 20 terms and the one with the next term enclose every later one, and each is less than one unit in the last place from the answer.
 use mathlib.Core.Path.{◌≡◌, refl, sym, ap, ◌∙◌, subst}
-use mathlib.Core.Bool.{Bool}
+use mathlib.Core.Bool.{Bool, true, false, cond, beq}
 use mathlib.Core.Logic.{inr}
 use Prim.Native.Nat.{ℕ, ◌*◌, ◌-◌, ◌%◌, ◌^◌, ◌≤◌, ◌<◌}
 use native.Mathlib.Nat.{le_trans, le_of_eq, le_refl, mul-le-mul_right, le_of_mul-le-mul_right}
@@ -17,9 +17,12 @@ use Rattle.scalar.proofs.Nan.{the-nan}
 use Rattle.cases.proofs.Cases.{split}
 use Rattle.fixed.proofs.Sizes.{finite-value, size-le}
 use Rattle.scalar.specs.Root.{steps}
+use Rattle.exact.specs.Between.{Between}
+use Rattle.exact.specs.Enclosure.{Less}
 use Rattle.exact_waves.specs.Near.{NearSin, NearCos}
 use Rattle.exact_waves.specs.Literal.{LiteralSin, LiteralCos, SinLiteral, CosLiteral}
 use Rattle.exact.proofs.Enclosure.{one-wave, less}
+use Rattle.exact.proofs.Unit.{below_le}
 use Rattle.waves.specs.SinCos.{wave_bits, sin_of, cos_of}
 use Rattle.waves.proofs.Patterns.{outside-bits}
 use Rattle.exact_waves.proofs.Waves.{sin-near, cos-near}
@@ -30,16 +33,24 @@ UpTo4 nan = Unit {0}
 UpTo4 (inf s) = Unit {0}
 UpTo4 (fin s m e) = m * up e ≤ 4 * down e
 
+-- neither unit is above u, so that each sum is less than u away
+module _ (a b u : ℕ) (A : a ≤ u) (B : b ≤ u) (U : 0 < u) where
+  within : (g : Bool) (m r t p q c : ℕ) → 0 < c → Between m r t (15 * cond g a b) (15 * cond g b a) p q c → Less m r t (16 * u) p q c
+  within true m r t p q c C k = less m r t u p q c U C (record { low = omega (arith, k.low, mul-le-mul_right c A); high = omega (arith, k.high, mul-le-mul_right c B) })
+  within false m r t p q c C k = less m r t u p q c U C (record { low = omega (arith, k.low, mul-le-mul_right c B); high = omega (arith, k.high, mul-le-mul_right c A) })
+
 sin-at : (x r : Float) → UpTo4 x → NearSin x r → LiteralSin x r
 sin-at nan r u h = tt
 sin-at (inf s) r u h = tt
 sin-at (fin s m e) nan u h = tt
 sin-at (fin s m e) (inf t) u h = tt
 sin-at (fin s m e) (fin t n f) u h =
-    let U = pow_pos (size (steps (fin t n f)) - 24) in (
+    let v = steps (fin t n f) in
+    let o = 2 ^ (size v - 24) in
+    let near = within (2 ^ (size (v - 1) - 24)) o o (below_le v) (le_refl o) (pow_pos (size v - 24)) (beq s t) in (
       one-wave.sine-nested (m * up e) (down e) 9 (down_pos e) u (lit≤ tt),
-      less _ _ _ _ _ _ _ U (full-pos (down e) 36 (down_pos e)) (h 36 (le_refl 36)),
-      less _ _ _ _ _ _ _ U (full-pos (down e) 37 (down_pos e)) (h 37 (lit≤ tt)),
+      near _ _ _ _ _ _ (full-pos (down e) 36 (down_pos e)) (h 36 (le_refl 36)),
+      near _ _ _ _ _ _ (full-pos (down e) 37 (down_pos e)) (h 37 (lit≤ tt)),
     )
 
 cos-at : (x r : Float) → UpTo4 x → NearCos x r → LiteralCos x r
@@ -48,10 +59,12 @@ cos-at (inf s) r u h = tt
 cos-at (fin s m e) nan u h = tt
 cos-at (fin s m e) (inf t) u h = tt
 cos-at (fin s m e) (fin t n f) u h =
-    let U = pow_pos (size (steps (fin t n f)) - 24) in (
+    let v = steps (fin t n f) in
+    let o = 2 ^ (size v - 24) in
+    let near = within o (2 ^ (size (v - 1) - 24)) o (le_refl o) (below_le v) (pow_pos (size v - 24)) t in (
       one-wave.cosine-nested (m * up e) (down e) 9 (down_pos e) u,
-      less _ _ _ _ _ _ _ U (full-pos (down e) 39 (down_pos e)) (h 39 (lit≤ tt)),
-      less _ _ _ _ _ _ _ U (full-pos (down e) 40 (down_pos e)) (h 40 (lit≤ tt)),
+      near _ _ _ _ _ _ (full-pos (down e) 39 (down_pos e)) (h 39 (lit≤ tt)),
+      near _ _ _ _ _ _ (full-pos (down e) 40 (down_pos e)) (h 40 (lit≤ tt)),
     )
 
 -- a pattern of at most 4's is a float up to 4

@@ -1,4 +1,5 @@
--- `sin_of x` and `cos_of x` are less than one unit of their last place from the sine and the cosine of x.
+-- `sin_of x` and `cos_of x` are less than one unit of their last place from the sine and the cosine of x, to the side towards zero less than one of the unit just below them.
+-- From 2 ^ -12 on this is the rounding of `wave_bounds`, carried from the small angle to x. Below 2 ^ -12 the sine is x, less at most |x|³ / 6, and the cosine 1, less at most x² / 2: both within the unit just below.
 use mathlib.Core.Path.{◌≡◌, refl, sym, ap, ap₂, ◌∙◌, subst, subst₂}
 use mathlib.Core.Bool.{Bool, true, false, not, cond, beq}
 use Prim.Native.Nat.{ℕ, suc, ◌+◌, ◌-◌, ◌*◌, ◌/◌, ◌%◌, ◌^◌, ◌≤◌, ◌<◌}
@@ -20,18 +21,19 @@ use Rattle.series.proofs.Classes.{sin-later, cos-later}
 use Rattle.waves.specs.SinCos.{ratio_of, sine_at, quarter_turn, half_turn, three_quarters, mag_of, at_small, wave_at, wave_bits, sin_of, cos_of}
 use Rattle.fixed.specs.Fixed.{mant}
 use Rattle.scalar.specs.Root.{steps}
-use Rattle.exact.specs.Unit.{ulp}
+use Rattle.exact.specs.Unit.{unity}
 use Rattle.exact_waves.specs.Near.{NearSin, NearCos, SinNear, CosNear}
 use Rattle.series.proofs.Alternating.{Low, High, limit}
 use Rattle.fixed.proofs.Round.{rounded, top_of}
 use Rattle.wave_bounds.proofs.Kernel.{kernel}
 use Rattle.wave_bounds.proofs.Turns.{sin-below-half, sin-above-half, cos-below-quarter, cos-above-quarter, cos-below-three}
 use Rattle.wave_bounds.proofs.Folds.{fold-plus, fold-minus}
-use Rattle.wave_bounds.proofs.Rounding.{exponent, rounds}
+use Rattle.wave_bounds.proofs.Rounding.{SidedAt, between, limit-either, exponent, rounds}
 use Rattle.series.proofs.WaveFraction.{same-limit, wider-limit, later}
-use Rattle.fixed.proofs.Values.{value, v-small, ulp-ge, ulps, bits-255, sign-plus}
+use Rattle.fixed.proofs.Values.{value, v-small, bits-255, sign-plus}
 use Rattle.fixed.proofs.Sizes.{finite-value, size-lt}
 use Rattle.scalar.proofs.Patterns.{steps-is}
+use Rattle.exact.proofs.Unit.{below_ulps, below_le}
 use Rattle.std.proofs.lemmas.Float.{one_f32_is}
 use Rattle.rounding.proofs.Units.{same_sign}
 use Rattle.scalar.proofs.Nan.{the-nan}
@@ -49,45 +51,41 @@ NearWave w nan r = r ≡ nan
 NearWave w (inf s) r = r ≡ nan
 NearWave w (fin s m e) nan = 4 * down e < m * up e
 NearWave w (fin s m e) (inf t) = ⊥
-NearWave w (fin s m e) (fin t n f) =
-    Limit (Kat (shift w)) (m * up e) (down e) (start w (m * up e)) (start w (down e)) 9 (16 * 2 ^ 149)
-    (16 * cond (agrees w s t) (steps (fin t n f)) 0)
-    (16 * cond (agrees w s t) 0 (steps (fin t n f)))
-    (15 * ulp (fin t n f))
+NearWave w (fin s m e) (fin t n f) = SidedAt (agrees w s t) (Kat (shift w)) (m * up e) (down e) (start w (m * up e)) (start w (down e)) 9 (steps (fin t n f))
 
 is-sin : (x r : Float) → NearWave sine x r → NearSin x r
 is-sin nan r h = h
 is-sin (inf s) r h = h
 is-sin (fin s m e) nan h = h
 is-sin (fin s m e) (inf t) h = h
-is-sin (fin s m e) (fin t n f) h = sin-later (m * up e) (down e) _ _ _ _ 9 (down_pos e) (den_pos Ksin sin-pos (m * up e) (down e) (m * up e) (down e) (down_pos e) (down_pos e)) h
+is-sin (fin s m e) (fin t n f) h =
+    λ k l. between _ _ _ _ _ _ _ _ (sin-later (m * up e) (down e) _ _ _ _ 9 (down_pos e) (den_pos Ksin sin-pos (m * up e) (down e) (m * up e) (down e) (down_pos e) (down_pos e)) h k l)
 
 is-cos : (x r : Float) → NearWave cosine x r → NearCos x r
 is-cos nan r h = h
 is-cos (inf s) r h = h
 is-cos (fin s m e) nan h = h
 is-cos (fin s m e) (inf t) h = h
-is-cos (fin s m e) (fin true n f) h = cos-later (m * up e) (down e) _ _ _ _ 9 (down_pos e) (den_pos Kcos cos-pos (m * up e) (down e) 1 1 (down_pos e) (lit< tt)) h
-is-cos (fin s m e) (fin false n f) h = cos-later (m * up e) (down e) _ _ _ _ 9 (down_pos e) (den_pos Kcos cos-pos (m * up e) (down e) 1 1 (down_pos e) (lit< tt)) h
+is-cos (fin s m e) (fin true n f) h =
+    λ k l. between _ _ _ _ _ _ _ _ (cos-later (m * up e) (down e) _ _ _ _ 9 (down_pos e) (den_pos Kcos cos-pos (m * up e) (down e) 1 1 (down_pos e) (lit< tt)) h k l)
+is-cos (fin s m e) (fin false n f) h =
+    λ k l. between _ _ _ _ _ _ _ _ (cos-later (m * up e) (down e) _ _ _ _ 9 (down_pos e) (den_pos Kcos cos-pos (m * up e) (down e) 1 1 (down_pos e) (lit< tt)) h k l)
 
 -- ---- from values to nearness
 cross : (m X : ℕ) (e : ℤ) → m * up e * 2 ^ 149 ≡ X * 2 ^ 88 * down e → m * up e * 2 ^ 61 ≡ X * down e
 cross m X e h =
     eq_of_mul-eq-mul_right (2 ^ 88) (pow_pos 88) (m * up e * 2 ^ 61) (X * down e) (mul_assoc (m * up e) (2 ^ 61) (2 ^ 88) ∙ h ∙ mul_right_comm X (2 ^ 88) (down e))
 
-module _ (w : Kind) (s t g : Bool) (G : agrees w s t ≡ g) (X v u : ℕ) (U : u ≤ 2 ^ (size v - 24)) where
-  near-at : (x r : Float) → HasValue x s (X * 2 ^ 88) (2 ^ 149) → HasValue r t v (2 ^ 149)
-      → Limit (Kat (shift w)) X (2 ^ 61) (start w X) (start w (2 ^ 61)) 9 (16 * 2 ^ 149) (16 * cond g v 0) (16 * cond g 0 v) (15 * u) → NearWave w x r
+module _ (w : Kind) (s t g : Bool) (G : agrees w s t ≡ g) (X v : ℕ) where
+  near-at : (x r : Float) → HasValue x s (X * 2 ^ 88) (2 ^ 149) → HasValue r t v (2 ^ 149) → SidedAt g (Kat (shift w)) X (2 ^ 61) (start w X) (start w (2 ^ 61)) 9 v → NearWave w x r
   near-at nan r h k L = absurd h
   near-at (inf a) r h k L = absurd h
   near-at (fin a m e) nan h k L = absurd k
   near-at (fin a m e) (inf b) h k L = k
   near-at (fin a m e) (fin b n f) h k L =
-      let st : steps (fin b n f) ≡ v = steps-is (fin b n f) t v k in
       let q : agrees w a b ≡ g = ap₂ (λ (y z : Bool). agrees w y z) h.0 k.0 ∙ G in
-      subst₂ (λ (y : Bool) (z : ℕ). Limit (Kat (shift w)) (m * up e) (down e) (start w (m * up e)) (start w (down e)) 9 (16 * 2 ^ 149) (16 * cond y z 0) (16 * cond y 0 z) (15 * 2 ^ (size z - 24))) (sym q) (sym st)
-      (wider-limit (Kat (shift w)) (m * up e) (down e) (start w (m * up e)) (start w (down e)) 9 (16 * 2 ^ 149) (16 * cond g v 0) (16 * cond g 0 v) (15 * u) (15 * 2 ^ (size v - 24)) (mul-le-mul_left 15 U)
-      (same-limit w (Kat (shift w)) X (2 ^ 61) (m * up e) (down e) (pow_pos 61) (cross m X e h.1) 9 (16 * 2 ^ 149) (16 * cond g v 0) (16 * cond g 0 v) (15 * u) L))
+      subst₂ (λ (y : Bool) (z : ℕ). SidedAt y (Kat (shift w)) (m * up e) (down e) (start w (m * up e)) (start w (down e)) 9 z) (sym q) (sym (steps-is (fin b n f) t v k))
+      (same-limit w (Kat (shift w)) X (2 ^ 61) (m * up e) (down e) (pow_pos 61) (cross m X e h.1) 9 _ _ _ _ L)
 
 -- ---- from 2 ^ -12 to 4
 beq-not : (s : Bool) → beq s (not s) ≡ false
@@ -271,9 +269,8 @@ near-folded : (w : Kind) (b : ℕ) (g : Bool) → b < 2 ^ 32 → 0x3980_0000 ≤
 near-folded w b g B l h F =
     let r = F.r in
     let p = r * 2 ^ count_leading_zeros 64 r / 2 ^ 32 * ratio_of r in
-    let z = packed r (lt_of_lt_of_le (lit< tt) F.least) F.most in
     let c = sign_at g (sign_of w b) in
-    near-at w (leb (2 ^ 31) b) (leb (2 ^ 31) (c * 2 ^ 31 + sine_at r)) g (sign-agrees w g b (sine_at r) B (sine-at-lt r (lt_of_lt_of_le (lit< tt) F.least) F.most)) (mag_of (b % 2 ^ 31)) (mant p * 2 ^ exponent r F.least F.most) (2 ^ exponent r F.least F.most) (ulp-ge (mant p) (exponent r F.least F.most) (rounded p z.big z.fits).least)
+    near-at w (leb (2 ^ 31) b) (leb (2 ^ 31) (c * 2 ^ 31 + sine_at r)) g (sign-agrees w g b (sine_at r) B (sine-at-lt r (lt_of_lt_of_le (lit< tt) F.least) F.most)) (mag_of (b % 2 ^ 31)) (mant p * 2 ^ exponent r F.least F.most)
     (of_bits binary32 b) (of_bits binary32 (wave_bits w b)) (x-value b l h) (sine-value (wave_bits w b) c r (large-bits w b l h ∙ F.bits) F.least F.most)
     (rounds r F.least F.most g (Kat (shift w)) (mag_of (b % 2 ^ 31)) (2 ^ 61) (start w (mag_of (b % 2 ^ 31))) (start w (2 ^ 61)) 9 F.near)
 
@@ -287,7 +284,7 @@ near-large cosine b B l h =
     (λ k. split half_turn (mag_of (b % 2 ^ 31)) (λ j. near-folded cosine b false B l h (cosine-beyond b h j)) (λ j. near-folded cosine b false B l h (cosine-above b h k j)))
     (λ k. near-folded cosine b true B l h (cosine-below b h k))
 
--- ---- below 2 ^ -12 the sine is x itself, but for x³ / 6, and the cosine 1, but for x² / 2. v is |x| in units of 2 ^ -149
+-- ---- below 2 ^ -12 the sine is x itself, but for x³ / 6, and the cosine 1, but for x² / 2. v is |x| in units of 2 ^ -149, and w the unit just below it
 -- |x|² is at most 2 ^ -24
 sq_small : (n d : ℕ) → n * 2 ^ 12 ≤ d → n * n * 2 ^ 24 ≤ d * d
 sq_small n d small = omega (arith, mul-le-mul small small)
@@ -303,7 +300,7 @@ falls-small n d small w k l = le_trans (mul-le-mul n≤d n≤d) (le-mul_of_pos_r
     positive o = omega arith
 
 module _ (n d v w m : ℕ) (D : 0 < d) (e : n * m ≡ v * d) (small : n * 2 ^ 12 ≤ d) (W : v ≤ w * 2 ^ 24) where
-  -- |x|³ is at most an ulp
+  -- |x|³ is at most w
   cube : v * (n * n) ≤ w * (d * d)
   cube = omega (arith, mul-le-mul_right (n * n) W, mul-le-mul_left w (sq_small n d small))
 
@@ -322,27 +319,35 @@ module _ (n d v w m : ℕ) (D : 0 < d) (e : n * m ≡ v * d) (small : n * 2 ^ 12
   limit₁ = later Ksin n d n d 1 9 (16 * m) (16 * v) 0 (15 * w) (lit≤ tt) (limit Ksin n d (16 * m) (16 * v) 0 (15 * w) n d 1 (falls-small n d small sine) low₁ high₁)
 
 module _ (n d : ℕ) (small : n * 2 ^ 12 ≤ d) where
-  cos-low : (w : ℕ) → Low Kcos n d (16 * (w * 2 ^ 23)) (16 * (w * 2 ^ 23)) 0 (15 * w) (sums Kcos n d 1 1 1)
+  cos-low : (w : ℕ) → Low Kcos n d (16 * (w * 2 ^ 24)) (16 * (w * 2 ^ 24)) 0 (15 * w) (sums Kcos n d 1 1 1)
   unfolding sums
   cos-low w = omega (arith, mul-le-mul_right (w * (d * d)) (sq_small n d small))
 
-  cos-high : (w : ℕ) → High Kcos n d (16 * (w * 2 ^ 23)) (16 * (w * 2 ^ 23)) 0 (15 * w) (sums Kcos n d 1 1 1)
+  cos-high : (w : ℕ) → High Kcos n d (16 * (w * 2 ^ 24)) (16 * (w * 2 ^ 24)) 0 (15 * w) (sums Kcos n d 1 1 1)
   unfolding sums
   cos-high w = omega (arith, mul-le-mul_right (w * (n * n)) (sq_small n d small))
 
-  cos-limit : Limit Kcos n d 1 1 9 (16 * 2 ^ 149) (16 * 2 ^ 149) 0 (15 * 2 ^ 126)
-  cos-limit = later Kcos n d 1 1 1 9 (16 * 2 ^ 149) (16 * 2 ^ 149) 0 (15 * 2 ^ 126) (lit≤ tt) (limit Kcos n d (16 * 2 ^ 149) (16 * 2 ^ 149) 0 (15 * 2 ^ 126) 1 1 1 (falls-small n d small cosine) (cos-low (2 ^ 126)) (cos-high (2 ^ 126)))
+  cos-limit : Limit Kcos n d 1 1 9 (16 * 2 ^ 149) (16 * 2 ^ 149) 0 (15 * 2 ^ 125)
+  cos-limit = later Kcos n d 1 1 1 9 (16 * 2 ^ 149) (16 * 2 ^ 149) 0 (15 * 2 ^ 125) (lit≤ tt) (limit Kcos n d (16 * 2 ^ 149) (16 * 2 ^ 149) 0 (15 * 2 ^ 125) 1 1 1 (falls-small n d small cosine) (cos-low (2 ^ 125)) (cos-high (2 ^ 125)))
+
+-- sums within the unit just below are near enough to both sides
+sided_small : (K : ℕ → ℕ) (n d a b v : ℕ) → Limit K n d a b 9 unity (16 * v) 0 (15 * 2 ^ (size (v - 1) - 24)) → SidedAt true K n d a b 9 v
+sided_small K n d a b v L = limit-either true K n d a b 9 unity (16 * v) _ 1 v _ _ (low v _) (high v _ _ (below_le v)) L
+  where
+    low : (v l : ℕ) → 16 * v + 15 * l * 1 ≤ 16 * v * 1 + 15 * l
+    low v l = omega arith
+
+    high : (v l h : ℕ) → l ≤ h → (16 * v + 15 * l) * 1 ≤ 16 * v + 15 * h
+    high v l h k = omega arith
 
 small_at : (w : Kind) (b : ℕ) (s : Bool) (v m : ℕ) (a : Bool) (e : ℤ) → of_bits binary32 b ≡ fin a m e → HasValue (fin a m e) s v (2 ^ 149) → m * up e * 2 ^ 12 ≤ down e → NearWave w (fin a m e) (of_bits binary32 (at_small w b))
 unfolding size
 small_at sine b s v m a e E h sm =
     let n = m * up e in
     let d = down e in
-    let st : steps (fin a m e) ≡ v = steps-is (fin a m e) s v h in
     subst (λ (r : Float). NearWave sine (fin a m e) r) (sym E)
-    (subst₂ (λ (y : Bool) (z : ℕ). Limit Ksin n d n d 9 (16 * 2 ^ 149) (16 * cond y z 0) (16 * cond y 0 z) (15 * 2 ^ (size z - 24))) (sym (same_sign a)) (sym st)
-    (limit₁ n d v (2 ^ (size v - 24)) (2 ^ 149) (down_pos e) h.1 sm (ulps v)))
-small_at cosine b s v m a e E h sm = subst (λ (r : Float). NearWave cosine (fin a m e) r) (sym one_f32_is) (cos-limit (m * up e) (down e) sm)
+    (subst₂ (λ (y : Bool) (z : ℕ). SidedAt y Ksin n d n d 9 z) (sym (same_sign a)) (sym (steps-is (fin a m e) s v h)) (sided_small Ksin n d n d v (limit₁ n d v (2 ^ (size (v - 1) - 24)) (2 ^ 149) (down_pos e) h.1 sm (below_ulps v))))
+small_at cosine b s v m a e E h sm = subst (λ (r : Float). NearWave cosine (fin a m e) r) (sym one_f32_is) (sided_small Kcos (m * up e) (down e) 1 1 (2 ^ 149) (cos-limit (m * up e) (down e) sm))
 
 near-small : (w : Kind) (b : ℕ) (s : Bool) (v : ℕ) (x : Float) → of_bits binary32 b ≡ x → HasValue x s v (2 ^ 149) → v ≤ 2 ^ 137 → NearWave w x (of_bits binary32 (at_small w b))
 near-small w b s v nan E h k = absurd h

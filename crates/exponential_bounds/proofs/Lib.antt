@@ -1,4 +1,5 @@
 -- Terms and powers of e for exp; the area tangent for ln.
+pub mod Units
 pub mod Terms
 mod PowerOfTwo
 pub mod ExpPower

@@ -1,80 +1,98 @@
--- ln (m / 2 ^ 23 * 2 ^ E) and -ln (m / 2 ^ 23 * 2 ^ -E) as S units of 2 ^ -56: what S is off is at most 7/16 of the place to which it is rounded, so the rounded S is at most 15/16 of it from the logarithm.
-use mathlib.Core.Path.{◌≡◌, refl, sym, ap, subst}
+-- ln (m / 2 ^ 23 * 2 ^ E) and -ln (m / 2 ^ 23 * 2 ^ -E) as S units of 2 ^ -56: what S is off is at most 7/16 of the place to which it is rounded, so the rounded S is at most 15/16 of it from the logarithm. Where the 24 bits are 2 ^ 23 the rounding was downwards, so below there is only what S is off, less than 15/16 of half of the place.
+use mathlib.Core.Path.{◌≡◌, refl, sym, ap, ◌∙◌, subst}
 use Prim.Native.Nat.{ℕ, ◌+◌, ◌-◌, ◌*◌, ◌^◌, ◌≤◌, ◌<◌}
-use native.Mathlib.Nat.{le_trans, le_of_eq, mul-le-mul_left, mul-le-mul_right, le_of_mul-le-mul_right, sub-add_cancel}
+use native.Mathlib.Nat.{le_trans, le_of_eq, lt_of_lt_of_le, mul_comm, mul-sub, mul-le-mul_left, mul-le-mul_right, le_of_mul-le-mul_right, sub-add_cancel}
 use native.Mathlib.Omega.{arith}
 use lib.Dec.{lit≤, lit<}
-use lib.Pow.{pow_pos}
+use lib.Pow.{pow_pos, pow-add}
+use lib.Count.{count_leading_zeros}
 use lib.ListN.{get_or}
 use Rattle.cases.proofs.Cases.{split}
 use Rattle.fixed.specs.Fixed.{mant}
-use Rattle.fixed.proofs.Round.{grain, rounded, place, place_is}
+use Rattle.fixed.proofs.Round.{grain, top_of, rounded, place, place_is}
 use Rattle.exponential.specs.Tables.{ln2}
 use Rattle.logarithm.specs.Tables.{eighths}
 use Rattle.logarithm.specs.Ln.{twice_of, index, centre, rest_of}
 use Rattle.logarithm.proofs.LnRange as range
 use Rattle.series.specs.Series.{ExpLe, ExpGe}
+use Rattle.exponential_bounds.proofs.Units.{unit, unit_below, Units, units_of}
 use Rattle.exponential_bounds.proofs.Exponents.{le-times, ge-times, le-over, ge-over, lower-le, upper-ge}
 use Rattle.exponential_bounds.proofs.Twice.{give}
 use Rattle.exponential_bounds.proofs.LnRest.{Near, rest_up, rest-down, eighth-first, power_le, power-ge}
 
 -- ---- S rounded to 24 bits: 64 grains are one unit of the last place, so 28 grains are 7/16 of it
-record Placed (S : ℕ) : Type 0 where
+record Placed (S v : ℕ) : Type 0 where
   pub enough : 28 * grain S ≤ S
-  pub low : (16 * (mant S * place S) - 15 * place S) * 2 ^ 56 ≤ (S - 28 * grain S) * (16 * 2 ^ 149)
-  pub high : (S + 28 * grain S) * (16 * 2 ^ 149) ≤ (16 * (mant S * place S) + 15 * place S) * 2 ^ 56
+  pub low : (16 * v - 15 * unit_below v) * 2 ^ 56 ≤ (S - 28 * grain S) * (16 * 2 ^ 149)
+  pub high : (S + 28 * grain S) * (16 * 2 ^ 149) ≤ (16 * v + 15 * unit v) * 2 ^ 56
 
-module _ (S μ o u Q T B : ℕ) (e : u ≡ Q * o) (f : Q * T ≡ 64 * B) (m : 2 ^ 23 ≤ μ) (a : 64 * (μ * o) ≤ S + 32 * o) (b : S ≤ 64 * (μ * o) + 32 * o) where
+module _ (S μ o u Q T B l t : ℕ) (e : u ≡ Q * o) (f : Q * T ≡ 64 * B) (a : 64 * (μ * o) ≤ S + 32 * o) (b : S ≤ 64 * (μ * o) + 32 * o) (c : 64 * (2 ^ 23 * o) ≤ S) (U : Units μ u l t) where
   enough : 28 * o ≤ S
-  enough = omega (arith, mul-le-mul_right o m)
+  enough = omega (arith, c)
 
   u_t : u * T ≡ 64 * (o * B)
   u_t = omega (arith, ap (λ (x : ℕ). x * T) e, ap (λ (x : ℕ). o * x) f)
 
-  low-go : (n s : ℕ) → n + 15 * u ≡ 16 * (μ * u) → s + 28 * o ≡ S → n * T ≤ s * (16 * B)
-  low-go n s p q = omega (arith, u_t, ap (λ (x : ℕ). μ * x) u_t, ap (λ (x : ℕ). x * T) p, ap (λ (x : ℕ). x * B) q, mul-le-mul_right B a)
+  low-go : (s : ℕ) → s + 28 * o ≡ S → 16 * (μ * u) * T ≤ s * (16 * B) + 15 * l * T
+  low-go s q =
+      split (2 ^ 23) μ
+      (λ k. omega (arith, u_t, ap (λ (x : ℕ). μ * x) u_t, ap (λ (x : ℕ). x * B) q, mul-le-mul_right B a, mul-le-mul_right T (U.whole k)))
+      (λ k. omega (arith, u_t, ap (λ (x : ℕ). μ * x) u_t, ap (λ (x : ℕ). x * B) q, mul-le-mul_right (o * B) k, mul-le-mul_right B c, mul-le-mul_right T U.half))
 
-  high-go : (S + 28 * o) * (16 * B) ≤ (16 * (μ * u) + 15 * u) * T
-  high-go = omega (arith, u_t, ap (λ (x : ℕ). μ * x) u_t, mul-le-mul_right B b)
+  high-go : (S + 28 * o) * (16 * B) ≤ (16 * (μ * u) + 15 * t) * T
+  high-go = omega (arith, u_t, ap (λ (x : ℕ). μ * x) u_t, mul-le-mul_right B b, mul-le-mul_right T U.own)
 
-  more : 15 * u ≤ 16 * (μ * u)
-  more = omega (arith, mul-le-mul_right u m)
+-- without its leading zeros S is at least 2 ^ 63, so it is at least 2 ^ 29 grains
+grains : (S : ℕ) → 2 ^ 30 ≤ S → S < 2 ^ 64 → 64 * (2 ^ 23 * grain S) ≤ S
+grains S big fits =
+    let l = count_leading_zeros 64 S in
+    let few : l ≤ 34 = le_trans (rounded S big fits).few (lit≤ tt) in
+    le_of_mul-le-mul_right {k = 2 ^ l} (go (grain S) (2 ^ l) (sym (pow-add 2 (34 - l) l) ∙ ap (λ (x : ℕ). 2 ^ x) (sub-add_cancel few)) (top_of S (lt_of_lt_of_le (lit< tt) big) fits).full) (pow_pos l)
+  where
+    go : (o c : ℕ) → o * c ≡ 2 ^ 34 → 2 ^ 63 ≤ S * c → 64 * (2 ^ 23 * o) * c ≤ S * c
+    go o c e h = omega (arith, e, h)
 
-placed : (S : ℕ) → 2 ^ 30 ≤ S → S < 2 ^ 64 → Placed S
+placed : (S : ℕ) → 2 ^ 30 ≤ S → S < 2 ^ 64 → Placed S (mant S * place S)
 placed S big fits =
     let R = rounded S big fits in
+    let v = mant S * place S in
     let e = place_is S R.few in
     let f : 2 ^ 99 * 2 ^ 56 ≡ 64 * 2 ^ 149 = refl in
-    let M = more S (mant S) (grain S) (place S) (2 ^ 99) (2 ^ 56) (2 ^ 149) e f R.least R.over R.under in
-    let N = enough S (mant S) (grain S) (place S) (2 ^ 99) (2 ^ 56) (2 ^ 149) e f R.least R.over R.under in
+    let c = grains S big fits in
+    let U = units_of (mant S) (133 - count_leading_zeros 64 S) R.least in
+    let N = enough S (mant S) (grain S) (place S) (2 ^ 99) (2 ^ 56) (2 ^ 149) (unit_below v) (unit v) e f R.over R.under c U in
     record {
       enough = N;
-      low = low-go S (mant S) (grain S) (place S) (2 ^ 99) (2 ^ 56) (2 ^ 149) e f R.least R.over R.under (16 * (mant S * place S) - 15 * place S) (S - 28 * grain S) (sub-add_cancel M) (sub-add_cancel N);
-      high = high-go S (mant S) (grain S) (place S) (2 ^ 99) (2 ^ 56) (2 ^ 149) e f R.least R.over R.under;
+      low = taken (16 * v) (15 * unit_below v) (2 ^ 56) ((S - 28 * grain S) * (16 * 2 ^ 149)) (low-go S (mant S) (grain S) (place S) (2 ^ 99) (2 ^ 56) (2 ^ 149) (unit_below v) (unit v) e f R.over R.under c U (S - 28 * grain S) (sub-add_cancel N));
+      high = high-go S (mant S) (grain S) (place S) (2 ^ 99) (2 ^ 56) (2 ^ 149) (unit_below v) (unit v) e f R.over R.under c U;
     }
+  where
+    taken : (x y T z : ℕ) → x * T ≤ z + y * T → (x - y) * T ≤ z
+    taken x y T z h = le_trans (le_of_eq (mul_comm (x - y) T ∙ mul-sub T x y)) (omega (arith, h))
 
--- what is to be shown of S: rounded to 24 bits, its exponent less and more 15/16 of a unit encloses a / b
+-- what is to be shown of S: rounded to 24 bits, its exponent less 15/16 of the unit below it and more 15/16 of its own encloses a / b
 pub record Good (S a b : ℕ) : Type 0 where
   pub from : 2 ^ 30 ≤ S
   pub fits : S < 2 ^ 64
-  pub low : ExpLe (16 * (mant S * place S) - 15 * place S) (16 * 2 ^ 149) a b
-  pub high : ExpGe (16 * (mant S * place S) + 15 * place S) (16 * 2 ^ 149) a b
+  pub low : ExpLe (16 * (mant S * place S) - 15 * unit_below (mant S * place S)) (16 * 2 ^ 149) a b
+  pub high : ExpGe (16 * (mant S * place S) + 15 * unit (mant S * place S)) (16 * 2 ^ 149) a b
 
 good : (S a b x y w : ℕ) → 2 ^ 30 ≤ S → S < 2 ^ 64 → w ≤ 28 * grain S → ExpLe x (2 ^ 56) a b → ExpGe y (2 ^ 56) a b → S ≤ x + w → y ≤ S + w → Good S a b
 good S a b x y w g f W X Y s t =
     let P = placed S g f in
+    let v = mant S * place S in
     record {
       from = g;
       fits = f;
-      low = lower-le (16 * (mant S * place S) - 15 * place S) (16 * 2 ^ 149) x (2 ^ 56) a b (lit< tt) (pow_pos 56) (le_trans P.low (mul-le-mul_right (16 * 2 ^ 149) (less (28 * grain S) W))) X;
-      high = upper-ge (16 * (mant S * place S) + 15 * place S) (16 * 2 ^ 149) y (2 ^ 56) a b (lit< tt) (pow_pos 56) (le_trans (mul-le-mul_right (16 * 2 ^ 149) (more' (28 * grain S) W)) P.high) Y;
+      low = lower-le (16 * v - 15 * unit_below v) (16 * 2 ^ 149) x (2 ^ 56) a b (lit< tt) (pow_pos 56) (le_trans P.low (mul-le-mul_right (16 * 2 ^ 149) (less (28 * grain S) W))) X;
+      high = upper-ge (16 * v + 15 * unit v) (16 * 2 ^ 149) y (2 ^ 56) a b (lit< tt) (pow_pos 56) (le_trans (mul-le-mul_right (16 * 2 ^ 149) (more (28 * grain S) W)) P.high) Y;
     }
   where
     less : (o : ℕ) → w ≤ o → S - o ≤ x
     less o p = omega arith
 
-    more' : (o : ℕ) → w ≤ o → y ≤ S + o
-    more' o p = omega arith
+    more : (o : ℕ) → w ≤ o → y ≤ S + o
+    more o p = omega arith
 
 -- S is at most 2 ^ 30 + 32 grains
 within : (S w : ℕ) → 2 ^ 30 ≤ S → S < 2 ^ 64 → w * (2 ^ 30 + 32) ≤ 28 * S → w ≤ 28 * grain S

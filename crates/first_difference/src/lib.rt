@@ -15,7 +15,7 @@ fn feed(b: u8) -> u64
 
 // The number of the first line of theirs that is not ours, counted from 1: byte by byte, counting lines.
 // Stays: `ours` and `theirs` beside each other are two texts with lengths of their own; one list of pairs could not hold them.
-pub fn compare(ours: &[u8], theirs: &[u8]) -> Option<u64>
+pub fn verdict(ours: &[u8], theirs: &[u8]) -> Option<u64>
     ensures { result ≡ verdict_of ours.now theirs.now }
 {
     let mut line: u64 = 1;

@@ -1,7 +1,9 @@
 // The forty densities of the sum of `gethp`: the nodes' heights, a density read at each by one walk or by forty scans, and cut.
 #![tactic(auto)]
 
-ghost use Rattle.std.specs.Prelude.{◌≡◌, ◌<◌, eqb};
+ghost use Rattle.std.specs.Prelude.{◌≡◌, ℕ, ◌<◌, eqb, T};
+ghost use Rattle.scalar.specs.F32.{◌≤f◌, at};
+ghost use Rattle.scalar.specs.Literals.{f0_9999};
 ghost use Rattle.forty_reads.specs.Nodes.{zg_by, height_of, ig_at, ib_at};
 ghost use Rattle.forty_reads.specs.Walk.{walk_reads, scan_reads, table_by, cursor_after, cursor_read_by};
 
@@ -112,13 +114,15 @@ fn scan_reads(p: Profile, ht: f32) -> Densities
 // Stays: `p` stands where the Rust has its state, beside its `ht` and `fr`, and one of two ways to read is
 // chosen by its own test, `if !s.htr_rises`.
 pub fn gethp_densities(p: Profile, ht: f32, fr: f32) -> Densities
-    ensures { (result.ysq ≡ table_by p.entry.rises p.entry.htr.now p.entry.fnsq.now ht fr) × (result.cursor ≡ cursor_read_by p.entry.rises p.entry.htr.now p.entry.fnsq.now ht) }
+    ensures { (result.ysq ≡ table_by p.entry.rises p.entry.htr.now p.entry.fnsq.now ht fr) × (result.cursor ≡ cursor_read_by p.entry.rises p.entry.htr.now p.entry.fnsq.now ht) × ((k : ℕ) → k < 40 → T (at result.ysq k ≤f f0_9999)) }
 {
-    let mut d = if p.rises {
+    let d = if p.rises {
         walk_reads(p, ht)
     } else {
         scan_reads(p, ht)
     };
-    integrands::shares(&mut d.ysq, fr);
-    d
+    Densities {
+        ysq: integrands::shares(d.ysq, fr),
+        cursor: d.cursor,
+    }
 }

@@ -1,9 +1,10 @@
 // Heights of a vertical frequency off the profile, by a Gauss rule or the exact one: `gethp`.
 #![tactic(auto)]
 
-ghost use Rattle.std.specs.Prelude.{false, ◌&&◌, ◌≡◌};
-ghost use Rattle.scalar.specs.F32.{◌>f◌};
-ghost use Rattle.scalar.specs.Literals.{f0};
+ghost use Rattle.std.specs.Prelude.{false, ◌&&◌, ◌≡◌, ℕ, ◌<◌, T};
+ghost use Rattle.scalar.specs.F32.{◌≤f◌, ◌>f◌, at};
+ghost use Rattle.scalar.specs.Literals.{f0, f0_9999};
+ghost use Rattle.walk.specs.Walk.{EachF32};
 ghost use Rattle.forty_reads.specs.Walk.{flat, ysq_read_by, cursor_read_by};
 ghost use Rattle.heights.specs.Gethp.{hp_of, heights_by, gethp_of, gethp_scan_of};
 ghost use Rattle.heights.specs.Walk.{gethp_read_of};
@@ -52,10 +53,11 @@ static WT: [f32; 20] = [
 ];
 
 // From `ig` 0 up, as in the Rust: another order of the sum would be rounded otherwise.
-fn quadrature(ysq: &[f32; 40]) -> f32
-    ensures { result ≡ hp_of (flat ysq.now) 20 }
+fn quadrature(ysq: [f32; 40]) -> f32
+    requires { (k : ℕ) → k < 40 → T (at ysq k ≤f f0_9999) }
+    ensures { result ≡ hp_of (flat ysq) 20 }
 {
-    let mup = integrands::integrands(*ysq);
+    let mup = integrands::integrands(ysq);
     let mut hp = 0.0;
     // Stays: the loop is the Rust's, over `ig`. `WT.iter().zip(mup.chunks_exact(2))` keeps the order too, and is no plainer: the two
     // integrands would be a list of two, of which it has to be shown that it is of two; the library has no lemma on chunks in a zip.
@@ -76,7 +78,7 @@ fn by_densities(p: Profile, ht: f32, fr: f32, segment: u32) -> Heights
     let h0 = p.htr[0];
     let hrmz = ht * 0.5 * 1.0;
     let d = gethp_densities(p, ht, fr);
-    let hp = quadrature(&d.ysq);
+    let hp = quadrature(d.ysq);
     Heights {
         hp: h0 + hrmz * hp,
         ht: h0 + ht,
@@ -142,22 +144,28 @@ pub fn lent(s: &IonoState, rises: bool) -> Profile<'_>
 
 // The heights of the vertical frequency `fxx`, densities read by a walk or by scans: `gethp` where `rises` is what the rising test says of the state's heights, for a caller that asks for many frequencies on one profile.
 // Stays: `s` and `fxx` are the Rust's parameters, and `rises` goes beside `s` where the test is made once.
-pub fn gethp_rising(s: IonoState, rises: bool, fxx: f32) -> Heights
-    ensures { result ≡ gethp_read_of s.exact_virtual_height rises s.htr s.fnsq fxx }
+pub fn gethp_rising(s: &IonoState, rises: bool, fxx: f32) -> Heights
+    ensures { result ≡ gethp_read_of s.now.exact_virtual_height rises s.now.htr s.now.fnsq fxx }
 {
-    gethp_read(lent(&s, rises), s.exact_virtual_height, fxx)
+    gethp_read(lent(s, rises), s.exact_virtual_height, fxx)
 }
 
+// That the format holds each height, which is known of an array by value. No copy of it is made.
+fn held(htr: [f32; 50])
+    ensures { EachF32 htr }
+{}
+
 // The virtual and the true height of the vertical frequency `fxx`. The heights are tested here: the state's rising mark is not read.
-pub fn gethp(s: IonoState, fxx: f32) -> Heights
-    ensures { result ≡ gethp_of s fxx }
+pub fn gethp(s: &IonoState, fxx: f32) -> Heights
+    ensures { result ≡ gethp_of s.now fxx }
 {
+    held(s.htr);
     gethp_rising(s, rises_throughout(&s.htr), fxx)
 }
 
 // The same by forty scans on every profile where densities are read.
-pub fn gethp_scan(s: IonoState, fxx: f32) -> Heights
-    ensures { result ≡ gethp_scan_of s fxx }
+pub fn gethp_scan(s: &IonoState, fxx: f32) -> Heights
+    ensures { result ≡ gethp_scan_of s.now fxx }
 {
     gethp_rising(s, false, fxx)
 }

@@ -1,6 +1,7 @@
 -- `hop_geometry` of the Rust, with the paper's refusal of a hop count outside 0 to 999.
 use Rattle.std.specs.Prelude.{Bool, true, false, not, cond, ◌&&◌, ◌≡◌, eqb, Result, Ok, Err, ℤ, pos, ◌+ℤ◌, Float}
 use Rattle.std.specs.Int.Signed.{lt_z}
+use Rattle.std.specs.Result.{result_unwrap_or}
 use Rattle.std.specs.Float.{binary32}
 use Rattle.std.specs.Float.Ieee.{of_int}
 use Rattle.scalar.specs.F32.{◌+f◌, ◌-f◌, ◌*f◌, ◌/f◌}
@@ -32,11 +33,6 @@ hops_by false false nhops = Ok (of_int binary32 (nhops +ℤ pos 1))
 unfoldable pub hops_of : Float → Float → Float → Result Float Refusal
 hops_of gcdkm amind h = let nhops = trunc_of (hop_ratio_of gcdkm amind h) in hops_by (lt_z nhops (pos 0)) (lt_z (pos 999) nhops) nhops
 
--- the count, +0 beside a refusal
-abbrev pub hops_value : Result Float Refusal → Float
-hops_value (Ok xhops) = xhops
-hops_value (Err r) = f0
-
 -- by these an answer says: 0, and one hop more than the truncated ratio, where that is neither below 0 nor above 999; else 11, and +0
 abbrev pub few : ℤ → Bool
 few nhops = not (lt_z nhops (pos 0)) && not (lt_z (pos 999) nhops)
@@ -44,7 +40,7 @@ few nhops = not (lt_z nhops (pos 0)) && not (lt_z (pos 999) nhops)
 unfoldable pub HopsSay : Result Float Refusal → Float → Float → Float → Type 0
 HopsSay r gcdkm amind h =
     let nhops = trunc_of (hop_ratio_of gcdkm amind h) in
-    (answer_number r ≡ cond (few nhops) 0 11) × (hops_value r ≡ cond (few nhops) (of_int binary32 (nhops +ℤ pos 1)) f0)
+    (answer_number r ≡ cond (few nhops) 0 11) × (result_unwrap_or r f0 ≡ cond (few nhops) (of_int binary32 (nhops +ℤ pos 1)) f0)
 
 -- split_first: E and F1, where two divisions are rounded
 abbrev pub psi_of : Float → Float → Bool → Float
@@ -93,4 +89,4 @@ unfoldable pub GeometrySays : Result HopGeometry Refusal → Float → Float →
 GeometrySays r gcdkm amind hp ht split_first =
     let count = hops_of gcdkm amind hp in
     let number = answer_number count in
-    (answer_number r ≡ number) × (geometry_value r ≡ cond (eqb number 0) (hop_geometry_of gcdkm (hops_value count) hp ht split_first) no_geometry)
+    (answer_number r ≡ number) × (geometry_value r ≡ cond (eqb number 0) (hop_geometry_of gcdkm (result_unwrap_or count f0) hp ht split_first) no_geometry)

@@ -48,7 +48,7 @@ fn line_into(l: LayerMuf, out: &mut [u32], from: usize)
     let hops = from + 7;
     let nhopmf = l.nhopmf;
     ten_into(l, out, from);
-    out[hops] = port_state::word(nhopmf);
+    out[hops] = port_state::word_of(nhopmf);
 }
 
 fn head_into(h: MufHour, out: &mut [u32])
@@ -59,7 +59,7 @@ fn head_into(h: MufHour, out: &mut [u32])
         h.emuf, h.f1muf, h.f2muf, h.esmuf, h.allmuf, h.fot, h.hpf, h.angmuf,
     ];
     port_state::floats_into(&x, out, 0);
-    out[8] = port_state::word(h.modmuf);
+    out[8] = port_state::word_of(h.modmuf);
     out[9] = port_state::count(h.ks);
 }
 

@@ -1,27 +1,39 @@
 // What the forty densities of the Gauss rule come to: each over the squared frequency, cut, and 1 over
 // the root of what it leaves of 1. Each step is made for all forty before the next, so that the compiler
-// makes vector instructions of the differences and of the divisions of 1.
+// makes vector instructions of it; floats are compared in a step of its own, which does nothing else.
 #![tactic(auto)]
 
-ghost use Rattle.std.specs.Prelude.{◌≡◌, map};
+ghost use Rattle.std.specs.Prelude.{◌≡◌, map, ℕ, ◌<◌, T};
+ghost use Rattle.scalar.specs.F32.{◌≤f◌, at};
+ghost use Rattle.scalar.specs.Literals.{f0_9999};
+ghost use Rattle.scalar.specs.Scalar.{min_of};
 ghost use Rattle.integrands.specs.Integrands.{share_of, integrand_of};
 
-// Each density becomes its share of `fr`, cut at 0.9999; a NaN becomes 0.9999.
-// Stays: a loop, since by `std::array::from_fn` here too `gethp` takes 1.03 of the time.
-pub fn shares(densities: &mut [f32; 40], fr: f32)
-    ensures { densities.new ≡ map (λ d. share_of d fr) densities.old }
+use std::array::from_fn;
+
+// Cut at 0.9999; a NaN becomes 0.9999.
+// Stays: one test where `scalar::min` has two, of which the compiler makes no vector instructions.
+fn cut(x: f32) -> f32
+    ensures { (result ≡ min_of x f0_9999) × T (result ≤f f0_9999) }
 {
-    for d in densities {
-        *d = scalar::min(*d / fr, 0.9999);
-    }
+    if x <= 0.9999 { x } else { 0.9999 }
 }
 
-// 1 over the root of what each leaves of 1.
+// Each density's share of `fr`, cut.
+pub fn shares(densities: [f32; 40], fr: f32) -> [f32; 40]
+    ensures shares { result ≡ map (λ d. share_of d fr) densities }
+    ensures cut { (k : ℕ) → k < 40 → T (at result k ≤f f0_9999) }
+{
+    let share: [f32; 40] = from_fn(|k| densities[k] / fr);
+    from_fn(|k| cut(share[k]))
+}
+
+// 1 over the root of what each leaves of 1, which is a number.
 pub fn integrands(ysq: [f32; 40]) -> [f32; 40]
+    requires { (k : ℕ) → k < 40 → T (at ysq k ≤f f0_9999) }
     ensures { result ≡ map integrand_of ysq }
 {
-    let rest: [f32; 40] = std::array::from_fn(|k| 1.0 - ysq[k]);
-    let mut root = [0.0; 40];
-    roots::roots(&rest, &mut root);
-    std::array::from_fn(|k| 1.0 / root[k])
+    let rest: [f32; 40] = from_fn(|k| 1.0 - ysq[k]);
+    let root = roots::roots(rest);
+    from_fn(|k| 1.0 / root[k])
 }

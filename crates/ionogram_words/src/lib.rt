@@ -12,7 +12,7 @@ use shapes::Mark;
 
 // out: the angle count. Stays: gcdkm and amind are the Rust's, and out is lent by a caller in C.
 #[tactic(auto, unfolding(crate::specs::Sang::sang_words))]
-pub fn sang(gcdkm: u32, amind: u32, out: &mut [u32]) -> Result<(), Refusal>
+pub fn sang_into(gcdkm: u32, amind: u32, out: &mut [u32]) -> Result<(), Refusal>
     ensures { (answer_number result ≡ (sang_words gcdkm amind out.old).number) × (out.new ≡ (sang_words gcdkm amind out.old).words) }
 {
     if out.len() < 1 {

@@ -3,6 +3,7 @@ use Rattle.hops.specs.declared.HopGeometry.{HopGeometry}
 use Rattle.refusal.specs.Number.{answer_number}
 use Rattle.refusal.specs.declared.Refusal.{Refusal}
 use Rattle.std.specs.Prelude.{Result, Ok, Err}
+use Rattle.std.specs.Result.{result_unwrap_or}
 use mathlib.Core.Bool.{Bool, true, false, cond}
 use mathlib.Core.List.{List}
 use mathlib.Core.Path.{◌≡◌, refl}
@@ -12,7 +13,7 @@ use Rattle.scalar.specs.F32.{◌*f◌, ◌≤f◌}
 use Rattle.scalar.specs.Literals.{f0, f0_01, f0_9, f1_1}
 use Rattle.scalar.specs.Scalar.{max_of}
 use Rattle.refusal.proofs.Numbers.{no_answer}
-use Rattle.deciles.specs.F2dis.{f2dis_of, deviation_value}
+use Rattle.deciles.specs.F2dis.{f2dis_of}
 use Rattle.hops.specs.Geometry.{geometry_of, geometry_value}
 use Rattle.hops.specs.declared.Round.{Round}
 use Rattle.heights.specs.Gethp.{gethp_of}
@@ -28,7 +29,7 @@ use Rattle.tangents.specs.declared.F2Tangent.{F2Tangent}
 use Rattle.e_lines.specs.declared.HeightPair.{HeightPair}
 use Rattle.layer_mufs.specs.declared.Deviations.{Deviations}
 
-both_by_lem : (low high : Result Float Refusal) → let r = both_by low high in let number = first_refusal_number (answer_number low) (answer_number high) in (answer_number r ≡ number) × (lower_value r ≡ cond (eqb number 0) (max_of (deviation_value low) f0_01) f0) × (upper_value r ≡ cond (eqb number 0) (max_of (deviation_value high) f0_01) f0)
+both_by_lem : (low high : Result Float Refusal) → let r = both_by low high in let number = first_refusal_number (answer_number low) (answer_number high) in (answer_number r ≡ number) × (lower_value r ≡ cond (eqb number 0) (max_of (result_unwrap_or low f0) f0_01) f0) × (upper_value r ≡ cond (eqb number 0) (max_of (result_unwrap_or high f0) f0_01) f0)
 both_by_lem (Ok l) (Ok u) = (refl, refl, refl)
 both_by_lem (Ok l) (Err r) = (refl, rw (no_answer r), rw (no_answer r))
 both_by_lem (Err r) u = (rw (no_answer r), rw (no_answer r, no_answer r), rw (no_answer r, no_answer r))

@@ -2,10 +2,11 @@
 use Rattle.refusal.specs.Number.{answer_number}
 use Rattle.refusal.specs.declared.Refusal.{Refusal}
 use Rattle.std.specs.Prelude.{true, false, cond, List, ◌≡◌, ℕ, eqb, Float, Result}
+use Rattle.std.specs.Result.{result_unwrap_or}
 use Rattle.scalar.specs.F32.{◌*f◌, ◌≤f◌}
 use Rattle.scalar.specs.Literals.{f0, f0_01, f0_9, f1_1}
 use Rattle.scalar.specs.Scalar.{max_of}
-use Rattle.deciles.specs.F2dis.{f2dis_of, deviation_value}
+use Rattle.deciles.specs.F2dis.{f2dis_of}
 use Rattle.hops.specs.Geometry.{geometry_of, geometry_value}
 use Rattle.heights.specs.Gethp.{gethp_of}
 use Rattle.layers.specs.declared.IonoState.{IonoState}
@@ -28,8 +29,8 @@ DeviationsSay r f2d f2muf ssn clat clck =
     let high = f2dis_of f2d f2muf ssn clat (f1_1 *f f2muf) clck in
     let number = first_refusal_number (answer_number low) (answer_number high) in
     (answer_number r ≡ number)
-    × (lower_value r ≡ cond (eqb number 0) (max_of (deviation_value low) f0_01) f0)
-    × (upper_value r ≡ cond (eqb number 0) (max_of (deviation_value high) f0_01) f0)
+    × (lower_value r ≡ cond (eqb number 0) (max_of (result_unwrap_or low f0) f0_01) f0)
+    × (upper_value r ≡ cond (eqb number 0) (max_of (result_unwrap_or high f0) f0_01) f0)
 
 -- the F2 line: its hops, then its deviations
 unfoldable pub F2Says : Result LayerMuf Refusal → IonoState → Slot → F2Tangent → List Float → Float → Float → PathNumbers → Type 0

@@ -43,10 +43,10 @@ fn parabolic(l: Slot, x: F2Tangent) -> HeightPair
 }
 
 // By parabolas only if F1 is missing: the closed form is of E and F2 alone.
-fn f2_heights(t: IonoState, l: Slot, x: F2Tangent) -> HeightPair
-    ensures { result ≡ f2_heights_with gethp_of t l x }
+fn f2_heights(t: &IonoState, l: Slot, x: F2Tangent) -> HeightPair
+    ensures { result ≡ f2_heights_with gethp_of t.now l x }
 {
-    if layers::profile_only(t) || l.fi1 > 0.0 {
+    if layers::profile_only(*t) || l.fi1 > 0.0 {
         return HeightPair::from(heights::gethp(t, x.fx2));
     }
     parabolic(l, x)
@@ -115,7 +115,7 @@ fn f2_bent(
 // Stays: t, l, x, f2d, clat, clck and c are no one thing: the profile, its slot, the tangents worked
 // out of it, the decile table, the point's latitude and clock, the circuit.
 pub fn f2_line(
-    t: IonoState,
+    t: &IonoState,
     l: Slot,
     x: F2Tangent,
     f2d: &[f32],
@@ -123,8 +123,8 @@ pub fn f2_line(
     clck: f32,
     c: PathNumbers,
 ) -> Result<LayerMuf, Refusal>
-    ensures value { result ≡ f2_line_of t l x f2d.now clat clck c }
-    ensures f2_says { F2Says result t l x f2d.now clat clck c }
+    ensures value { result ≡ f2_line_of t.now l x f2d.now clat clck c }
+    ensures f2_says { F2Says result t.now l x f2d.now clat clck c }
 {
     let h = f2_heights(t, l, x);
     let g = hops::hop_geometry(c.gcdkm, c.amind, h.hp, h.ht, false)?;
@@ -141,8 +141,8 @@ fn f1_found(g: HopGeometry, h: HeightPair, fc: f32, fx1: f32) -> LayerMuf
 }
 
 // Where there is an F1 layer.
-fn f1_own(t: IonoState, fc: f32, fx1: f32, c: PathNumbers) -> Result<LayerMuf, Refusal>
-    ensures { result ≡ f1_own_with gethp_of t fc fx1 c.gcdkm c.amind }
+fn f1_own(t: &IonoState, fc: f32, fx1: f32, c: PathNumbers) -> Result<LayerMuf, Refusal>
+    ensures { result ≡ f1_own_with gethp_of t.now fc fx1 c.gcdkm c.amind }
 {
     let h = HeightPair::from(heights::gethp(t, fx1));
     let g = hops::hop_geometry(c.gcdkm, c.amind, h.hp, h.ht, true)?;
@@ -151,14 +151,14 @@ fn f1_own(t: IonoState, fc: f32, fx1: f32, c: PathNumbers) -> Result<LayerMuf, R
 
 // Without an F1 the E line again; a NaN counts as an F1 here.
 pub fn f1_line(
-    t: IonoState,
+    t: &IonoState,
     l: Slot,
     fx1: f32,
     e: LayerMuf,
     c: PathNumbers,
 ) -> Result<LayerMuf, Refusal>
-    ensures value { result ≡ f1_line_of t l fx1 e c.gcdkm c.amind }
-    ensures f1_says { F1Says result t l fx1 e c.gcdkm c.amind }
+    ensures value { result ≡ f1_line_of t.now l fx1 e c.gcdkm c.amind }
+    ensures f1_says { F1Says result t.now l fx1 e c.gcdkm c.amind }
 {
     if l.fi1 <= 0.0 {
         return Ok(e);

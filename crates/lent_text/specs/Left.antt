@@ -15,9 +15,9 @@ abbrev pub refused_lent : ℕ → List ℕ → List ℕ → PortedText
 refused_lent number bytes words = record { number = number; bytes = bytes; words = words }
 
 -- the bytes of a text; a refusal has none
-abbrev pub bytes_of : Result (Bor (List ℕ)) Refusal → List ℕ
-bytes_of (Ok t) = t.now
-bytes_of (Err r) = []
+abbrev pub text_bytes : Result (Bor (List ℕ)) Refusal → List ℕ
+text_bytes (Ok t) = t.now
+text_bytes (Err r) = []
 
 -- the text at the start, its length as the first word; bytes and words past these stay
 abbrev pub left_by : {T : Type 0} → Result T Refusal → List ℕ → List ℕ → List ℕ → PortedText

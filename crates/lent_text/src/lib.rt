@@ -3,7 +3,7 @@
 
 ghost use Rattle.std.specs.Prelude.{◌≡◌, ◌≤◌, ◌<◌, length, IfOk};
 ghost use Rattle.refusal.specs.Number.{answer_number};
-ghost use Rattle.lent_text.specs.Left.{bytes_of, left_by};
+ghost use Rattle.lent_text.specs.Left.{text_bytes, left_by};
 
 use refusal::Refusal;
 
@@ -15,7 +15,7 @@ pub fn text_into(
     words: &mut [u32],
 ) -> Result<(), Refusal>
     requires { (1 ≤ length words.old) × IfOk text (λ t. (length t.now ≤ length out.old) × (length t.now < 0x1_0000_0000)) }
-    ensures { (answer_number result ≡ (left_by text.entry (bytes_of text.entry) out.old words.old).number) × ((out.new ≡ (left_by text.entry (bytes_of text.entry) out.old words.old).bytes) × (words.new ≡ (left_by text.entry (bytes_of text.entry) out.old words.old).words)) }
+    ensures { (answer_number result ≡ (left_by text.entry (text_bytes text.entry) out.old words.old).number) × ((out.new ≡ (left_by text.entry (text_bytes text.entry) out.old words.old).bytes) × (words.new ≡ (left_by text.entry (text_bytes text.entry) out.old words.old).words)) }
 {
     let text = text?;
     out[..text.len()].copy_from_slice(text);

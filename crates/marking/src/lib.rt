@@ -20,7 +20,7 @@ pub const ROOM: usize = 32;
 pub fn mark_sheet(file: &[u8], sheet: &[u8]) -> Result<Option<u64>, Refusal>
     ensures { result ≡ sheet_marked file.now sheet.now }
 {
-    let ours = sheet_text::answer(file)?;
+    let ours = sheet_text::sheet_page(file)?;
     marking_answer::marked(ours.text(), sheet)
 }
 

@@ -21,7 +21,7 @@ pub fn marked(ours: &[u8], theirs: &[u8]) -> Result<Option<u64>, Refusal>
     if theirs.len() > SHEET {
         return Err(Refusal::SheetLength);
     }
-    Ok(first_difference::compare(ours, theirs))
+    Ok(first_difference::verdict(ours, theirs))
 }
 
 #[tactic(auto, using(lines::proofs::Placing::putting), unfolding(crate::specs::Text::differs_text))]

@@ -145,9 +145,9 @@ fn regular_lines(
     ensures regular_says { RegularSays result t l f2d.now clat clck c }
 {
     let x = tangents::tangent_frequencies(l, c.gcdkm);
-    let e = e_lines::e_line(t, x.fxe, c.gcdkm, c.amind)?;
-    let f2 = layer_mufs::f2_line(t, l, x.f2, f2d, clat, clck, c)?;
-    let f1 = layer_mufs::f1_line(t, l, x.fx1, e, c)?;
+    let e = e_lines::e_line(&t, x.fxe, c.gcdkm, c.amind)?;
+    let f2 = layer_mufs::f2_line(&t, l, x.f2, f2d, clat, clck, c)?;
+    let f1 = layer_mufs::f1_line(&t, l, x.fx1, e, c)?;
     Ok(RegularLines { e, f1, f2 })
 }
 

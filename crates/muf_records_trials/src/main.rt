@@ -86,7 +86,7 @@ fn run(name: &[u8], km: usize, es: [EsParams; 5], gcdkm: f32) {
     let f2d = [0.0f32; 576];
     let clat = [0.7f32; 5];
     let clck = [12.0f32; 5];
-    match trial_slots::slots(km) {
+    match trial_slots::first_slots(km) {
         Ok(s) => lend(s, es, &f2d, &clat, &clck, circuit(gcdkm)),
         Err(r) => print(Err(r)),
     }

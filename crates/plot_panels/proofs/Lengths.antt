@@ -14,7 +14,7 @@ use Rattle.reflectrix.specs.declared.Ionogram.{Ionogram}
 use Rattle.shapes.specs.declared.Mark.{Mark}
 use Rattle.circuit_sheet.specs.declared.SlotRows.{SlotRows}
 use Rattle.circuit_sheet.specs.CircuitSheet.{no_slot_rows}
-use Rattle.circuit_plot.specs.declared.Profile.{Profile}
+use Rattle.circuit_plot.specs.declared.DrawnProfile.{DrawnProfile}
 use Rattle.circuit_plot.specs.declared.Plot.{Plot}
 use Rattle.aligned.specs.Ascii.{ascii}
 use Rattle.svg_trace.proofs.Lengths.{counted, trace}
@@ -44,11 +44,11 @@ height : (m : Mark) (density h : Float) → AtMost (height_text m density h) 72
 unfolding height_text
 height m density h = mark m (sqrt_of density) h
 
-profile : (p : Profile) (marks : List Mark) → AtMost (profile_text p marks) 3600
+profile : (p : DrawnProfile) (marks : List Mark) → AtMost (profile_text p marks) 3600
 unfolding profile_text
 profile p marks = times (height_text_at p marks) 72 50 (λ i l. height (get_or marks i no_mark) (at p.fnsq i) (at p.htr i))
 
-panel : (r : SlotRows) (p : Profile) (muf : Float) (ks k : ℕ) → AtMost (panel_text r p muf ks k) 6452
+panel : (r : SlotRows) (p : DrawnProfile) (muf : Float) (ks k : ℕ) → AtMost (panel_text r p muf ks k) 6452
 unfolding panel_text
 panel r p muf ks k = top k ks then muf-line muf then rows r.ion then profile p r.marks then word (ascii "</g>\n")
 

@@ -8,7 +8,7 @@ use Rattle.reflectrix.specs.declared.Ionogram.{Ionogram}
 use Rattle.shapes.specs.declared.Mark.{Mark}
 use Rattle.circuit_sheet.specs.declared.SlotRows.{SlotRows}
 use Rattle.circuit_sheet.specs.CircuitSheet.{no_slot_rows}
-use Rattle.circuit_plot.specs.declared.Profile.{Profile}
+use Rattle.circuit_plot.specs.declared.DrawnProfile.{DrawnProfile}
 use Rattle.circuit_plot.specs.declared.Plot.{Plot}
 use Rattle.aligned.specs.Ascii.{ascii}
 use Rattle.svg_trace.specs.Trace.{trace_text}
@@ -35,21 +35,21 @@ height_text m density h = mark_text m (sqrt_of density) h
 abbrev pub no_mark : Mark
 no_mark = Mark.None
 
-abbrev pub height_text_at : Profile → List Mark → ℕ → List ℕ
+abbrev pub height_text_at : DrawnProfile → List Mark → ℕ → List ℕ
 height_text_at p marks i = height_text (get_or marks i no_mark) (at p.fnsq i) (at p.htr i)
 
-unfoldable pub profile_text : Profile → List Mark → List ℕ
+unfoldable pub profile_text : DrawnProfile → List Mark → List ℕ
 profile_text p marks = joined (height_text_at p marks) 50
 
-unfoldable pub panel_text : SlotRows → Profile → Float → ℕ → ℕ → List ℕ
+unfoldable pub panel_text : SlotRows → DrawnProfile → Float → ℕ → ℕ → List ℕ
 panel_text rows p muf ks k =
     top_text k ks ++ (muf_text muf ++ (ionogram_paths rows.ion ++ (profile_text p rows.marks ++ ascii "</g>\n")))
 
 -- past the end, where no code reads
-abbrev pub no_profile : Profile
+abbrev pub no_profile : DrawnProfile
 no_profile = record { htr = []; fnsq = [] }
 
-abbrev pub panel_at : List SlotRows → List Profile → MufHour → ℕ → List ℕ
+abbrev pub panel_at : List SlotRows → List DrawnProfile → MufHour → ℕ → List ℕ
 panel_at rows profiles h k = panel_text (get_or rows k no_slot_rows) (get_or profiles k no_profile) h.allmuf h.ks k
 
 unfoldable pub picture_text : Plot → List ℕ

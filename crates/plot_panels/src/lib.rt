@@ -6,7 +6,7 @@ ghost use Rattle.std.specs.Prelude.{◌≡◌, ◌≤◌, ◌<◌};
 ghost use Rattle.lines.specs.Text.{joined, with_text};
 ghost use Rattle.plot_panels.specs.Panels.{named_text, top_text, ionogram_paths, height_text, profile_text, panel_text, panel_at, picture_text};
 
-use circuit_plot::{Plot, Profile};
+use circuit_plot::{DrawnProfile, Plot};
 use circuit_sheet::SlotRows;
 use lines::Page;
 use muf::MufHour;
@@ -57,7 +57,7 @@ fn put_height<const N: usize>(page: &mut Page<N>, m: Mark, density: f32, h: f32)
 }
 
 #[tactic(auto, using(lines::proofs::Placing::putting), unfolding(crate::specs::Panels::profile_text))]
-fn put_profile<const N: usize>(page: &mut Page<N>, p: &Profile, marks: &[Mark; 50])
+fn put_profile<const N: usize>(page: &mut Page<N>, p: &DrawnProfile, marks: &[Mark; 50])
     ensures { page.new ≡ with_text N page.old (profile_text p.now marks.now) }
 {
     for ((mark, density), h) in marks.iter().zip(&p.fnsq).zip(&p.htr) {
@@ -69,7 +69,7 @@ fn put_profile<const N: usize>(page: &mut Page<N>, p: &Profile, marks: &[Mark; 5
 fn put_panel<const N: usize>(
     page: &mut Page<N>,
     rows: &SlotRows,
-    p: &Profile,
+    p: &DrawnProfile,
     hour: &MufHour,
     k: usize,
 )

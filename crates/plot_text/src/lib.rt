@@ -14,7 +14,7 @@ pub fn plot_text(file: &[u8]) -> Page<ROOM>
     ensures { result ≡ plot_text file.now }
 {
     let mut page = Page::new();
-    match circuit_plot::of_file(file) {
+    match circuit_plot::plot_of(file) {
         Ok(p) => plot_panels::put_plot(&mut page, &p),
         Err(r) => page.put_refused(r),
     }

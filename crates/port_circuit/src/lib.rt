@@ -13,7 +13,7 @@ use circuit::Circuit;
 use refusal::Refusal;
 
 // N words from `from` on.
-pub fn words<const N: usize>(w: &[u32], from: usize) -> [u32; N]
+pub fn words_from<const N: usize>(w: &[u32], from: usize) -> [u32; N]
     requires { from + N ≤ length w.now }
     ensures { result ≡ words_from w.now from N }
 {
@@ -31,8 +31,8 @@ pub fn circuit_of(w: &[u32]) -> Circuit
         gcdkm: w[3],
         amind: w[4],
         ssn: w[5],
-        points: words(w, 6),
-        deciles: words(w, 81),
+        points: words_from(w, 6),
+        deciles: words_from(w, 81),
     }
 }
 

@@ -3,6 +3,7 @@
 #![tactic(auto)]
 
 ghost use Rattle.std.specs.Prelude.{◌≡◌, ℕ, ◌≤◌, length, Float, IfOk, Result};
+ghost use Rattle.std.specs.Borrow.{Bor};
 ghost use Rattle.refusal.specs.Number.{answer_number};
 ghost use Rattle.port_heights.specs.Exports.{state_with_room, heights_left, gethp_left, gethp_scan_left, reading_left, layer_left, bendy_left, pen_left, xlin_left};
 
@@ -12,6 +13,8 @@ use port_state::STATE_WORDS;
 use refusal::Refusal;
 
 // The state, where it has its words and there is room for n of the answer.
+// Inlined, so that the state is not copied out of the answer.
+#[inline(always)]
 #[tactic(auto, unfolding(crate::specs::Exports::state_with_room))]
 fn state_with_room(state: &[u32], out: &[u32], n: usize) -> Result<IonoState, Refusal>
     ensures state { result ≡ state_with_room state.now out.now n }
@@ -25,19 +28,19 @@ fn state_with_room(state: &[u32], out: &[u32], n: usize) -> Result<IonoState, Re
 
 // The heights by a rule.
 #[tactic(auto, unfolding(crate::specs::Exports::heights_left))]
-fn heights_by<F: FnOnce(IonoState, f32) -> Heights>(
+fn heights_by<F: FnOnce(&IonoState, f32) -> Heights>(
     state: &[u32],
     fxx: u32,
     out: &mut [u32],
     rule: F,
 ) -> Result<(), Refusal>
     requires called { F.IsAlwaysCallable rule }
-    requires cursor { (s : IonoState) (x : Float) (h : Heights) → F.post rule s x h → h.cursor ≤ 49 }
-    ensures { (of : IonoState → Float → Heights) → ((s : IonoState) (x : Float) (h : Heights) → F.post rule s x h → h ≡ of s x)
+    requires cursor { (s : Bor IonoState) (x : Float) (h : Heights) → F.post rule s x h → h.cursor ≤ 49 }
+    ensures { (of : IonoState → Float → Heights) → ((s : Bor IonoState) (x : Float) (h : Heights) → F.post rule s x h → h ≡ of s.now x)
         → (answer_number result ≡ (heights_left of state.now fxx out.old).number) × (out.new ≡ (heights_left of state.now fxx out.old).words) }
 {
     let s = state_with_room(state, out, 4)?;
-    height_words::heights_into(rule(s, scalar::number(fxx)), out);
+    height_words::heights_into(rule(&s, scalar::number(fxx)), out);
     Ok(())
 }
 

@@ -13,7 +13,7 @@ use refusal::Refusal;
 pub fn port_sang(gcdkm: u32, amind: u32, out: &mut [u32]) -> u32
     ensures { (result ≡ (sang_words gcdkm amind out.old).number) × (out.new ≡ (sang_words gcdkm amind out.old).words) }
 {
-    refusal::answer_number(&ionogram_words::sang(gcdkm, amind, out))
+    refusal::answer_number(&ionogram_words::sang_into(gcdkm, amind, out))
 }
 
 #[tactic(auto, unfolding(crate::specs::Exports::port_selmod))]

@@ -18,7 +18,7 @@ pub fn ionogram_of(w: &[u32]) -> Ionogram
         hprim: port_state::floats(w, 30),
         htrue: port_state::floats(w, 60),
         afac: port_state::floats(w, 90),
-        segment: port_circuit::words(w, 120),
+        segment: port_circuit::words_from(w, 120),
     }
 }
 

@@ -13,5 +13,5 @@ pub mod hour;
 pub fn port_f2dis(deciles: &[f32], numbers: &[u32], out: &mut [u32]) -> u32
     ensures { (result ≡ (f2dis_left deciles.now numbers.now out.old).number) × (out.new ≡ (f2dis_left deciles.now numbers.now out.old).words) }
 {
-    refusal::answer_number(&deviation_words::f2dis(deciles, numbers, out))
+    refusal::answer_number(&deviation_words::f2dis_into(deciles, numbers, out))
 }

@@ -9,7 +9,7 @@ use Rattle.std.proofs.Math.Seq.{drop-cons}
 use Rattle.std.proofs.lemmas.List.{get_or-map}
 use Rattle.sporadic.specs.Sporadic.{no_row, row_at}
 use Rattle.port_state.specs.Words.{number, floats_of}
-use Rattle.port_state.specs.Ports.{rows_of}
+use Rattle.port_state.specs.Ports.{five_rows_of}
 use Rattle.deviation_words.specs.Floats.{floats}
 use Rattle.port_nominal.specs.Exports.{word_row, word_rows}
 
@@ -28,7 +28,7 @@ module _ (w : List ℕ) where
   unfolding word_row
   row k h = rw (three (4 * k) (omega arith), one (4 * k) (omega arith), one (4 * k + 1) (omega arith), one (4 * k + 2) (omega arith), one (4 * k + 3) (omega arith)) refl
 
-  pub rows : (n : ℕ) → 4 * n ≤ length w → rows_of (row_at (floats w)) no_row n ≡ word_rows w n
-  unfolding rows_of
+  pub rows : (n : ℕ) → 4 * n ≤ length w → five_rows_of (row_at (floats w)) no_row n ≡ word_rows w n
+  unfolding five_rows_of
   rows zero h = refl
   rows (suc n) h = rw (rows n (omega arith), row n (omega arith))

@@ -6,7 +6,7 @@ use Rattle.layers.specs.declared.EsParams.{EsParams}
 use Rattle.sporadic.specs.Sporadic.{no_row}
 use Rattle.muf.specs.declared.MufHour.{MufHour}
 use Rattle.port_state.specs.Words.{number, floats_of}
-use Rattle.port_state.specs.Ports.{Ported, refused_with, points_of, rows_of}
+use Rattle.port_state.specs.Ports.{Ported, refused_with, points_of, five_rows_of}
 use Rattle.deviation_words.specs.Floats.{floats}
 use Rattle.hour_words.specs.HourWords.{hour_into}
 use Rattle.nominal.specs.Nommuf.{nommuf_of}
@@ -17,7 +17,7 @@ word_row es k = record { fs = floats_of es (4 * k) 3; hs = number es (4 * k + 3)
 
 -- the first n rows, the rest zero
 abbrev pub word_rows : List ℕ → ℕ → List EsParams
-word_rows es n = rows_of (word_row es) no_row n
+word_rows es n = five_rows_of (word_row es) no_row n
 
 unfoldable pub nominal_into : Result MufHour Refusal → List ℕ → Ported
 nominal_into (Ok hour) out = record { number = 0; words = hour_into hour out }

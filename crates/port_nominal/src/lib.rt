@@ -21,7 +21,7 @@ fn word_rows(es: &[u32], n: usize) -> [EsParams; 5]
         fs: [0.0; 3],
         hs: 0.0,
     };
-    port_state::rows_of(n, zero, |k| muf::flat_row(Words(es), k))
+    port_state::five_rows_of(n, zero, |k| muf::flat_row(Words(es), k))
 }
 
 // The whole call but for what it writes.

@@ -22,10 +22,10 @@ abbrev pub zero_point : LayerParams
 zero_point = record { fi = replicate 3 f0; yi = replicate 3 f0; hi = replicate 3 f0 }
 
 -- the first n of five rows, the rest zero
-unfoldable pub rows_of : {T : Type 0} → (ℕ → T) → T → ℕ → List T
-rows_of row z zero = replicate 5 z
-rows_of row z (suc n) = set (rows_of row z n) n (row n)
+unfoldable pub five_rows_of : {T : Type 0} → (ℕ → T) → T → ℕ → List T
+five_rows_of row z zero = replicate 5 z
+five_rows_of row z (suc n) = set (five_rows_of row z n) n (row n)
 
 -- the first n points
 abbrev pub points_of : List ℕ → ℕ → List LayerParams
-points_of points n = rows_of (point_of points) zero_point n
+points_of points n = five_rows_of (point_of points) zero_point n

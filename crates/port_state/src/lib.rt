@@ -6,9 +6,9 @@ ghost use Rattle.std.specs.Prelude.{◌≡◌, ℕ, ◌+◌, ◌*◌, ◌≤◌,
 ghost use Rattle.port_state.specs.Words.{floats_of, floats_into, signed_of, word_of, count_word};
 ghost use Rattle.port_state.specs.State.{state_words, state_of, state_into};
 ghost use Rattle.port_state.specs.Owners.{owner_of_word, word_of_owner};
-ghost use Rattle.port_state.specs.Ports.{point_of, points_of, rows_of};
+ghost use Rattle.port_state.specs.Ports.{point_of, points_of, five_rows_of};
 
-use layers::{IonoState, LayerParams, Owner, owners};
+use layers::{IonoState, LayerParams, Owner};
 
 // How many words a state takes: specs/State.antt says which.
 pub const STATE_WORDS: usize = 155;
@@ -48,7 +48,7 @@ pub fn signed(w: u32) -> i32
 }
 
 #[tactic(auto, using(crate::proofs::Signs::word_is, crate::proofs::Signs::read_back))]
-pub fn word(n: i32) -> u32
+pub fn word_of(n: i32) -> u32
     ensures { result ≡ word_of n }
 {
     n.cast_unsigned()
@@ -80,25 +80,28 @@ fn owner_word(o: Owner) -> u32
     }
 }
 
+// Inlined, so that an export makes its state in its place, with no copy.
+#[inline(always)]
 #[tactic(auto, unfolding(crate::specs::State::state_of, crate::specs::Words::yes_of))]
 pub fn state_of(w: &[u32]) -> IonoState
     requires { state_words ≤ length w.now }
     ensures { result ≡ state_of w.now }
 {
-    let mut s = layers::zero_state();
-    s.fi = floats(w, 0);
-    s.yi = floats(w, 15);
-    s.hi = floats(w, 30);
-    s.km = w[45] as usize;
-    s.kfx = w[46] as usize;
-    s.htr = floats(w, 47);
-    s.fnsq = floats(w, 97);
-    s.htr_rises = w[147] != 0;
-    s.fsecv = floats(w, 148);
-    s.iedp = signed(w[151]);
-    s.ielect = w[152] != 0;
-    s.exact_virtual_height = w[154] != 0;
-    owners::with_owner(s, owner_of_word(w[153]))
+    IonoState {
+        fi: floats(w, 0),
+        yi: floats(w, 15),
+        hi: floats(w, 30),
+        km: w[45] as usize,
+        kfx: w[46] as usize,
+        htr: floats(w, 47),
+        fnsq: floats(w, 97),
+        htr_rises: w[147] != 0,
+        fsecv: floats(w, 148),
+        iedp: signed(w[151]),
+        ielect: w[152] != 0,
+        owner: owner_of_word(w[153]),
+        exact_virtual_height: w[154] != 0,
+    }
 }
 
 pub fn count(n: usize) -> u32
@@ -121,7 +124,7 @@ pub fn state_into(s: IonoState, w: &mut [u32])
     w[45] = count(s.km);
     w[46] = count(s.kfx);
     w[147] = u32::from(s.htr_rises);
-    w[151] = word(s.iedp);
+    w[151] = word_of(s.iedp);
     w[152] = u32::from(s.ielect);
     w[153] = owner_word(s.owner);
     w[154] = u32::from(s.exact_virtual_height);
@@ -131,10 +134,10 @@ pub fn state_into(s: IonoState, w: &mut [u32])
 // Stays: five places and a count, here and at `points_of`, as `from_layers` and `nommuf` take them. That n is 5 at most is asked,
 // since the exports have just tested it, and refuse more by their numbers. And the rows are made and written over, since
 // `std::array::from_fn` asks that the array takes fewer than 2^63 bytes, which of any `T` nothing tells.
-pub fn rows_of<T: Copy, F: Fn(usize) -> T>(n: usize, zero: T, row: F) -> [T; 5]
+pub fn five_rows_of<T: Copy, F: Fn(usize) -> T>(n: usize, zero: T, row: F) -> [T; 5]
     requires count { n ≤ 5 }
     requires called { (k : ℕ) → k < n → F.pre row k }
-    ensures { (of : ℕ → T) → ((k : ℕ) (r : T) → F.post row k r → r ≡ of k) → result ≡ rows_of of zero n }
+    ensures { (of : ℕ → T) → ((k : ℕ) (r : T) → F.post row k r → r ≡ of k) → result ≡ five_rows_of of zero n }
 {
     let mut l = [zero; 5];
     for (k, r) in l[..n].iter_mut().enumerate() {
@@ -165,5 +168,5 @@ pub fn points_of(points: &[u32], n: usize) -> [LayerParams; 5]
         yi: [0.0; 3],
         hi: [0.0; 3],
     };
-    rows_of(n, zero, |k| point_of(points, k))
+    five_rows_of(n, zero, |k| point_of(points, k))
 }

@@ -15,7 +15,7 @@ fn sheet_text_into(file: &[u8], out: &mut [u8], length: &mut [u32]) -> Result<()
     if out.len() < sheet_text::ROOM || length.is_empty() {
         return Err(Refusal::Length);
     }
-    let page = sheet_text::answer(file)?;
+    let page = sheet_text::sheet_page(file)?;
     lent_text::text_into(Ok(page.text()), out, length)
 }
 

@@ -49,7 +49,7 @@ fn write_into(words: &[u32], file: &mut [u8], out: &mut [u32]) -> Result<(), Ref
         return Err(Refusal::Length);
     }
     let c = port_circuit::circuit_of(words);
-    let f2m3 = port_circuit::words(words, 657);
+    let f2m3 = port_circuit::words_from(words, 657);
     let a = wide_circuit::write(c, f2m3, file);
     answer_words::count_into(a, out)
 }

@@ -1,3 +1,2 @@
--- A guess that passes its test is the root; lists filled place by place.
+-- A guess that passes its test is the root.
 pub mod Digits
-pub mod Stored

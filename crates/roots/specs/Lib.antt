@@ -1,3 +1,2 @@
--- Roots put into a list; a guess at a root, and when it is right.
-pub mod Roots
+-- A guess at a root, and when it is right.
 pub mod Guess

@@ -5,18 +5,22 @@
 // and a list of records would have to be taken apart first.
 #![tactic(auto)]
 
-ghost use Rattle.std.specs.Prelude.{◌≡◌, ◌%◌, ◌^◌, ◌≤◌, ◌<◌};
-ghost use Rattle.std.specs.Float.{binary32};
-ghost use Rattle.std.specs.Float.Ieee.{of_bits, to_bits};
+ghost use Rattle.std.specs.Prelude.{◌≡◌, map, ℕ, ◌%◌, ◌^◌, ◌≤◌, ◌<◌};
+ghost use Rattle.std.specs.Float.{binary32, NotNan};
+ghost use Rattle.std.specs.Float.Ieee.{of_bits};
+ghost use Rattle.scalar.specs.F32.{at};
 ghost use Rattle.scalar.specs.Root.{sqrt_of};
-ghost use Rattle.roots.specs.Roots.{roots_into};
 ghost use Rattle.roots.specs.Guess.{Normal, Right, AllRight};
 
-// The pattern of x, which is a number of the format, as it comes by value.
+use std::array::from_fn;
+
+// The pattern of x.
+// Stays: not `scalar::bits`, which tests for NaN, and of a test of floats the compiler makes no vector instructions here.
 fn pattern(x: f32) -> u32
-    ensures { (result ≡ to_bits binary32 x) × (x ≡ of_bits binary32 (to_bits binary32 x)) }
+    requires { NotNan x }
+    ensures { of_bits binary32 result ≡ x }
 {
-    scalar::bits(x)
+    f32::to_bits(x)
 }
 
 // Of the number from 1 to below 4 with the digits of b's, which differ by a power of 4: the last 24
@@ -69,15 +73,15 @@ fn passed(b: &[u32; 40], g: &[u32; 40]) -> u64
     n
 }
 
-// The square root of each, correctly rounded.
-pub fn roots(x: &[f32; 40], out: &mut [f32; 40])
-    ensures { out.new ≡ roots_into x.now out.old 40 }
+// The square root of each, correctly rounded. None is NaN.
+pub fn roots(x: [f32; 40]) -> [f32; 40]
+    requires { (k : ℕ) → k < 40 → NotNan (at x k) }
+    ensures { result ≡ map sqrt_of x }
 {
-    let b: [u32; 40] = std::array::from_fn(|k| pattern(x[k]));
-    let g: [u32; 40] = std::array::from_fn(|k| scalar::near_root(folded(b[k])));
+    let b: [u32; 40] = from_fn(|k| pattern(x[k]));
+    let g: [u32; 40] = from_fn(|k| scalar::near_root(folded(b[k])));
     if passed(&b, &g) == 80 {
-        *out = std::array::from_fn(|k| packed(b[k], g[k]));
-        return;
+        return from_fn(|k| packed(b[k], g[k]));
     }
-    *out = std::array::from_fn(|k| scalar::sqrt(x[k]));
+    from_fn(|k| scalar::sqrt(x[k]))
 }

@@ -1,33 +1,11 @@
--- The exponential series sees only the value of its fraction, and grows with it.
-use mathlib.Core.Path.{◌≡◌, refl, sym, ap, ap₂, ◌∙◌}
+-- The exponential series grows with the value of its fraction.
+use mathlib.Core.Path.{◌≡◌, sym, ap, ◌∙◌}
 use Prim.Native.Nat.{ℕ, ◌*◌, ◌^◌, ◌≤◌, ◌<◌}
 use native.Mathlib.Nat.{le_trans, le_of_eq, mul_assoc, mul_comm, mul-le-mul_right, le_of_mul-le-mul_right, mul-pos, one-le-pow}
 use native.Mathlib.Omega.{arith}
-use Rattle.series.specs.Series.{full, num, one, Close}
+use Rattle.series.specs.Series.{full, num, one}
 use Rattle.series.proofs.Fractions.{full-scale, num-scale, num-mono}
 use Rattle.series.proofs.Exponential.{Enc}
-use Rattle.series.proofs.WaveFraction.{close_up, close_down}
-
--- from n / d to an equal fraction n' / d'
-module _ (n d n' d' : ℕ) (D : 0 < d) (e : n' * d ≡ n * d') where
-  num-same : (k : ℕ) → num one n' d' k * d ^ k ≡ num one n d k * d' ^ k
-  num-same k = sym (num-scale one n' d' d k) ∙ ap₂ (λ (x y : ℕ). num one x y k) e (mul_comm d' d) ∙ num-scale one n d d' k
-
-  full-same : (k : ℕ) → full d' k * d ^ k ≡ full d k * d' ^ k
-  full-same k = sym (full-scale d' d k) ∙ ap (λ (y : ℕ). full y k) (mul_comm d' d) ∙ full-scale d d' k
-
-  zero-times : (w : ℕ) → 0 ≡ 0 * w
-  zero-times w = omega arith
-
-  pub same_sum : (v r u k : ℕ) → Close v r 0 u (num one n d k) 0 (full d k) → Close v r 0 u (num one n' d' k) 0 (full d' k)
-  same_sum v r u k c =
-      close_down v r 0 u (num one n' d' k) 0 (full d' k) (num one n d k * d' ^ k) 0 (full d k * d' ^ k) (d ^ k) (one-le-pow k d D) (sym (num-same k)) (zero-times (d ^ k)) (sym (full-same k))
-      (close_up v r 0 u (num one n d k) 0 (full d k) (num one n d k * d' ^ k) 0 (full d k * d' ^ k) (d' ^ k) refl (zero-times (d' ^ k)) refl c)
-
-  pub same-rec : (v r u k : ℕ) → Close v r 0 u (full d k) 0 (num one n d k) → Close v r 0 u (full d' k) 0 (num one n' d' k)
-  same-rec v r u k c =
-      close_down v r 0 u (full d' k) 0 (num one n' d' k) (full d k * d' ^ k) 0 (num one n d k * d' ^ k) (d ^ k) (one-le-pow k d D) (sym (full-same k)) (zero-times (d ^ k)) (sym (num-same k))
-      (close_up v r 0 u (full d k) 0 (num one n d k) (full d k * d' ^ k) 0 (num one n d k * d' ^ k) (d' ^ k) refl (zero-times (d' ^ k)) refl c)
 
 -- A is at most e ^ (n₀ / d₀), so at most e ^ (n / d), for n₀ / d₀ ≤ n / d
 pub beyond : (n d n₀ d₀ A k : ℕ) → 0 < d₀ → n₀ * d ≤ n * d₀ → A * full d₀ k ≤ num one n₀ d₀ k → A * full d k ≤ num one n d k

@@ -3,7 +3,7 @@ use mathlib.Core.Path.{subst}
 use Prim.Native.Nat.{ℕ, ◌+◌, ◌*◌, ◌≤◌, ◌<◌}
 use native.Mathlib.Nat.{le_trans, le_refl, le_dest, mul-le-mul_left, mul-le-mul_right, le_of_mul-le-mul_right}
 use native.Mathlib.Omega.{arith}
-use Rattle.series.specs.Series.{full, num, one, Close}
+use Rattle.series.specs.Series.{full, num, one}
 use Rattle.series.proofs.Addition.{full-pos, exp-under, exp-over}
 use Rattle.series.proofs.Weighted.{grows}
 use Rattle.series.proofs.Exponential.{Enc}
@@ -12,16 +12,6 @@ pub record Rec (n d lo hi m : ℕ) : Type 0 where
   pub low : (k : ℕ) → lo * num one n d k ≤ m * full d k
   pub at : ℕ
   pub high : m * full d at ≤ hi * num one n d at
-
--- m / hi ≤ e ^ x ≤ m / lo
-pub reciprocal : (n d lo hi m : ℕ) → 0 < lo → 0 < hi → Enc n d (m * lo) (m * hi) (lo * hi) → Rec n d lo hi m
-reciprocal n d lo hi m L H E = record { low = λ k. over (full d k) (num one n d k) (E.high k); at = E.at; high = under (full d E.at) (num one n d E.at) E.low }
-  where
-    over : (f x : ℕ) → lo * hi * x ≤ m * hi * f → lo * x ≤ m * f
-    over f x h = le_of_mul-le-mul_right {k = hi} (omega (arith, h)) H
-
-    under : (f x : ℕ) → m * lo * f ≤ lo * hi * x → m * f ≤ hi * x
-    under f x h = le_of_mul-le-mul_right {k = lo} (omega (arith, h)) L
 
 pub slacken : (n d lo hi m lo' hi' : ℕ) → lo' ≤ lo → hi ≤ hi' → Rec n d lo hi m → Rec n d lo' hi' m
 slacken n d lo hi m lo' hi' l h R =
@@ -45,23 +35,12 @@ quotient a b d lo hi m lo' hi' m' D R B =
     up F x y s P p q r =
         le_of_mul-le-mul_right {k = F} (omega (arith, mul-le-mul_right (m' * F) p, mul-le-mul_left (hi * m') r, mul-le-mul_left (hi * x) q)) P
 
--- x / f is between lo / m and hi / m, and so within u / v of r / v
-pub close : (m lo hi v r u x f : ℕ) → 0 < m → r * m ≤ v * lo + u * m → v * hi ≤ (r + u) * m → lo * f ≤ m * x → m * x ≤ hi * f → Close v r 0 u x 0 f
-close m lo hi v r u x f P a b p q =
-    record {
-      low = le_of_mul-le-mul_right {k = m} (omega (arith, mul-le-mul_right f a, mul-le-mul_left v p)) P;
-      high = le_of_mul-le-mul_right {k = m} (omega (arith, mul-le-mul_right f b, mul-le-mul_left v q)) P;
-    }
-
--- from an enclosure to all later partial sums
-pub from-rec : (n d lo hi m v r u : ℕ) → 0 < d → 0 < m → Rec n d lo hi m → r * m ≤ v * lo + u * m → v * hi ≤ (r + u) * m → (N : ℕ) × ((k : ℕ) → N ≤ k → Close v r 0 u (full d k) 0 (num one n d k))
-from-rec n d lo hi m v r u D P R a b = (R.at, λ k l. close m lo hi v r u (full d k) (num one n d k) P a b (R.low k) (high-at k l))
+-- the upper bound holds of every later number too
+pub high-later : (n d lo hi m : ℕ) → 0 < d → (R : Rec n d lo hi m) → (k : ℕ) → R.at ≤ k → m * full d k ≤ hi * num one n d k
+high-later n d lo hi m D R k l =
+    let o = le_dest l in
+    go (full d R.at) (num one n d R.at) (full d k) (num one n d k) (full-pos d R.at D) R.high
+    (subst (λ (y : ℕ). num one n d R.at * full d y ≤ num one n d y * full d R.at) o.1 (grows one (λ (j : ℕ). le_refl 1) n d R.at o.0))
   where
-    high-at : (k : ℕ) → R.at ≤ k → m * full d k ≤ hi * num one n d k
-    high-at k l =
-        let o = le_dest l in
-        go (full d R.at) (num one n d R.at) (full d k) (num one n d k) (full-pos d R.at D) R.high
-        (subst (λ (y : ℕ). num one n d R.at * full d y ≤ num one n d y * full d R.at) o.1 (grows one (λ (j : ℕ). le_refl 1) n d R.at o.0))
-      where
-        go : (f x g y : ℕ) → 0 < f → m * f ≤ hi * x → x * g ≤ y * f → m * g ≤ hi * y
-        go f x g y F p q = le_of_mul-le-mul_right {k = f} (omega (arith, mul-le-mul_right g p, mul-le-mul_left hi q)) F
+    go : (f x g y : ℕ) → 0 < f → m * f ≤ hi * x → x * g ≤ y * f → m * g ≤ hi * y
+    go f x g y F p q = le_of_mul-le-mul_right {k = f} (omega (arith, mul-le-mul_right g p, mul-le-mul_left hi q)) F

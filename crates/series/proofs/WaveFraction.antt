@@ -68,14 +68,14 @@ module _ (K : ℕ → ℕ) (n d c : ℕ) where
   times w (suc j) = grow-times j (weight w j) (sums K n d (start w n) (start w d) j) (sums K (n * c) (d * c) (start w (n * c)) (start w (d * c)) j) (times w j)
 
 -- closeness is the same over a denominator w times as large
-pub close_up : (m r t u p q c p' q' c' w : ℕ) → p' ≡ p * w → q' ≡ q * w → c' ≡ c * w → Close m r t u p q c → Close m r t u p' q' c'
+close_up : (m r t u p q c p' q' c' w : ℕ) → p' ≡ p * w → q' ≡ q * w → c' ≡ c * w → Close m r t u p q c → Close m r t u p' q' c'
 close_up m r t u p q c p' q' c' w e f g k =
     record {
       low = omega (arith, mul-le-mul_right w k.low, ap (λ (x : ℕ). m * x) e, ap (λ (x : ℕ). m * x) f, ap (λ (x : ℕ). r * x) g, ap (λ (x : ℕ). (t + u) * x) g);
       high = omega (arith, mul-le-mul_right w k.high, ap (λ (x : ℕ). m * x) e, ap (λ (x : ℕ). m * x) f, ap (λ (x : ℕ). t * x) g, ap (λ (x : ℕ). (r + u) * x) g);
     }
 
-pub close_down : (m r t u p q c p' q' c' w : ℕ) → 0 < w → p' ≡ p * w → q' ≡ q * w → c' ≡ c * w → Close m r t u p' q' c' → Close m r t u p q c
+close_down : (m r t u p q c p' q' c' w : ℕ) → 0 < w → p' ≡ p * w → q' ≡ q * w → c' ≡ c * w → Close m r t u p' q' c' → Close m r t u p q c
 close_down m r t u p q c p' q' c' w P e f g k =
     record {
       low = le_of_mul-le-mul_right {k = w} (omega (arith, k.low, ap (λ (x : ℕ). m * x) e, ap (λ (x : ℕ). m * x) f, ap (λ (x : ℕ). r * x) g, ap (λ (x : ℕ). (t + u) * x) g)) P;
@@ -114,7 +114,7 @@ module _ (w : Kind) (K : ℕ → ℕ) (n d n' d' : ℕ) (D : 0 < d) (e : n' * d 
       }
 
 -- a larger unit
-pub wider : (m r t u u' p q c : ℕ) → u ≤ u' → Close m r t u p q c → Close m r t u' p q c
+wider : (m r t u u' p q c : ℕ) → u ≤ u' → Close m r t u p q c → Close m r t u' p q c
 wider m r t u u' p q c h k = record { low = omega (arith, k.low, mul-le-mul_right c h); high = omega (arith, k.high, mul-le-mul_right c h) }
 
 pub wider-limit : (K : ℕ → ℕ) (n d a b j m r t u u' : ℕ) → u ≤ u' → Limit K n d a b j m r t u → Limit K n d a b j m r t u'

@@ -1,2 +1,3 @@
 -- A branch that is never reached.
+pub mod Lanes
 pub mod NeverBoth

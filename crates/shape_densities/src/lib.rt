@@ -1,10 +1,12 @@
 // The densities of a slot's five shapes at its heights.
 #![tactic(auto)]
 
-ghost use Rattle.std.specs.Prelude.{◌≡◌, map};
+ghost use Rattle.std.specs.Prelude.{◌≡◌, ◌+◌, ◌≤◌, ◌++◌, map, take, drop};
 ghost use Rattle.shape_densities.specs.Density.{fnd_of, density_of};
 
 mod density;
+
+use std::simd::prelude::*;
 
 // All that the five shapes use.
 // Stays: `lin` and `s1` are two numbers of the Rust, each with its value on every path: a slope is worked out for some parabolas too.
@@ -56,10 +58,26 @@ impl Curves {
         htr
     }
 
+    // N heights from the i-th on: where the tail's densities stood stand the largest of the five.
+    // Stays: the heights and their densities are lists side by side, as the Rust has `htr` and `fn`.
+    fn raise<const N: usize>(self, htr: &[f32; 50], d: &mut [f32; 50], i: usize)
+        requires { (i + N ≤ 50)
+            × (d.old ≡ map (density_of self) (take i htr.now) ++ map (fnd_of self) (drop i htr.now)) }
+        ensures { d.new ≡ map (density_of self) (take (i + N) htr.now) ++ map (fnd_of self) (drop (i + N) htr.now) }
+    {
+        let h = Simd::<f32, N>::from_slice(&htr[i..i + N]);
+        let d = &mut d[i..i + N];
+        self.density(Simd::from_slice(d), h).copy_to_slice(d);
+    }
+
+    // A vector has a power of two of lanes.
     pub fn densities(self, htr: [f32; 50]) -> [f32; 50]
         ensures { result ≡ map (density_of self) htr }
     {
-        let fnd = self.tails(htr);
-        std::array::from_fn(|ih| self.candidates(fnd[ih], htr[ih]).largest())
+        let mut d = self.tails(htr);
+        self.raise::<32>(&htr, &mut d, 0);
+        self.raise::<16>(&htr, &mut d, 32);
+        self.raise::<2>(&htr, &mut d, 48);
+        d
     }
 }

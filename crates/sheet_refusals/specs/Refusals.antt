@@ -26,10 +26,10 @@ abbrev pub SheetRefusals : Type 0
 SheetRefusals = (f : List ℕ) (r : Refusal) → sheet_of f ≡ Err r → Among sheet_numbers r
 
 -- the mode is 1, 2 or 3, the controlling slot 0, 1 or 2, and there are at most three slots
-pub record Printed (s : Sheet) : Type 0 where
+pub record SheetFits (s : Sheet) : Type 0 where
   pub mode : (s.hour.modmuf ≡ pos 1) ⊎ ((s.hour.modmuf ≡ pos 2) ⊎ (s.hour.modmuf ≡ pos 3))
   pub controlling : s.hour.ks < 3
   pub slots : s.slots ≤ 3
 
 abbrev pub SheetPrinted : Type 0
-SheetPrinted = (f : List ℕ) (s : Sheet) → sheet_of f ≡ Ok s → Printed s
+SheetPrinted = (f : List ℕ) (s : Sheet) → sheet_of f ≡ Ok s → SheetFits s

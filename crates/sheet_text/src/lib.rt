@@ -32,7 +32,7 @@ fn refused(r: Refusal) -> Page<ROOM>
 }
 
 // The text of an answered sheet, or the refusal.
-pub fn answer(file: &[u8]) -> Result<Page<ROOM>, Refusal>
+pub fn sheet_page(file: &[u8]) -> Result<Page<ROOM>, Refusal>
     ensures { result ≡ text_by (sheet_of file.now) }
 {
     let sheet = circuit_sheet::of_file(file)?;
@@ -44,5 +44,5 @@ pub fn answer(file: &[u8]) -> Result<Page<ROOM>, Refusal>
 pub fn sheet_text(file: &[u8]) -> Page<ROOM>
     ensures { result ≡ sheet_text file.now }
 {
-    answer(file).unwrap_or_else(refused)
+    sheet_page(file).unwrap_or_else(refused)
 }

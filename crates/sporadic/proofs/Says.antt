@@ -3,13 +3,14 @@ use Rattle.refusal.specs.Number.{answer_number}
 use Rattle.refusal.specs.declared.Refusal.{Refusal}
 use lib.Ieee.{Float}
 use Rattle.std.specs.Prelude.{Result, Ok, Err}
+use Rattle.std.specs.Result.{result_unwrap_or}
 use mathlib.Core.Bool.{Bool, true, false, cond}
 use mathlib.Core.Path.{◌≡◌, refl}
 use Prim.Native.Nat.{ℕ, zero, suc, ◌+◌}
 use Rattle.scalar.specs.F32.{◌≤f◌, at}
 use Rattle.scalar.specs.Literals.{f0}
 use Rattle.refusal.proofs.Numbers.{no_answer}
-use Rattle.hops.specs.Geometry.{hops_of, hops_value}
+use Rattle.hops.specs.Geometry.{hops_of}
 use Rattle.layer_mufs.specs.Says.{first_refusal_number}
 use Rattle.layer_mufs.specs.declared.PathNumbers.{PathNumbers}
 use Rattle.sporadic.specs.Sporadic.{ray_of, taken_of, hop_by, row_by, es_row_of, next_by, es_from, step_value}
@@ -17,11 +18,11 @@ use Rattle.sporadic.specs.Says.{StepIs, RowSays, rows_number, rows_value, RowsSa
 use Rattle.layers.specs.declared.EsParams.{EsParams}
 use Rattle.sporadic.specs.declared.EsSearch.{EsSearch}
 
-hop-by : (count : Result Float Refusal) (a : EsSearch) (k : ℕ) (row : EsParams) (c : PathNumbers) → StepIs (hop_by count a k row c) (answer_number count) (taken_of a k row (ray_of row.hs (hops_value count) c.gcd) (hops_value count))
+hop-by : (count : Result Float Refusal) (a : EsSearch) (k : ℕ) (row : EsParams) (c : PathNumbers) → StepIs (hop_by count a k row c) (answer_number count) (taken_of a k row (ray_of row.hs (result_unwrap_or count f0) c.gcd) (result_unwrap_or count f0))
 hop-by (Ok hop) a k row c = (refl, refl)
 hop-by (Err r) a k row c = (refl, rw (no_answer r))
 
-row-by : (passed : Bool) (a : EsSearch) (k : ℕ) (row : EsParams) (c : PathNumbers) → let count = hops_of c.gcdkm c.amind row.hs in let hop = hops_value count in StepIs (row_by passed a k row c) (cond passed 0 (answer_number count)) (cond passed a (taken_of a k row (ray_of row.hs hop c.gcd) hop))
+row-by : (passed : Bool) (a : EsSearch) (k : ℕ) (row : EsParams) (c : PathNumbers) → let count = hops_of c.gcdkm c.amind row.hs in let hop = result_unwrap_or count f0 in StepIs (row_by passed a k row c) (cond passed 0 (answer_number count)) (cond passed a (taken_of a k row (ray_of row.hs hop c.gcd) hop))
 row-by true a k row c = (refl, refl)
 row-by false a k row c = hop-by (hops_of c.gcdkm c.amind row.hs) a k row c
 

@@ -2,9 +2,10 @@
 use Rattle.refusal.specs.Number.{answer_number}
 use Rattle.refusal.specs.declared.Refusal.{Refusal}
 use Rattle.std.specs.Prelude.{cond, ◌≡◌, ℕ, zero, suc, ◌+◌, eqb, Result}
+use Rattle.std.specs.Result.{result_unwrap_or}
 use Rattle.scalar.specs.F32.{◌≤f◌, at}
 use Rattle.scalar.specs.Literals.{f0}
-use Rattle.hops.specs.Geometry.{hops_of, hops_value}
+use Rattle.hops.specs.Geometry.{hops_of}
 use Rattle.layer_mufs.specs.Says.{first_refusal_number}
 use Rattle.layer_mufs.specs.declared.PathNumbers.{PathNumbers}
 use Rattle.sporadic.specs.Sporadic.{ray_of, taken_of, es_row_of, step_value, no_search}
@@ -19,7 +20,7 @@ unfoldable pub RowSays : Result EsSearch Refusal → EsSearch → ℕ → EsPara
 RowSays r a k row c =
     let passed = at row.fs 1 ≤f f0 in
     let count = hops_of c.gcdkm c.amind row.hs in
-    let hop = hops_value count in
+    let hop = result_unwrap_or count f0 in
     StepIs r (cond passed 0 (answer_number count)) (cond passed a (taken_of a k row (ray_of row.hs hop c.gcd) hop))
 
 -- n rows from row k on: the number of the first that refuses, and the search after all

@@ -30,20 +30,20 @@ pub data TrialAnswer : Type 0 where
   number : Float → TrialAnswer
 
 -- what is answered, or the refusal by the paper's number
-abbrev pub answer_by : {A : Type 0} → (A → TrialAnswer) → Result A Refusal → TrialAnswer
-answer_by f (Ok a) = f a
-answer_by f (Err r) = refused (number_of r)
+abbrev pub trial_answer_by : {A : Type 0} → (A → TrialAnswer) → Result A Refusal → TrialAnswer
+trial_answer_by f (Ok a) = f a
+trial_answer_by f (Err r) = refused (number_of r)
 
 abbrev pub starred_point : Float → Float → Float → LayerParams
 starred_point e one two = record { fi = e ∷ one ∷ two ∷ []; yi = replicate 3 f0; hi = replicate 3 f0 }
 
 unfoldable pub result_of : Trial → TrialAnswer
-result_of (sang gcdkm amind) = answer_by count (sang_of gcdkm amind)
+result_of (sang gcdkm amind) = trial_answer_by count (sang_of gcdkm amind)
 result_of (truncation x) = whole (trunc_of x)
 result_of (root x) = number (sqrt_of x)
-result_of (block clck) = answer_by (λ _. count (icc_of clck)) (f2dis_of (replicate 576 f1) f10 f50 f0 f10 clck)
+result_of (block clck) = trial_answer_by (λ _. count (icc_of clck)) (f2dis_of (replicate 576 f1) f10 f50 f0 f10 clck)
 result_of (kept_f1 e one two) =
-    answer_by (λ made. answer_by (λ slots. number (at slots.fi 1)) (ionset_of made)) (from_layers_of (starred_point e one two ∷ []) 1)
+    trial_answer_by (λ made. trial_answer_by (λ slots. number (at slots.fi 1)) (ionset_of made)) (from_layers_of (starred_point e one two ∷ []) 1)
 
 pub record StarredRow : Type 0 where
   pub trial : Trial

@@ -26,7 +26,7 @@ fn units(v: f32, k: u32) -> u64
 
 // The point of a frequency in MHz and a height in km, where it is in the frame.
 #[tactic(auto, unfolding(crate::specs::Points::point_drawn_of))]
-pub fn point(f: f32, h: f32) -> Option<Place>
+pub fn point_drawn(f: f32, h: f32) -> Option<Place>
     ensures { result ≡ point_drawn_of f h }
 {
     let x = units(f, 190);

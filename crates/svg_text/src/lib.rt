@@ -44,7 +44,7 @@ fn put_use<const N: usize>(page: &mut Page<N>, m: Mark, p: Place)
 pub fn put_mark<const N: usize>(page: &mut Page<N>, m: Mark, f: f32, h: f32)
     ensures { page.new ≡ with_text N page.old (mark_text m f h) }
 {
-    if let Some(p) = svg_points::point(f, h) {
+    if let Some(p) = svg_points::point_drawn(f, h) {
         put_use(page, m, p);
     }
 }
@@ -68,7 +68,7 @@ fn put_line<const N: usize>(page: &mut Page<N>, x: u64, muf: f32)
 pub fn put_muf<const N: usize>(page: &mut Page<N>, muf: f32)
     ensures { page.new ≡ with_text N page.old (muf_text muf) }
 {
-    if let Some(foot) = svg_points::point(muf, 0.0) {
+    if let Some(foot) = svg_points::point_drawn(muf, 0.0) {
         put_line(page, foot.x, muf);
     }
 }

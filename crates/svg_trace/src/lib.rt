@@ -46,7 +46,7 @@ pub fn put_trace<const N: usize>(page: &mut Page<N>, f: &[f32; 30], h: &[f32; 30
 {
     let mut last = None;
     for (f, h) in f.iter().zip(h) {
-        let here = svg_points::point(*f, *h);
+        let here = svg_points::point_drawn(*f, *h);
         put_step(page, last, here);
         last = here;
     }

@@ -105,25 +105,26 @@ pub record Theorems : Type 0 where
   -- so, up to 2 and while the cosine is not negative, an angle is pinned by its sine, and by its tangent: what is said of asin and atan as inverses names one number
   pub sine-pins : SinePins
   pub tangent-pins : TangentPins
-  -- ---- The six functions, for every f32 (sin and cos from -4 to 4, asin from -1 to 1, ln from 0: NaN outside)
-  -- less than one ulp from the exact value: from some term on every partial sum at the argument is at most 15/16 ulp away (for a negative argument its reciprocal); infinity only from 2 ^ 128 on
+  -- ---- The six functions, for every f32 (sin and cos from -4 to 4, asin from -1 to 1, ln from 0: NaN outside). Away from zero the unit is the result's ulp; towards zero it is that of the floats just below the result in size, half an ulp where it is a power of two above 2 ^ -126
+  -- less than one ulp from the exact value: from some term on every partial sum at the argument (for a negative one its reciprocal) is at most 15/16 of the unit to its side of the result away; infinity only from 2 ^ 128 on
   pub exp-near : ExpNear
-  -- two fractions, a partial sum and the same with its remainder, enclose all later ones and are less than one ulp from the result
+  -- two fractions, a partial sum and the same with its remainder, enclose all later ones and are less than the unit to their side away from the result
   pub exp-enclosed : ExpEnclosed
-  -- e ^ (r - u) ≤ x ≤ e ^ (r + u), with the result r and u = 15/16 ulp
+  -- e ^ (r - d) ≤ x ≤ e ^ (r + u), with the result r, and d and u 15/16 of the unit to that side
   pub ln-near : LnNear
   -- where ln uses its own series, on what is left of the argument, that series and its remainder enclose the logarithm
   pub ln-own-series : LnOwnSeries
   pub exponential-values : ExponentialValues
+  -- from number 36 on every partial sum at the argument is at most 15/16 of the unit to its side of the result away
   pub sin-near : SinNear
   pub sin-literal : SinLiteral
   pub cos-near : CosNear
   pub cos-literal : CosLiteral
   -- zeros, infinities and NaN, and that outside -4 to 4 both are NaN
   pub wave-values : WaveValues
-  -- sin (r - u) ≤ |x|, and |x| ≤ sin (r + u) or r + u is past half pi
+  -- sin (r - d) ≤ |x|, and |x| ≤ sin (r + u) or r + u is past half pi, with r the result's size
   pub asin-near : AsinNear
-  -- tan (r - u) ≤ |x| ≤ tan (r + u), the cosine brought to the other side; at an infinity no f32 is nearer to half pi
+  -- tan (r - d) ≤ |x| ≤ tan (r + u), the cosine brought to the other side; at an infinity no f32 is nearer to half pi
   pub atan-near : AtanNear
   -- up to 1 its own series, v - v³ / 3 with a remainder of v⁵ / 4, encloses the arc tangent of v
   pub atan-own-series : AtanOwnSeries

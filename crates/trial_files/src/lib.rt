@@ -11,18 +11,18 @@ pub const ROOM: usize = 8320;
 
 // How many bytes a record has.
 #[derive(Clone, Copy, Debug, PartialEq, Eq)]
-pub enum Form {
+pub enum RecordSize {
     Old = 64,
     New = 128,
 }
 
 #[derive(Clone, Copy, Debug, PartialEq, Eq)]
 pub struct File {
-    form: Form,
+    form: RecordSize,
     pub bytes: [u8; ROOM],
 }
 
-impl Form {
+impl RecordSize {
     fn size(self) -> usize
         ensures { result ≤ 128 }
     {
@@ -32,8 +32,8 @@ impl Form {
     // The kind of record 0.
     fn first_kind(self) -> u8 {
         let kind = match self {
-            Form::Old => Kind::Head,
-            Form::New => Kind::WideHead,
+            RecordSize::Old => Kind::Head,
+            RecordSize::New => Kind::WideHead,
         };
         kind as u8
     }
@@ -41,7 +41,7 @@ impl Form {
 
 impl File {
     // Record 0 and one point, the chain 0, 1.
-    pub fn smallest(form: Form) -> File {
+    pub fn smallest(form: RecordSize) -> File {
         let blank = File {
             form,
             bytes: [0; ROOM],
@@ -52,7 +52,7 @@ impl File {
     }
 
     // n records of kind 3 after those two, in order.
-    pub fn with_deciles(form: Form, n: usize) -> File
+    pub fn with_deciles(form: RecordSize, n: usize) -> File
         requires { n ≤ 60 }
     {
         let mut f = File::smallest(form).record(1, Kind::Point as u8, 2);
@@ -64,7 +64,7 @@ impl File {
     }
 
     // The smallest file with another byte of record 0.
-    fn with_byte(form: Form, at: usize, byte: u8) -> File
+    fn with_byte(form: RecordSize, at: usize, byte: u8) -> File
         requires { at < 64 }
     {
         let mut f = File::smallest(form);
@@ -94,7 +94,7 @@ impl File {
     fn signed(mut self, n: usize) -> File
         requires { n < 65 }
     {
-        if self.form == Form::New {
+        if self.form == RecordSize::New {
             let at = self.form.size() * n;
             self.bytes[at + 51] = 128;
         }
@@ -104,7 +104,7 @@ impl File {
 
 // Bytes of record 0 that are turned away in either form, each file handed over after its name.
 // Stays: `form` and `print` are what a trial chooses, which files and how they are shown, and `print` may be called at any.
-pub fn first_bytes<P: Fn(&[u8], &[u8])>(form: Form, print: P)
+pub fn first_bytes<P: Fn(&[u8], &[u8])>(form: RecordSize, print: P)
     requires { P.IsAlwaysCallable print }
 {
     print(b"km 0\n", File::with_byte(form, 4, 0).first(2));
@@ -115,7 +115,7 @@ pub fn first_bytes<P: Fn(&[u8], &[u8])>(form: Form, print: P)
 }
 
 // Steps that lead astray.
-pub fn steps<P: Fn(&[u8], &[u8])>(form: Form, print: P)
+pub fn steps<P: Fn(&[u8], &[u8])>(form: RecordSize, print: P)
     requires { P.IsAlwaysCallable print }
 {
     let past = File::smallest(form).record(0, form.first_kind(), 2);
@@ -131,7 +131,7 @@ pub fn steps<P: Fn(&[u8], &[u8])>(form: Form, print: P)
 }
 
 // Chains that end too early or too late, or come to another kind of record.
-pub fn points<P: Fn(&[u8], &[u8])>(form: Form, print: P)
+pub fn ends<P: Fn(&[u8], &[u8])>(form: RecordSize, print: P)
     requires { P.IsAlwaysCallable print }
 {
     let ended = File::smallest(form).record(0, form.first_kind(), 0);
@@ -146,7 +146,7 @@ pub fn points<P: Fn(&[u8], &[u8])>(form: Form, print: P)
 }
 
 // A chain that steps back to a record that it has not met.
-pub fn permuted<P: Fn(&[u8], &[u8])>(form: Form, print: P)
+pub fn permuted<P: Fn(&[u8], &[u8])>(form: RecordSize, print: P)
     requires { P.IsAlwaysCallable print }
 {
     let mut f = File::smallest(form)

@@ -16,6 +16,6 @@ pub fn points() -> [LayerParams; 5] {
 }
 
 // The first km of them, as `ionset` leaves them.
-pub fn slots(km: usize) -> Result<IonoState, Refusal> {
+pub fn first_slots(km: usize) -> Result<IonoState, Refusal> {
     slots::ionset(slots::from_layers(points(), km)?)
 }

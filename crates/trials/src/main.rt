@@ -177,7 +177,7 @@ fn mufs(s: IonoState) {
 }
 
 fn trials() -> Result<(), Refusal> {
-    let s = trial_slots::slots(1)?;
+    let s = trial_slots::first_slots(1)?;
     rooms(s);
     counts();
     slot_numbers(s);

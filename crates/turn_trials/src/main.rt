@@ -3,7 +3,7 @@
 // Stays: a trial's `name` and its `file` are two texts, each of its own length.
 #![tactic(auto)]
 
-use trial_files::{File, Form, first_bytes, permuted, points, steps};
+use trial_files::{File, RecordSize, ends, first_bytes, permuted, steps};
 
 // A refusal is shorter than a record; of a file its chain is shown.
 fn show(old: &[u8]) {
@@ -21,7 +21,7 @@ fn print(name: &[u8], file: &[u8]) {
 }
 
 fn lengths() {
-    let f = File::smallest(Form::New);
+    let f = File::smallest(RecordSize::New);
     print(b"no bytes\n", &f.bytes[..0]);
     print(b"128 bytes\n", &f.bytes[..128]);
     print(b"255 bytes\n", &f.bytes[..255]);
@@ -33,51 +33,51 @@ fn lengths() {
 }
 
 fn first_record() {
-    let mut kind = File::smallest(Form::New);
+    let mut kind = File::smallest(RecordSize::New);
     kind.bytes[0] = 1;
     print(b"kind 1\n", kind.first(2));
-    first_bytes(Form::New, print);
-    let mut added = File::smallest(Form::New);
+    first_bytes(RecordSize::New, print);
+    let mut added = File::smallest(RecordSize::New);
     added.bytes[64] = 1;
     print(b"byte 64 of record 0\n", added.first(2));
-    let mut last = File::smallest(Form::New);
+    let mut last = File::smallest(RecordSize::New);
     last.bytes[127] = 1;
     print(b"byte 127 of record 0\n", last.first(2));
 }
 
 fn records() {
-    points(Form::New, print);
-    let mut after = File::smallest(Form::New);
+    ends(RecordSize::New, print);
+    let mut after = File::smallest(RecordSize::New);
     after.bytes[128 + 68] = 1;
     print(b"byte 68 of a point\n", after.first(2));
-    let mut last = File::smallest(Form::New);
+    let mut last = File::smallest(RecordSize::New);
     last.bytes[128 + 127] = 1;
     print(b"byte 127 of a point\n", last.first(2));
 }
 
 fn decile_records() {
-    let mut padded = File::with_deciles(Form::New, 48);
+    let mut padded = File::with_deciles(RecordSize::New, 48);
     padded.bytes[128 * 2 + 52] = 1;
     print(b"byte 52 of a decile record\n", padded.first(50));
-    let mut added = File::with_deciles(Form::New, 48);
+    let mut added = File::with_deciles(RecordSize::New, 48);
     added.bytes[128 * 2 + 64] = 1;
     print(b"byte 64 of a decile record\n", added.first(50));
-    let few = File::with_deciles(Form::New, 47);
+    let few = File::with_deciles(RecordSize::New, 47);
     print(b"47 decile records\n", few.first(49));
-    let more = File::with_deciles(Form::New, 49);
+    let more = File::with_deciles(RecordSize::New, 49);
     print(b"49 decile records\n", more.first(51));
-    let mut zero = File::with_deciles(Form::New, 48);
+    let mut zero = File::with_deciles(RecordSize::New, 48);
     zero.bytes[128 * 49 + 51] = 0;
     print(b"48 decile records, all +0\n", zero.first(50));
-    let all = File::with_deciles(Form::New, 48);
+    let all = File::with_deciles(RecordSize::New, 48);
     print(b"48 decile records\n", all.first(50));
 }
 
 fn f2m3() {
-    let mut one = File::smallest(Form::New);
+    let mut one = File::smallest(RecordSize::New);
     one.bytes[128 + 64] = 1;
     print(b"F2M3 00000001\n", one.first(2));
-    let mut minus = File::smallest(Form::New);
+    let mut minus = File::smallest(RecordSize::New);
     minus.bytes[128 + 67] = 128;
     print(b"F2M3 80000000\n", minus.first(2));
     let mut astray = minus.record(1, 2, 2);
@@ -89,7 +89,7 @@ fn f2m3() {
     let mut after = minus;
     after.bytes[128 + 68] = 1;
     print(b"F2M3 and byte 68\n", after.first(2));
-    let mut aside = File::smallest(Form::New).record(2, 2, 0);
+    let mut aside = File::smallest(RecordSize::New).record(2, 2, 0);
     aside.bytes[256 + 64] = 1;
     print(b"F2M3 off the chain\n", aside.first(3));
 }
@@ -135,10 +135,10 @@ fn old_files() {
 fn main() {
     lengths();
     first_record();
-    steps(Form::New, print);
+    steps(RecordSize::New, print);
     records();
     decile_records();
     f2m3();
-    permuted(Form::New, print);
+    permuted(RecordSize::New, print);
     old_files();
 }

@@ -20,7 +20,7 @@ use Rattle.forty_reads.specs.Walk.{ysq_walk_of}
 use Rattle.heights.specs.Weights.{wt}
 use Rattle.heights.specs.Gethp.{mup_of, hp_of}
 use Rattle.heights.specs.Walk.{gethp_read_of}
-use Rattle.walk_apart.specs.Apart.{Lent, scanned_and_counted, WalkApart}
+use Rattle.walk_apart.specs.Apart.{promised, Lent, scanned_and_counted, WalkApart}
 
 all : List Float → Bool
 all [] = true
@@ -50,18 +50,18 @@ densities-lent : Lent fnsq
 unfolding fnsq fits all of_bits
 densities-lent = lent_by fnsq tt tt
 
-cursors-differ : eqb (gethp_read_of false true htr fnsq f1).cursor (scanned_and_counted htr fnsq f1).cursor ≡ false
-unfolding htr fnsq gethp_read_of scanned_and_counted cursor_before read_on_of climb_from count_from height_at height_of ig_at ib_at xt profile_interpolate_of value_of scan_from segment_of add sub mul div le lt eq of_bits round
+cursors-differ : eqb (promised htr fnsq f1).cursor (scanned_and_counted htr fnsq f1).cursor ≡ false
+unfolding htr fnsq promised gethp_read_of scanned_and_counted cursor_before read_on_of climb_from count_from height_at height_of ig_at ib_at xt profile_interpolate_of value_of scan_from segment_of add sub mul div le lt eq of_bits round
 cursors-differ = refl
 
 abbrev walked : Float
-walked = (gethp_read_of false true htr fnsq f1).hp
+walked = (promised htr fnsq f1).hp
 
 abbrev scanned : Float
 scanned = (scanned_and_counted htr fnsq f1).hp
 
 heights-differ : (walked ==f scanned) ≡ false
-unfolding htr fnsq gethp_read_of scanned_and_counted ysq_walk_of ysq_of cut_of mup_of hp_of wt min_of sqrt_of reading_of cursor_before read_on_of climb_from count_from height_at height_of ig_at ib_at xt profile_interpolate_of value_of scan_from segment_of add sub mul div le lt eq of_bits round or_second is_nan
+unfolding htr fnsq promised gethp_read_of scanned_and_counted ysq_walk_of ysq_of cut_of mup_of hp_of wt min_of sqrt_of reading_of cursor_before read_on_of climb_from count_from height_at height_of ig_at ib_at xt profile_interpolate_of value_of scan_from segment_of add sub mul div le lt eq of_bits round or_second is_nan
 heights-differ = refl
 
 scanned-itself : (scanned ==f scanned) ≡ true

@@ -10,6 +10,10 @@ use Rattle.heights.specs.Gethp.{gethp_by}
 use Rattle.heights.specs.Walk.{gethp_read_of}
 use Rattle.heights.specs.declared.Heights.{Heights}
 
+-- what is promised, told to walk
+unfoldable pub promised : List Float → List Float → Float → Heights
+promised htr fnsq fxx = gethp_read_of false true htr fnsq fxx
+
 -- fifty f32 numbers, as code lends them
 abbrev pub Lent : List Float → Type 0
 Lent l = (length l ≡ 50) × EachF32 l
@@ -20,9 +24,9 @@ scanned_and_counted htr fnsq fxx =
     let fr = fxx *f fxx in
     gethp_by (fr -f at fnsq 0 ≤f f0) false htr fnsq fr (λ ht. ysq_of htr fnsq ht fr) (λ ht. count_of htr (height_at (at htr 0) ht 39))
 
--- a number of the heights that is the promised one, told to walk, on everything that can be lent
+-- a number of the heights that is the promised one, on everything that can be lent
 abbrev pub Meets : {A : Type 0} → (Heights → A) → (List Float → List Float → Float → Heights) → Type 0
-Meets part found = (htr fnsq : List Float) (fxx : Float) → Lent htr → Lent fnsq → part (gethp_read_of false true htr fnsq fxx) ≡ part (found htr fnsq fxx)
+Meets part found = (htr fnsq : List Float) (fxx : Float) → Lent htr → Lent fnsq → part (promised htr fnsq fxx) ≡ part (found htr fnsq fxx)
 
 pub record WalkApart : Type 0 where
   -- scans do not find the promised virtual heights

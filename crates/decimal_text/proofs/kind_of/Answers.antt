@@ -3,11 +3,11 @@ use mathlib.Core.Path.{◌≡◌, refl, sym, ap, ◌∙◌}
 use mathlib.Core.Bool.{Bool, true, false, false≢true}
 use lib.Ieee.{Float, nan, inf, fin, is_nan}
 use Rattle.std.specs.Float.{float_is_infinite, is_sign_negative}
-use Rattle.decimal_text.specs.declared.Kind.{Kind}
+use Rattle.decimal_text.specs.declared.NumberKind.{NumberKind}
 use Rattle.decimal_text.specs.Number.{finite_kind, infinite_kind, number_kind_of}
 use Rattle.decimal_text.proofs.kind_of.Goals as goal
 
-undefined : (v : Float) → is_nan v ≡ true → Kind.NotANumber ≡ number_kind_of v
+undefined : (v : Float) → is_nan v ≡ true → NumberKind.NotANumber ≡ number_kind_of v
 unfolding number_kind_of is_nan
 undefined nan e = refl
 undefined (inf s) e = absurd (false≢true e)

@@ -23,11 +23,11 @@ value-v-requires c = let f = fine-there (goal.at.value-v-requires c).Else-not-fi
 pub overflow_cast-rest : goal.overflow_cast-rest
 overflow_cast-rest c = let f = (fine-there (goal.at.overflow_cast-rest c).Else-not-fine).most in omega arith
 
-pub nearest-requires : goal.nearest-requires
-nearest-requires c = let f = (fine-there (goal.at.nearest-requires c).Else-not-fine).most in omega arith
+pub nearest_bits-requires : goal.nearest_bits-requires
+nearest_bits-requires c = let f = (fine-there (goal.at.nearest_bits-requires c).Else-not-fine).most in omega arith
 
 pub returns : goal.returns
 unfolding parts_of
 returns c =
     rw (sym c.fine.ensures ∙ c.if-not-fine.false, ← c.value.ensures.0, ← c.value-v.ensures.0)
-    (ap Some c.nearest.ensures)
+    (ap Some c.nearest_bits.ensures)

@@ -7,6 +7,6 @@ pub returns : goal.returns
 returns c =
     let a = c.args in
     elim c.if-p.branch [
-      | then-p w ↦ let d = w.walk_reads-d.ensures in rw w.if-p.true (rw (c.shares.ensures, w.d-is, d.0) (walk-table a.p.htr.now a.p.fnsq.now a.ht a.fr), rw w.d-is d.1)
-      | else-p w ↦ let d = w.scan_reads-d.ensures in rw w.if-p.false (rw (c.shares.ensures, w.d-is, d.0) (scan-table a.p.htr.now a.p.fnsq.now a.ht a.fr), rw w.d-is d.1)
+      | then-p w ↦ let d = w.walk_reads-d.ensures in rw w.if-p.true (rw (c.shares.ensures.shares, w.d-is, d.0) (walk-table a.p.htr.now a.p.fnsq.now a.ht a.fr), rw w.d-is d.1, c.shares.ensures.cut)
+      | else-p w ↦ let d = w.scan_reads-d.ensures in rw w.if-p.false (rw (c.shares.ensures.shares, w.d-is, d.0) (scan-table a.p.htr.now a.p.fnsq.now a.ht a.fr), rw w.d-is d.1, c.shares.ensures.cut)
     ]

@@ -13,5 +13,5 @@ unfolding head_into
 returns c =
     let z = c.args.h.modmuf in
     let m : mag z < 0x8000_0000 = search rules in
-    let e : c.word.result ≡ word_of z = c.word.ensures ∙ ap word_of (read_back z m) in
+    let e : c.word_of.result ≡ word_of z = c.word_of.ensures ∙ ap word_of (read_back z m) in
     rw (← c.floats_into.ensures, ← e, ← c.count.ensures)

@@ -1,15 +1,24 @@
-use mathlib.Core.Path.{refl}
-use native.Mathlib.Omega.{arith}
-use lib.Ieee.{Float}
-use Rattle.integrands.specs.Integrands.{share_of}
-use Rattle.integrands.proofs.InPlace.{turn, changed}
+-- Each is worked out from the quotient at its place. Assumes nothing.
+use mathlib.Core.Path.{ap, ◌∙◌}
+use mathlib.Core.List.{map, map-map}
+use Rattle.std.proofs.Common.{rules}
+use lib.Dec.{T}
+use lib.Ieee.{Float, nan}
+use Rattle.scalar.specs.F32.{◌/f◌, ◌≤f◌}
+use Rattle.scalar.specs.Literals.{f0_9999}
+use Rattle.scalar.specs.Scalar.{min_of}
+use Rattle.scalar.proofs.FromFn.{from_fn_each, from_fn_map}
 use Rattle.integrands.proofs.shares.Goals as goal
 
-pub loop-d-init : goal.loop-d-init
-loop-d-init c = refl
+pub returns-clause-shares : goal.returns-clause-shares
+returns-clause-shares c =
+    let d = c.args.densities in
+    let share = c.from_fn-share.result in
+    let f = λ (x : Float). x /f c.args.fr in
+    let g = λ (x : Float). min_of x f0_9999 in
+    from_fn_map g share nan nan c.from_fn-share.ensures.items.long (λ k y q l r. search rules) c.from_fn.ensures.items
+    ∙ ap (map g) (from_fn_map f d nan nan (search rules) (λ k y q l r. search rules) c.from_fn-share.ensures.items)
+    ∙ map-map g f d
 
-pub loop-d-preserved : goal.loop-d-preserved
-loop-d-preserved c = let l = c.loop-d in turn (λ (d : Float). share_of d c.args.fr) c.args.densities.now l.d-items l.d-index _ (omega arith) l.invariant c.min.ensures
-
-pub returns : goal.returns
-returns c = let l = c.loop-d in changed (λ (d : Float). share_of d c.args.fr) c.args.densities.now l.d-items l.d-index (omega arith) l.invariant
+pub returns-clause-cut : goal.returns-clause-cut
+returns-clause-cut c = from_fn_each (λ k y. T (y ≤f f0_9999)) (λ k y q l r. search rules) c.from_fn.ensures.items nan

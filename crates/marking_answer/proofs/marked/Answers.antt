@@ -9,4 +9,4 @@ returns-then-theirs-gt-SHEET c = rw (lt-ltb _ _ c.if-theirs-gt-SHEET.true)
 
 pub returns : goal.returns
 unfolding text_marked sized_of
-returns c = rw (le-ltb _ _ c.if-theirs-gt-SHEET.false, c.compare.ensures)
+returns c = rw (le-ltb _ _ c.if-theirs-gt-SHEET.false, c.verdict.ensures)

@@ -31,17 +31,17 @@ unfolding plot_of
 few f p e = few-by (sheet_of f) (circuit_in (read_of form64 f)) p (three-slots f) e
 
 pub put_plot-requires : goal.put_plot-requires
-put_plot-requires c = (omega arith, few _ c.in-Ok.p (sym c.of_file.ensures ∙ c.in-Ok.is))
+put_plot-requires c = (omega arith, few _ c.in-Ok.p (sym c.plot_of.ensures ∙ c.in-Ok.is))
 
 pub returns-in-Ok : goal.returns-in-Ok
 unfolding plot_text
 returns-in-Ok c =
     let p = c.in-Ok.p in
-    let e : plot_of c.args.file.now ≡ Ok p = sym c.of_file.ensures ∙ c.in-Ok.is in
+    let e : plot_of c.args.file.now ≡ Ok p = sym c.plot_of.ensures ∙ c.in-Ok.is in
     rw (e, c.put_plot.ensures, c.new-page.ensures) (fits 24576 (picture_text p) (omega (arith, (answered-most p (few _ p e)).most)))
 
 pub returns-in-Err : goal.returns-in-Err
 unfolding plot_text
 returns-in-Err c =
-    let e : plot_of c.args.file.now ≡ Err c.in-Err.r = sym c.of_file.ensures ∙ c.in-Err.is in
+    let e : plot_of c.args.file.now ≡ Err c.in-Err.r = sym c.plot_of.ensures ∙ c.in-Err.is in
     rw (e, c.put_refused.ensures, c.new-page.ensures) (fits 24576 (refused_text c.in-Err.r) (omega (arith, (refused c.in-Err.r).most)))

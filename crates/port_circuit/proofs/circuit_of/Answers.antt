@@ -4,4 +4,4 @@ use Rattle.port_circuit.proofs.circuit_of.Goals as goal
 
 pub returns : goal.returns
 unfolding circuit_of_words
-returns c = rw (← c.words.ensures, ← c.words-2.ensures)
+returns c = rw (← c.words_from.ensures, ← c.words_from-2.ensures)

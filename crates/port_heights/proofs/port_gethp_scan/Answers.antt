@@ -4,4 +4,4 @@ use Rattle.heights.proofs.Whole.{scan-cursor}
 use Rattle.port_heights.proofs.port_gethp_scan.Goals as goal
 
 pub heights_by-requires-clause-cursor : goal.heights_by-requires-clause-cursor
-heights_by-requires-clause-cursor c s x h e = rw (e.1, scan-cursor s x) zero-le
+heights_by-requires-clause-cursor c s x h e = rw (e, scan-cursor s.now x) zero-le

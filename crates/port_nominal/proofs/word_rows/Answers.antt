@@ -5,4 +5,4 @@ use Rattle.port_nominal.proofs.WordRows.{rows}
 use Rattle.port_nominal.proofs.word_rows.Goals as goal
 
 pub returns : goal.returns
-returns c = c.rows_of.ensures (row_at (floats c.args.es.now)) (λ k r e. search rules) ∙ rows c.args.es.now c.args.n c.requires.1
+returns c = c.five_rows_of.ensures (row_at (floats c.args.es.now)) (λ k r e. search rules) ∙ rows c.args.es.now c.args.n c.requires.1

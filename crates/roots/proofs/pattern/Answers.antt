@@ -6,4 +6,4 @@ use lib.Ieee.Bits.{of_bits-to_bits}
 use Rattle.roots.proofs.pattern.Goals as goal
 
 pub returns : goal.returns
-returns c = let s = c in (c.bits.ensures, sym (of_bits-to_bits binary32 s.args.x (subst T (sym s.well_formed.0.1) tt)))
+returns c = of_bits-to_bits binary32 c.args.x (subst T (sym c.well_formed.0.1) tt)

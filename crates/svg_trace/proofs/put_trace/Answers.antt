@@ -15,7 +15,7 @@ loop-f-preserved g c =
     let h = c.args.h.now in
     let t = zip_turn f h l.yielded _ l.f-iterator c.next.new.self c.next.result (search rules) (search rules) l.yielded_by _ c.in-Some.is c.next.ensures.steps in
     let i : ℕ = length l.yielded in
-    let p : c.point-here.result ≡ row_point f h i = c.point-here.ensures ∙ ap (λ (x : Float). point_drawn_of x c.in-Some.h.now) (t.2 nan) ∙ ap (point_drawn_of (at f i)) (t.3 nan) in
+    let p : c.point_drawn-here.result ≡ row_point f h i = c.point_drawn-here.ensures ∙ ap (λ (x : Float). point_drawn_of x c.in-Some.h.now) (t.2 nan) ∙ ap (point_drawn_of (at f i)) (t.3 nan) in
     let q = put_then _ _ _ _ l.invariant.1 (rw (← p, ← l.invariant.0) c.put_step.ensures) in
     (rw (length-append l.yielded _, add-one i) p, rw (length-append l.yielded _, joined_more (step_at f h) i) q)
 

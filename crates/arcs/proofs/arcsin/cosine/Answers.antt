@@ -1,7 +1,7 @@
 -- `arcs::arcsin::cosine` meets its contract.
 use mathlib.Core.Path.{ap, ◌∙◌}
 use Rattle.scalar.specs.Root.{root}
-use Rattle.arcs.specs.Asin.{cosine_of}
+use Rattle.arc_tables.specs.Tables.{cosine_of}
 use Rattle.arcs.proofs.arcsin.cosine.Goals as goal
 
 pub returns : goal.returns

@@ -4,9 +4,8 @@ use Prim.Native.Nat.{ℕ, ◌-◌, ◌*◌, ◌/◌, ◌^◌, ◌<◌, ◌≤◌
 use native.Mathlib.Nat.{le_trans, lt_of_le_of_lt}
 use native.Mathlib.Omega.{arith}
 use lib.Dec.{lit<, lit≤}
-use lib.ListN.{get_or}
-use Rattle.arc_tables.specs.Tables.{cosines}
-use Rattle.arcs.specs.Asin.{cosine_of, arc_of}
+use Rattle.arc_tables.specs.Tables.{cosine_of, cosine_at}
+use Rattle.arcs.specs.Asin.{arc_of}
 use Rattle.arc_tables.proofs.Nodes.{node-slope, arc-most}
 use Rattle.arcs.proofs.Arcs.{Placed, gentle-placed, turn-size, product-fits}
 use Rattle.arcs.proofs.arcsin.gentle_arc.Goals as goal
@@ -15,10 +14,10 @@ abbrev index : ℕ → ℕ
 index n = (n - 2 ^ 16) / 2 ^ 24
 
 -- cosine r and the table's cosine x, as the code has them
-placed : (n r x : ℕ) → 2 ^ 25 ≤ n → n ≤ 3037000499 → r ≡ cosine_of n → x ≡ get_or cosines (index n) 0 → Placed n r x (index n * 2 ^ 24)
+placed : (n r x : ℕ) → 2 ^ 25 ≤ n → n ≤ 3037000499 → r ≡ cosine_of n → x ≡ cosine_at (index n) → Placed n r x (index n * 2 ^ 24)
 placed n r x l h e f = subst₂ (λ (r x : ℕ). Placed n r x (index n * 2 ^ 24)) (sym e) (sym f) (gentle-placed n l h).2
 
-product_lt : (n x : ℕ) → n ≤ 3037000499 → x ≡ get_or cosines (index n) 0 → x * n < 2 ^ 64
+product_lt : (n x : ℕ) → n ≤ 3037000499 → x ≡ cosine_at (index n) → x * n < 2 ^ 64
 product_lt n x h f = product-fits x n (subst (λ (x : ℕ). x < 2 ^ 32) (sym f) (node-slope (index n) (omega arith)).0) (omega arith)
 
 pub overflow_mul-x : goal.overflow_mul-x

@@ -4,7 +4,7 @@ use Prim.Native.Nat.{ℕ, ◌+◌, ◌-◌, ◌*◌, ◌^◌, ◌<◌, ◌≤◌
 use native.Mathlib.Nat.{mul-le-mul}
 use native.Mathlib.Omega.{arith}
 use Rattle.scalar.specs.Root.{root}
-use Rattle.arcs.specs.Asin.{cosine_of}
+use Rattle.arc_tables.specs.Tables.{cosine_of}
 use Rattle.arcs.proofs.arcsin.near_cosine.Goals as goal
 
 above : (m n g : ℕ) → m ≡ 2 ^ 64 - 1 - n * n → n < 2 ^ 32 → g ≤ 2 ^ 32 → 2 ^ 32 ≤ g + n → m < g * (2 ^ 33 - g)

@@ -4,9 +4,8 @@ use Prim.Native.Nat.{ℕ, ◌+◌, ◌-◌, ◌*◌, ◌/◌, ◌^◌, ◌<◌, 
 use native.Mathlib.Nat.{lt_of_le_of_lt}
 use native.Mathlib.Omega.{arith}
 use lib.Dec.{lit<}
-use lib.ListN.{get_or}
-use Rattle.arc_tables.specs.Tables.{cosines, half_pi}
-use Rattle.arcs.specs.Asin.{cosine_of, arc_of, steep_arc}
+use Rattle.arc_tables.specs.Tables.{cosine_of, cosine_at, half_pi}
+use Rattle.arcs.specs.Asin.{arc_of, steep_arc}
 use Rattle.arc_tables.proofs.Nodes.{arc-most}
 use Rattle.arcs.proofs.Arcs.{Placed, steep-placed, steep-cosine, turn-size, product-fits}
 use Rattle.arcs.proofs.arcsin.steep_arc.Goals as goal
@@ -21,10 +20,10 @@ index_lt : (n r : ℕ) → 3037000500 ≤ n → r ≡ cosine_of n → index r < 
 index_lt n r h e = let k = small n r h e in omega arith
 
 -- the turn, as the code has it
-placed : (n r y : ℕ) → 3037000500 ≤ n → n < 2 ^ 32 → r ≡ cosine_of n → y ≡ get_or cosines (index r) 0 → Placed n r (index r * 2 ^ 24) y
+placed : (n r y : ℕ) → 3037000500 ≤ n → n < 2 ^ 32 → r ≡ cosine_of n → y ≡ cosine_at (index r) → Placed n r (index r * 2 ^ 24) y
 placed n r y l h e f =
     subst (λ (y : ℕ). Placed n r (index r * 2 ^ 24) y) (sym f)
-    (subst (λ (r : ℕ). let k = (r + 2 ^ 16) / 2 ^ 24 + 1 in Placed n r (k * 2 ^ 24) (get_or cosines k 0)) (sym e) (steep-placed n l h).2)
+    (subst (λ (r : ℕ). let k = (r + 2 ^ 16) / 2 ^ 24 + 1 in Placed n r (k * 2 ^ 24) (cosine_at k)) (sym e) (steep-placed n l h).2)
 
 product_lt : (n r : ℕ) → 3037000500 ≤ n → n < 2 ^ 32 → r ≡ cosine_of n → index r * 2 ^ 24 * n < 2 ^ 64
 product_lt n r l h e = product-fits (index r * 2 ^ 24) n (let k = index_lt n r l e in omega arith) h

@@ -7,7 +7,10 @@ use lib.Pow.{pow_pos, pow_mono}
 use lib.Dec.{lit<, lit≤}
 use mir.Syntax.{w64}
 use mir.Val.{Fits}
+use lib.ListN.{get_or}
 use Rattle.fixed.specs.Fixed.{digits}
+use Rattle.arc_tables.specs.Tables.{angles, half_pi}
+use Rattle.arc_tables.proofs.Angles.{Entry}
 use Rattle.arcs.specs.Atan.{angle_of, steep_of}
 use Rattle.fixed.proofs.Sizes.{dig-low, dig-high}
 use Rattle.arcs.proofs.Reduce.{high-top, high-fine, high-coarse, at_lt, at_high, rest-most, den-most, quo-most, steep-entry, sum-fits}
@@ -73,19 +76,19 @@ den-least y n h = omega arith
 div-pos : (n : ℕ) → 2 ^ 16 * 2 ^ 8 ≤ n → 0 < n
 div-pos n h = omega arith
 
-pub overflow_mul-i : goal.overflow_mul-i
-overflow_mul-i c = let h = (range (goal.at.overflow_mul-i c).After-power-e).1 in omega arith
-
-pub overflow_add-i : goal.overflow_add-i
-overflow_add-i c = let h = (range (goal.at.overflow_add-i c).After-power-e).1 in omega arith
-
-pub nonzero_div-i : goal.nonzero_div-i
-nonzero_div-i c =
-    let s = (goal.at.nonzero_div-i c).After-power-e in
-    div-pos (n s) (fine s)
+pub overflow_mul-j : goal.overflow_mul-j
+overflow_mul-j c = let h = (range (goal.at.overflow_mul-j c).After-power-e).1 in omega arith
 
 pub overflow_add-j : goal.overflow_add-j
-overflow_add-j c = let h = place-lt (goal.at.overflow_add-j c).After-power-e in omega arith
+overflow_add-j c = let h = (range (goal.at.overflow_add-j c).After-power-e).1 in omega arith
+
+pub nonzero_div-j : goal.nonzero_div-j
+nonzero_div-j c =
+    let s = (goal.at.nonzero_div-j c).After-power-e in
+    div-pos (n s) (fine s)
+
+pub overflow_add-j-2 : goal.overflow_add-j-2
+overflow_add-j-2 c = let h = place-lt (goal.at.overflow_add-j-2 c).After-power-e in omega arith
 
 pub overflow_mul-n-2 : goal.overflow_mul-n-2
 overflow_mul-n-2 c =
@@ -121,15 +124,21 @@ quotient-q-requires c =
       le_trans (den-le s) (lit≤ tt),
     )
 
-pub steep_angle-requires : goal.steep_angle-requires
-steep_angle-requires c = place-lt (goal.at.steep_angle-requires c).After-power-e
+pub gentle_angle-requires : goal.gentle_angle-requires
+gentle_angle-requires c = let h = place-lt (goal.at.gentle_angle-requires c).After-power-e in omega arith
+
+entry-at : (c : After-power-e) → Entry 1 (place c + 1) 128 (half_pi - get_or angles (place c + 1) 0)
+entry-at c = steep-entry (n c) (e c) (2 ^ 16) (top c) (lit< tt) (fine c) (coarse c)
+
+pub overflow_sub-gentle_angle : goal.overflow_sub-gentle_angle
+overflow_sub-gentle_angle c = let h = (entry-at (goal.at.overflow_sub-gentle_angle c).After-power-e).least in omega (arith, c.gentle_angle.ensures)
 
 pub angle_sum-requires : goal.angle_sum-requires
 angle_sum-requires c =
     let s = (goal.at.angle_sum-requires c).After-power-e in
-    sum-fits c.steep_angle.ensures c.quotient-q.ensures (steep-entry (n s) (e s) (2 ^ 16) (top s) (lit< tt) (fine s) (coarse s)).most (quo-most (n s) (e s) (2 ^ 16) (top s) (lit< tt) (fine s) (coarse s))
+    sum-fits (ap (λ (A : ℕ). half_pi - A) c.gentle_angle.ensures) c.quotient-q.ensures (entry-at s).most (quo-most (n s) (e s) (2 ^ 16) (top s) (lit< tt) (fine s) (coarse s))
 
 pub returns : goal.returns
 returns c =
-    c.angle_sum.ensures ∙ ap₂ (λ (A q : ℕ). angle_of A q) c.steep_angle.ensures c.quotient-q.ensures
+    c.angle_sum.ensures ∙ ap₂ (λ (A q : ℕ). angle_of (half_pi - A) q) c.gentle_angle.ensures c.quotient-q.ensures
     ∙ ap (λ (y : ℕ). steep_of (n (goal.at.returns c).After-power-e) y (2 ^ 16)) c.power-e.ensures

@@ -60,7 +60,7 @@ pub quotient-q-requires : goal.quotient-q-requires
 quotient-q-requires c = let r = rest (goal.at.quotient-q-requires c).After-scaled-x in let h = product (goal.at.quotient-q-requires c).After-scaled-x in (omega arith, omega arith, omega arith)
 
 pub gentle_angle-requires : goal.gentle_angle-requires
-gentle_angle-requires c = index (goal.at.gentle_angle-requires c).After-scaled-x
+gentle_angle-requires c = let l = index (goal.at.gentle_angle-requires c).After-scaled-x in omega arith
 
 pub angle_sum-requires : goal.angle_sum-requires
 angle_sum-requires c =

@@ -1,28 +1,34 @@
 -- Place by place, what is told follows from what each step made there.
-use mathlib.Core.Path.{◌≡◌, ap, ◌∙◌, subst}
-use Prim.Native.Nat.{ℕ, ◌^◌, ◌<◌}
+use mathlib.Core.Path.{◌≡◌}
+use Prim.Native.Nat.{ℕ}
+use native.Mathlib.Nat.{add-zero}
 use borrow.Author.Rules.{rules}
-use lib.Ieee.{Float, nan}
 use lib.ListN.{get_or}
-use Rattle.scalar.specs.F32.{◌/f◌, ◌*f◌, ◌-f◌, at}
-use Rattle.scalar.specs.Literals.{f0_000001, f1}
-use Rattle.scalar.specs.Scalar.{max_of}
+use Rattle.scalar.specs.F32.{◌/f◌, at}
 use Rattle.scalar.proofs.FromFn.{from_fn_each}
-use Rattle.cell_test.specs.Cell.{sqcos_of, Tested, Told}
-use Rattle.cell_test.proofs.Cosine.{squared}
-use Rattle.cell_rows.proofs.Bounds.{low-at, high-at}
+use Rattle.cell_test.specs.Cell.{low_pattern_of, high_pattern_of, told_of}
+use Rattle.cell_test.proofs.Cosine.{squared, squared-fits}
+use Rattle.cell_test.proofs.Right.{told-right}
+use Rattle.cell_rows.proofs.Bounds.{bound_at}
 use Rattle.cell_rows.proofs.Rows.guess.Goals as goal
 
+pub numbers-n-requires : goal.numbers-n-requires
+numbers-n-requires c = λ i l. rw (c.cosines-sqcos.ensures i l) (squared _).1
+
+pub products-p-requires-clause-cosines : goal.products-p-requires-clause-cosines
+products-p-requires-clause-cosines c = λ i l. rw (c.cosines-sqcos.ensures i l) ((squared _).1, (squared _).2)
+
+pub products-q-requires-clause-cosines : goal.products-q-requires-clause-cosines
+products-q-requires-clause-cosines c = λ i l. rw (c.cosines-sqcos.ensures i l) ((squared _).1, (squared _).2)
+
 pub returns : goal.returns
-unfolding sqcos_of
 returns c =
     let r = c.args.self.now in
-    let sphe = λ (i : ℕ). c.args.rcosd /f at r.radii i in
-    let uncut = from_fn_each (λ (i : ℕ) (y : Float). y ≡ f1 -f sphe i *f sphe i) (λ i y q l h. (search rules, search rules)) c.from_fn-uncut.ensures.items nan in
-    let cut = from_fn_each (λ (i : ℕ) (y : Float). y ≡ max_of (at c.from_fn-uncut.result i) f0_000001) (λ i y q l h. (search rules, search rules)) c.from_fn-sqcos.ensures.items nan in
-    let guessed = from_fn_each (λ (i : ℕ) (y : ℕ). y < 2 ^ 22) (λ i y q l h. (search rules, search rules)) c.from_fn-n.ensures.items 0 in
-    let told = from_fn_each (λ (i : ℕ) (y : ℕ). Tested (get_or c.from_fn-n.result i 0) (at r.fv i) (at c.from_fn-sqcos.result i) (at r.low i) (at r.high i) → Told (at r.fv i) (at c.from_fn-sqcos.result i) y) (λ i y q l h. (search rules, search rules)) c.from_fn.ensures.items 0 in
+    let n = λ (i : ℕ). get_or c.numbers-n.result i 0 in
+    let told = from_fn_each (λ (i : ℕ) (y : ℕ). y ≡ told_of (n i) (get_or c.products-p.result i 0) (get_or c.products-q.result i 0) (get_or r.low i 0) (get_or r.high i 0)) (λ i y q l h. (search rules, search rules)) c.from_fn.ensures.items 0 in
     λ i l.
-    let e = cut i l ∙ ap (λ (x : Float). max_of x f0_000001) (uncut i l) in
-    let b = squared (sphe i) in
-    subst (λ (s : Float). Told (at r.fv i) s (get_or c.from_fn.result i 0)) e (told i l (record { guessed = guessed i l; least = rw e b.1; most = rw e b.2; lower = rw r.lows (low-at r.fv i); upper = rw r.highs (high-at r.fv i) }))
+    let e = c.cosines-sqcos.ensures i l in
+    let b = squared (c.args.rcosd /f at r.radii i) in
+    let lower : get_or r.low i 0 ≡ low_pattern_of (at r.fv i) = rw r.lows (bound_at low_pattern_of r.fv i (search rules) l) in
+    let upper : get_or r.high i 0 ≡ high_pattern_of (at r.fv i) = rw r.highs (bound_at high_pattern_of r.fv i (search rules) l) in
+    rw (told i l, c.products-p.ensures i l, c.products-q.ensures i l, add-zero (n i), lower, upper, e) (told-right (at r.fv i) _ (n i) (r.held i l) (squared-fits _) b.1 b.2 (c.numbers-n.ensures i l))

@@ -1,18 +1,20 @@
--- Each bound is the function's of its frequency.
-use mathlib.Core.Path.{◌≡◌}
+-- Each place is the function's of its frequency.
 use Prim.Native.Nat.{ℕ}
 use borrow.Author.Rules.{rules}
-use lib.Ieee.{Float, nan}
+use lib.Dec.{T}
+use lib.Ieee.{Float, binary32, nan, fits}
+use lib.Ieee.Positive.{positive}
 use Rattle.scalar.specs.F32.{at}
-use Rattle.scalar.proofs.FromFn.{from_fn_each}
-use Rattle.cell_test.specs.Cell.{low_of, high_of}
-use Rattle.cell_rows.proofs.Maps.{map-each}
+use Rattle.scalar.proofs.FromFn.{from_fn_each, from_fn_map}
+use Rattle.cell_test.specs.Cell.{low_pattern_of, high_pattern_of}
 use Rattle.cell_rows.proofs.Rows.new.Goals as goal
 
 pub invariant_of-result : goal.invariant_of-result
 invariant_of-result c =
     let fv = c.args.fv in
     record {
-      lows = map-each low_of _ _ (search rules) (search rules) (from_fn_each (λ (i : ℕ) (y : Float). y ≡ low_of (at fv i)) (λ i y q l h. (search rules, search rules)) c.from_fn.ensures.items nan);
-      highs = map-each high_of _ _ (search rules) (search rules) (from_fn_each (λ (i : ℕ) (y : Float). y ≡ high_of (at fv i)) (λ i y q l h. (search rules, search rules)) c.from_fn-2.ensures.items nan);
+      lows = from_fn_map low_pattern_of fv nan 0 (search rules) (λ i y q l h. (search rules, search rules)) c.from_fn-2.ensures.items;
+      highs = from_fn_map high_pattern_of fv nan 0 (search rules) (λ i y q l h. (search rules, search rules)) c.from_fn-3.ensures.items;
+      held = from_fn_each (λ (i : ℕ) (y : ℕ). T (fits binary32 (at fv i))) (λ i y q l h. (search rules, search rules)) c.from_fn-2.ensures.items 0;
+      plains = from_fn_each (λ (i : ℕ) (y : Float). T (positive y)) (λ i y q l h. (search rules, search rules)) c.from_fn.ensures.items nan;
     }

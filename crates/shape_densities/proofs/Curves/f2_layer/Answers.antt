@@ -1,11 +1,19 @@
--- Each path is the clause that its test chooses.
-use Rattle.shape_densities.specs.Density.{fn2_of}
+-- The same operations at each lane, in the same order.
+use mathlib.Core.Path.{◌≡◌}
+use Rattle.std.proofs.Common.{rules}
+use lib.ListN.{length}
+use Rattle.scalar.specs.F32.{◌-f◌, ◌≤f◌}
+use Rattle.scalar.specs.Literals.{f0}
+use Rattle.shape_densities.specs.Density.{parabola_of, fn2_of}
+use Rattle.shape_densities.proofs.Lanes.{own, splat, made, op, test, select}
 use Rattle.shape_densities.proofs.Curves.f2_layer.Goals as goal
 
-pub returns-then-within : goal.returns-then-within
+pub returns : goal.returns
 unfolding fn2_of
-returns-then-within c = rw (c.if-within.true, ← c.parabola-curve.ensures)
-
-pub returns-else-within : goal.returns-else-within
-unfolding fn2_of
-returns-else-within c = rw c.if-within.false
+returns g c =
+    let h = c.args.h in
+    let s = c.args.self in
+    let e : length h ≡ g.row.N = search rules in
+    let v = splat h e in
+    let within = test ◌≤f◌ (op ◌-f◌ (v s.hb2v) (own h)) (v f0) in
+    (select within (made h (parabola_of s.fc2 s.hi2 s.yi2) c.parabola-curve.ensures) (v f0)).is

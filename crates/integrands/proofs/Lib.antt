@@ -1,2 +1,0 @@
--- Lists made by loops.
-pub mod InPlace
