@@ -27,7 +27,7 @@ pub fn padded(x: [f32; 30]) -> [f32; 32]
     r
 }
 
-// The products of the numbers n, or of those that are more.
+// The patterns of the products of the numbers n, or, where `more` is 1, of those one above them.
 fn products(n: &[u32; 32], more: u32, sqcos: &[f32; 32]) -> [u32; 32]
     requires few { (more ≤ 1) × ((i : ℕ) → i < 32 → get_or n.now i 0 < 2 ^ 22) }
     requires cosines { (i : ℕ) → i < 32 → T (f0_000001 ≤f number_at sqcos.now i) × T (number_at sqcos.now i ≤f f1) }
@@ -83,7 +83,7 @@ impl Rows {
         }
     }
 
-    // The squares of the cosines at the rows' heights for an angle. Floats are compared in a step of its own: the compiler makes vector
+    // The squares of the cosines at the rows' heights for an angle. Floats are compared in a step of their own: the compiler makes vector
     // instructions of a step that does little else.
     fn cosines(&self, rcosd: f32) -> [f32; 32]
         ensures { (i : ℕ) → i < 32 → number_at result i ≡ sqcos_of (rcosd /f number_at self.now.radii i) }

@@ -95,7 +95,7 @@ pub whole : (n : ℕ) → n ≤ 2 ^ 22 → HasValue (of_int binary32 (pos n)) fa
 unfolding of_int
 whole n h = round_whole binary32 false n (le_trans h (lit≤ {m = 2 ^ 22} {n = 2 ^ 24} tt))
 
--- 1 MHz: the numbers of its row stand for those of any where the row is not seen
+-- 1 MHz, for lemmas that speak of a row's frequency but do not depend on it
 pub own : Sized f1 (2 ^ 139) (2 ^ 159)
 own = record { size = 2 ^ 149; is = one; least = lit≤ tt; most = lit≤ tt }
 

@@ -42,7 +42,7 @@ high_of fvv = khz_square_of fvv *f over_one
 abbrev pub in_doubt : ℕ
 in_doubt = 2 ^ 31
 
--- The bounds by their patterns, which are in order as the floats are. Where the frequency is not tame the upper one is above every product's.
+-- The bounds by their patterns, which are in order as floats that are not below zero are. Where the frequency is not tame the lower one is 0, and the upper one above every product's.
 unfoldable pub low_pattern_of : Float → ℕ
 low_pattern_of fvv = cond (tame fvv) (to_bits binary32 (low_of fvv)) 0
 
@@ -53,7 +53,7 @@ high_pattern_of fvv = cond (tame fvv) (to_bits binary32 (high_of fvv)) (2 ^ 32 -
 unfoldable pub told_of : ℕ → ℕ → ℕ → ℕ → ℕ → ℕ
 told_of n p q low high = cond (leb high q) (cond (leb p low) n in_doubt) in_doubt
 
--- What is answered for a cell: a number below that one, and then it is the cell, or one from there on, which says nothing.
+-- What is answered for a cell: a number below `in_doubt`, and then it is the cell, or one from there on, which says nothing.
 pub record Told (fvv sqcos : Float) (r : ℕ) : Type 0 where
   pub most : r < 2 ^ 32
   pub right : r < in_doubt → khz_of fvv sqcos ≡ pos r

@@ -19,7 +19,7 @@ pub fn uncut(sphe: f32) -> f32
     1.0 - sphe * sphe
 }
 
-// Cut at a millionth. Stays: one test where `scalar::max` has two, by which a scan takes 1.04 of the time.
+// Cut at a millionth. Stays: one test where `scalar::max` has two, of which the compiler makes no vector instructions.
 pub fn cut(square: f32) -> f32
     ensures { result ≡ max_of square f0_000001 }
 {

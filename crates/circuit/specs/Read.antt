@@ -23,7 +23,7 @@ Parts pre post o =
     → pre f n × ((r : Bor (List ℕ)) → post f n r → r.now ≡ record_at o f.now n)
 
 -- such a function, and a list of records that are in the file and have so many words
-pub record Found (pre : Bor (List ℕ) → ℕ → Type 0) (post : Bor (List ℕ) → ℕ → Bor (List ℕ) → Type 0) (o : Form) (f records : List ℕ) (words : ℕ) : Type 0 where
+pub record RecordsFound (pre : Bor (List ℕ) → ℕ → Type 0) (post : Bor (List ℕ) → ℕ → Bor (List ℕ) → Type 0) (o : Form) (f records : List ℕ) (words : ℕ) : Type 0 where
   pub room : 4 + 4 * words ≤ o.size
   pub there : (i : ℕ) → i < length records → o.size * get_or records i 0 + o.size ≤ length f
   pub parts : Parts pre post o

@@ -4,10 +4,10 @@ use mathlib.Core.List.{List, [], ◌∷◌, map}
 use Prim.Native.Nat.{ℕ}
 use lib.Ieee.{binary32, of_bits}
 use Rattle.lines.specs.Text.{decimal_in, decimal_of, joined}
-use Rattle.aligned.specs.Aligned.{repeated, right}
+use Rattle.aligned.specs.Aligned.{star, repeated, right}
 use Rattle.figures.specs.Nearest.{nearest}
 use Rattle.figures.specs.Figure.{figure_of}
-use Rattle.figure_text.specs.FigureText.{star, dash, point, tenths_text, figure_text}
+use Rattle.figure_text.specs.FigureText.{dash, point, tenths_text, figure_text}
 
 abbrev printed : ℕ → List ℕ
 printed bits = figure_text (figure_of (of_bits binary32 bits))

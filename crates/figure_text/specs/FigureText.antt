@@ -1,14 +1,11 @@
 -- The five characters of a printed figure, as bytes: `f(v, 5, 1)` of output.rs.
 use Rattle.std.specs.Prelude.{ℕ, ◌/◌, ◌%◌, ◌<◌, ◌≤◌, ◌≡◌, List, [], ◌∷◌, ◌++◌, length, Float}
 use Rattle.lines.specs.Text.{decimal_of}
-use Rattle.aligned.specs.Aligned.{right}
+use Rattle.aligned.specs.Aligned.{star, right}
 use Rattle.figures.specs.declared.Printed.{Printed}
 use Rattle.figures.specs.Figure.{figure_of}
 
--- `*`, `-` and `.` in ASCII
-abbrev pub star : ℕ
-star = 42
-
+-- `-` and `.` in ASCII
 abbrev pub dash : ℕ
 dash = 45
 

@@ -1,6 +1,6 @@
 // What the forty densities of the Gauss rule come to: each over the squared frequency, cut, and 1 over
 // the root of what it leaves of 1. Each step is made for all forty before the next, so that the compiler
-// makes vector instructions of it; floats are compared in a step of its own, which does nothing else.
+// makes vector instructions of each; floats are compared in a step of their own, which does nothing else.
 #![tactic(auto)]
 
 ghost use Rattle.std.specs.Prelude.{◌≡◌, map, ℕ, ◌<◌, T};
@@ -28,7 +28,7 @@ pub fn shares(densities: [f32; 40], fr: f32) -> [f32; 40]
     from_fn(|k| cut(share[k]))
 }
 
-// 1 over the root of what each leaves of 1, which is a number.
+// 1 over the root of what each leaves of 1, which is no NaN.
 pub fn integrands(ysq: [f32; 40]) -> [f32; 40]
     requires { (k : ℕ) → k < 40 → T (at ysq k ≤f f0_9999) }
     ensures { result ≡ map integrand_of ysq }

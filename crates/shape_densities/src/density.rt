@@ -1,5 +1,5 @@
 // The plasma frequency squared at N heights: the largest of the five shapes, each 0 outside its own range.
-// Heights are lanes of a vector, since the compiler makes no vector instructions of a loop that compares floats; a height
+// Heights are lanes of a vector, since the compiler makes no vector instructions of a step that compares floats and does more; a height
 // alone is a vector of one lane. Both values of a shape are worked out before one is picked, but for the tail, which calls
 // `exp` only where it counts.
 // Stays: the shapes, `self`, are read together with the heights `h` and are no one thing: fifty heights are read with the same

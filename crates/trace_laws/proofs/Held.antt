@@ -13,7 +13,7 @@ use borrow.Author.Tests.{eqb-true, eqb-false}
 use Rattle.trace_lines.specs.Trace.{height_at_khz}
 use Rattle.trace_lines.specs.Lines.{put, listed, line_by, trace_line, trace_lines, line_at}
 use Rattle.trace_laws.specs.Held.{Has, HasRow, True, OneLine, lines_khz, Held, LinesHold}
-use Rattle.trace_lines.specs.Trace.{Rows}
+use Rattle.trace_lines.specs.Trace.{TraceRows}
 use Rattle.trace_laws.specs.Held.True.{both, first, second}
 use Rattle.trace_lines.specs.declared.Line.{Line}
 use Rattle.trace_lines.proofs.Places.{Above, Up, up, up-rises, listed-up}
@@ -177,7 +177,7 @@ one_line ls f u p =
           λ n h e. one_place (lines_khz ls) u n p.place (omega arith) p.within (khz-at ls n ∙ e ∙ sym p.is);
     }
 
-module _ (a ah b bh : List ℕ) (ra : Rows a ah) (rb : Rows b bh) where
+module _ (a ah b bh : List ℕ) (ra : TraceRows a ah) (rb : TraceRows b bh) where
   true-by : (f : ℕ) (o p : Option ℕ) → height_at_khz a ah f ≡ o → height_at_khz b bh f ≡ p → In f a ⊎ In f b
       → True a ah b bh (line_by o p f)
   true-by f (some h) (some k) e g m = both f h k (found a ah f h e) (found b bh f k g) refl

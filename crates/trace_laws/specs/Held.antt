@@ -1,6 +1,6 @@
 -- What the lines of two traces are, by their properties alone, and that nothing else has them.
 use Rattle.std.specs.Prelude.{ℕ, ◌+◌, ◌<◌, ◌≡◌, true, cond, ◌⊎◌, List, [], ◌∷◌, map, eqb, pos, ◌-ℤ◌, length, get_or}
-use Rattle.trace_lines.specs.Trace.{rises, Rows}
+use Rattle.trace_lines.specs.Trace.{rises, TraceRows}
 use Rattle.trace_lines.specs.Lines.{in_both, which_number, trace_lines, line_at}
 use Rattle.trace_lines.specs.declared.Line.{Line}
 use Rattle.trace_lines.specs.declared.Which.{Which}
@@ -56,15 +56,15 @@ pub record Held (a ah b bh : List ℕ) (ls : List Line) : Type 0 where
 
 -- the lines of two traces hold them against one another
 abbrev pub LinesHold : Type 0
-LinesHold = (a ah b bh : List ℕ) → Rows a ah → Rows b bh → Held a ah b bh (trace_lines a ah b bh)
+LinesHold = (a ah b bh : List ℕ) → TraceRows a ah → TraceRows b bh → Held a ah b bh (trace_lines a ah b bh)
 
 -- no other lines do
 abbrev pub OnlyLines : Type 0
 OnlyLines =
-    (a ah b bh : List ℕ) (ls : List Line) → Rows a ah → Rows b bh → Held a ah b bh ls → ls ≡ trace_lines a ah b bh
+    (a ah b bh : List ℕ) (ls : List Line) → TraceRows a ah → TraceRows b bh → Held a ah b bh ls → ls ≡ trace_lines a ah b bh
 
 -- there are as many as there are rows, those at a kHz of both counted once
 abbrev pub LinesCount : Type 0
 LinesCount =
-    (a ah b bh : List ℕ) → Rows a ah → Rows b bh
+    (a ah b bh : List ℕ) → TraceRows a ah → TraceRows b bh
     → length (trace_lines a ah b bh) + shared (trace_lines a ah b bh) ≡ length a + length b

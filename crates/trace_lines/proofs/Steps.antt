@@ -12,7 +12,7 @@ use lib.ListN.{length, get_or, drop}
 use borrow.Author.Tests.{ltb-true, ltb-false, eq-eqb, ne_eqb}
 use Rattle.trace_lines.specs.Trace.{height_at_khz}
 use Rattle.trace_lines.specs.Lines.{in_both, which_number, of_first, of_second, listed, trace_line, trace_lines, line_at}
-use Rattle.trace_lines.specs.Trace.{Rows}
+use Rattle.trace_lines.specs.Trace.{TraceRows}
 use Rattle.trace_lines.specs.declared.Line.{Line}
 use Rattle.trace_lines.specs.declared.Which.{Which}
 use Rattle.trace_lines.proofs.Places.{Above, Up, above-less, up, listed_above, listed-first, listed-second, listed-both}
@@ -149,7 +149,7 @@ above-all : (x : ℕ) (l : List ℕ) → Up l → (0 < length l → x < get_or l
 above-all x [] u h = tt
 above-all x (y ∷ l) u h = let k : x < y = h (omega arith) in (k, above-less y x l (omega arith) u.0)
 
-pub head_first : (a ah b bh : List ℕ) → Rows a ah → Rows b bh → 0 < length a → (0 < length b → get_or a 0 0 < get_or b 0 0)
+pub head_first : (a ah b bh : List ℕ) → TraceRows a ah → TraceRows b bh → 0 < length a → (0 < length b → get_or a 0 0 < get_or b 0 0)
     → record { khz = get_or a 0 0; which = Which.First; difference = pos 0 } ≡ line_at (trace_lines a ah b bh) 0
 head_first [] ah b bh ra rb h k = absurd (omega arith)
 head_first (x ∷ xs) [] b bh ra rb h k = absurd (let g = ra.heights in omega arith)
@@ -158,7 +158,7 @@ head_first (x ∷ xs) (h₁ ∷ hs) b bh ra rb h k =
     sym
     (ap (λ (ls : List Line). line_at ls 0) (step-first x h₁ xs hs b bh u.0 (above-all x b (up b rb.rising) k)))
 
-pub head-second : (a ah b bh : List ℕ) → Rows a ah → Rows b bh → 0 < length b → (0 < length a → get_or b 0 0 < get_or a 0 0)
+pub head-second : (a ah b bh : List ℕ) → TraceRows a ah → TraceRows b bh → 0 < length b → (0 < length a → get_or b 0 0 < get_or a 0 0)
     → record { khz = get_or b 0 0; which = Which.Second; difference = pos 0 } ≡ line_at (trace_lines a ah b bh) 0
 head-second a ah [] bh ra rb h k = absurd (omega arith)
 head-second a ah (y ∷ ys) [] ra rb h k = absurd (let g = rb.heights in omega arith)
@@ -167,7 +167,7 @@ head-second a ah (y ∷ ys) (k₁ ∷ ks) ra rb h k =
     sym
     (ap (λ (ls : List Line). line_at ls 0) (step-second y k₁ a ah ys ks (above-all y a (up a ra.rising) k) v.0))
 
-pub head-both : (a ah b bh : List ℕ) → Rows a ah → Rows b bh → 0 < length a → 0 < length b → get_or a 0 0 ≡ get_or b 0 0
+pub head-both : (a ah b bh : List ℕ) → TraceRows a ah → TraceRows b bh → 0 < length a → 0 < length b → get_or a 0 0 ≡ get_or b 0 0
     → record { khz = get_or a 0 0; which = Which.Both; difference = pos (get_or ah 0 0) -ℤ pos (get_or bh 0 0) }
     ≡ line_at (trace_lines a ah b bh) 0
 head-both [] ah b bh ra rb h k e = absurd (omega arith)

@@ -18,6 +18,6 @@ height_at_khz (x ∷ xs) [] f = none
 height_at_khz (x ∷ xs) (h ∷ hs) f = cond (eqb x f) (some h) (height_at_khz xs hs f)
 
 -- a list of kHz that rises and has a height for each
-pub record Rows (xs hs : List ℕ) : Type 0 where
+pub record TraceRows (xs hs : List ℕ) : Type 0 where
   pub rising : rises xs ≡ true
   pub heights : length xs ≡ length hs

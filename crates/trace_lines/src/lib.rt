@@ -2,7 +2,7 @@
 #![tactic(auto)]
 
 ghost use Rattle.std.specs.Prelude.{◌≡◌, ◌+◌, ◌<◌, pos, ◌-ℤ◌, length};
-ghost use Rattle.trace_lines.specs.Trace.{Rows};
+ghost use Rattle.trace_lines.specs.Trace.{TraceRows};
 ghost use Rattle.trace_lines.specs.Lines.{which_number, of_first, of_second, trace_lines, line_at};
 
 use std::cmp::Ordering;
@@ -57,7 +57,7 @@ fn less(h: u32, k: u32) -> i64
 // The first line of what is left of two traces.
 // Stays: each trace is two lists, as callers in C lend it.
 pub fn next(a: &[u32], ah: &[u32], b: &[u32], bh: &[u32]) -> Line
-    requires { Rows a.now ah.now × Rows b.now bh.now × (0 < length a.now + length b.now) }
+    requires { TraceRows a.now ah.now × TraceRows b.now bh.now × (0 < length a.now + length b.now) }
     ensures { result ≡ line_at (trace_lines a.now ah.now b.now bh.now) 0 }
 {
     if a.is_empty() {

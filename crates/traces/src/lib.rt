@@ -2,7 +2,7 @@
 #![tactic(auto)]
 
 ghost use Rattle.std.specs.Prelude.{◌≡◌, ◌+◌, ◌≤◌, length};
-ghost use Rattle.trace_lines.specs.Trace.{rises as rises_of, fit as fit_of, Rows};
+ghost use Rattle.trace_lines.specs.Trace.{rises as rises_of, fit as fit_of, TraceRows};
 ghost use Rattle.trace_lines.specs.Lines.{which_number, trace_lines};
 ghost use Rattle.traces.specs.Lines.{column, ready as ready_of, compared_of};
 
@@ -35,7 +35,7 @@ fn lines(
     which: &mut [u32],
     difference: &mut [i64],
 ) -> usize
-    requires { Rows a.now ah.now × Rows b.now bh.now × (length a.now ≤ 512) × (length b.now ≤ 512) × (length a.now + length b.now ≤ length khz.old) × (length a.now + length b.now ≤ length which.old) × (length a.now + length b.now ≤ length difference.old) }
+    requires { TraceRows a.now ah.now × TraceRows b.now bh.now × (length a.now ≤ 512) × (length b.now ≤ 512) × (length a.now + length b.now ≤ length khz.old) × (length a.now + length b.now ≤ length which.old) × (length a.now + length b.now ≤ length difference.old) }
     ensures value { result ≡ length (trace_lines a.now ah.now b.now bh.now) }
     ensures khz_after { khz.new ≡ column (λ l. l.khz) (trace_lines a.now ah.now b.now bh.now) khz.old }
     ensures which_after { which.new ≡ column (λ l. which_number l.which) (trace_lines a.now ah.now b.now bh.now) which.old }
