@@ -6,10 +6,10 @@ use Rattle.scalar.specs.F32.{◌*f◌, ◌/f◌, ◌≤f◌, ◌<f◌, ◌>f◌,
 use Rattle.scalar.specs.Literals.{f0, f0_5, f4, f6_3, f90, f40100}
 use Rattle.scalar.specs.Scalar.{max_of}
 use Rattle.waves.specs.SinCos.{sin_of, cos_of}
-use Rattle.wave_answers.specs.Answers.{sin_answer, cos_answer}
+use Rattle.waves.specs.Answers.{sin_answer, cos_answer}
 use Rattle.constants.specs.Constants.{D2R}
 use Rattle.hops.specs.Geometry.{hops_of, psi_of, del_of}
-use Rattle.scan_angles.specs.Angles.{ANG}
+use Rattle.reflectrix.specs.Angles.{ANG}
 
 -- neither below -4 nor above 4; NaN is neither
 abbrev pub Small : Float → Type 0

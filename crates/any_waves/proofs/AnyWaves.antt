@@ -20,24 +20,24 @@ use Rattle.arcs.specs.Asin.{asin_of}
 use Rattle.layers.specs.declared.IonoState.{IonoState}
 use Rattle.layers.specs.declared.LayerMuf.{LayerMuf}
 use Rattle.profile.specs.Lecden.{slot_at, lecden_of}
-use Rattle.slot_curves.specs.declared.Slot.{Slot}
+use Rattle.profile.specs.declared.slot_curves.Slot.{Slot}
 use Rattle.heights.specs.Gethp.{Finder}
 use Rattle.hops.specs.Geometry.{hop_ratio_of, hops_by, hops_of, psi_of, del_of, sphe_of, secp_of, hop_geometry_of, geometry_by, geometry_of}
 use Rattle.hops.specs.Rounds.{sph_of, round_of, settled_of, stop_by, rounds_of}
 use Rattle.hops.specs.declared.HopGeometry.{HopGeometry}
 use Rattle.hops.specs.declared.Ray.{Ray}
 use Rattle.hops.specs.declared.Round.{Round}
-use Rattle.controlling_slot.specs.Controlling.{controlling_of}
-use Rattle.tangents.specs.Tangents.{tangents_of}
-use Rattle.e_lines.specs.Lines.{tenth_of, layer_line_of, read_with, e_heights_with, e_line_by, e_line_with}
+use Rattle.layer_mufs.specs.Controlling.{controlling_of}
+use Rattle.layer_mufs.specs.Tangents.{tangents_of}
+use Rattle.layer_mufs.specs.LayerLine.{tenth_of, layer_line_of, read_with, e_heights_with, e_line_by, e_line_with}
 use Rattle.layer_mufs.specs.Lines.{f2_heights_with, bent_of, f2_bent_of, f2_line_by, f2_line_with, f1_found_of, f1_own_by, f1_own_with, f1_line_by, f1_line_with}
 use Rattle.layer_mufs.specs.declared.PathNumbers.{PathNumbers}
-use Rattle.tangents.specs.declared.F2Tangent.{F2Tangent}
-use Rattle.e_lines.specs.declared.HeightPair.{HeightPair}
-use Rattle.sporadic.specs.Sporadic.{ray_of, taken_of, hop_by, row_by, es_row_of, start_of, next_by, es_from}
-use Rattle.sporadic.specs.declared.EsRay.{EsRay}
+use Rattle.layer_mufs.specs.declared.tangents.F2Tangent.{F2Tangent}
+use Rattle.layer_mufs.specs.declared.e_lines.HeightPair.{HeightPair}
+use Rattle.muf.specs.Sporadic.{ray_of, taken_of, hop_by, row_by, es_row_of, start_of, next_by, es_from}
+use Rattle.muf.specs.declared.sporadic.EsRay.{EsRay}
 use Rattle.layers.specs.declared.EsParams.{EsParams}
-use Rattle.sporadic.specs.declared.EsSearch.{EsSearch}
+use Rattle.muf.specs.declared.sporadic.EsSearch.{EsSearch}
 use Rattle.muf.specs.Curmuf.{within_of, amin_by, in_domain, lists_reach, found_then, regular_with, regular_by, muf_at_slot_with, muf_from_search_by, muf_from_search_with, muf_of_rows_with}
 use Rattle.angles.specs.Angles.{Small, AllSmall}
 use Rattle.angles.proofs.Angles.{never-refused-13}

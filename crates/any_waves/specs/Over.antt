@@ -12,24 +12,24 @@ use Rattle.refusal.specs.declared.Refusal.{Refusal}
 use Rattle.layers.specs.declared.IonoState.{IonoState}
 use Rattle.layers.specs.declared.LayerMuf.{LayerMuf}
 use Rattle.profile.specs.Lecden.{slot_at, lecden_of}
-use Rattle.slot_curves.specs.declared.Slot.{Slot}
+use Rattle.profile.specs.declared.slot_curves.Slot.{Slot}
 use Rattle.heights.specs.Gethp.{Finder}
 use Rattle.hops.specs.Geometry.{hops_by, psi_of, del_of, secp_of}
 use Rattle.hops.specs.Rounds.{sph_of, settled_of, stop_by}
 use Rattle.hops.specs.declared.HopGeometry.{HopGeometry}
 use Rattle.hops.specs.declared.Ray.{Ray}
 use Rattle.hops.specs.declared.Round.{Round}
-use Rattle.controlling_slot.specs.Controlling.{controlling_of}
-use Rattle.tangents.specs.Tangents.{tangents_of}
-use Rattle.e_lines.specs.Lines.{tenth_of, layer_line_of, read_with, e_heights_with, e_line_by}
+use Rattle.layer_mufs.specs.Controlling.{controlling_of}
+use Rattle.layer_mufs.specs.Tangents.{tangents_of}
+use Rattle.layer_mufs.specs.LayerLine.{tenth_of, layer_line_of, read_with, e_heights_with, e_line_by}
 use Rattle.layer_mufs.specs.Lines.{f2_heights_with, f2_bent_of}
 use Rattle.layer_mufs.specs.declared.PathNumbers.{PathNumbers}
-use Rattle.tangents.specs.declared.F2Tangent.{F2Tangent}
-use Rattle.e_lines.specs.declared.HeightPair.{HeightPair}
-use Rattle.sporadic.specs.Sporadic.{taken_of, start_of, next_by}
-use Rattle.sporadic.specs.declared.EsRay.{EsRay}
+use Rattle.layer_mufs.specs.declared.tangents.F2Tangent.{F2Tangent}
+use Rattle.layer_mufs.specs.declared.e_lines.HeightPair.{HeightPair}
+use Rattle.muf.specs.Sporadic.{taken_of, start_of, next_by}
+use Rattle.muf.specs.declared.sporadic.EsRay.{EsRay}
 use Rattle.layers.specs.declared.EsParams.{EsParams}
-use Rattle.sporadic.specs.declared.EsSearch.{EsSearch}
+use Rattle.muf.specs.declared.sporadic.EsSearch.{EsSearch}
 use Rattle.muf.specs.Curmuf.{in_domain, lists_reach, found_then, regular_by}
 use Rattle.muf.specs.declared.AnswerAndRow.{AnswerAndRow}
 

@@ -16,25 +16,25 @@ use Rattle.layers.specs.State.{profile_only}
 use Rattle.layers.specs.declared.IonoState.{IonoState}
 use Rattle.layers.specs.declared.LayerMuf.{LayerMuf}
 use Rattle.profile.specs.Lecden.{slot_at}
-use Rattle.slot_curves.specs.declared.Slot.{Slot}
+use Rattle.profile.specs.declared.slot_curves.Slot.{Slot}
 use Rattle.heights.specs.Gethp.{Finder, gethp_of}
 use Rattle.parabolas.specs.Bendy.{bendy_of, pen_of}
 use Rattle.heights.proofs.Finders.{FindAlike}
 use Rattle.readings.specs.Scan.{unsearched}
 use Rattle.reflectrix.specs.declared.Ionogram.{Ionogram}
-use Rattle.sounding_rows.specs.Rows.{HTE, HPE, rows_of, true_by_profile, segment_by_profile, virtual_by_parabola, virtual_by, made, rows_by, rows_with}
+use Rattle.sounding.specs.Rows.{HTE, HPE, rows_of, true_by_profile, segment_by_profile, virtual_by_parabola, virtual_by, made, rows_by, rows_with}
 use Rattle.sounding.specs.Genion.{fvert_at, genion_with}
 use Rattle.sounding.proofs.Ways.{rows_agree}
 use Rattle.losses.specs.Alosfv.{e_rows, layer_line_at, above_by, above_of, alosfv_of}
 use Rattle.losses.specs.declared.Factors.{Factors}
 use Rattle.losses.specs.declared.Decay.{Decay}
 use Rattle.hops.specs.Geometry.{geometry_of}
-use Rattle.tangents.specs.Tangents.{tangents_of}
-use Rattle.e_lines.specs.Lines.{read_with, e_heights_by, e_heights_with, e_line_with}
+use Rattle.layer_mufs.specs.Tangents.{tangents_of}
+use Rattle.layer_mufs.specs.LayerLine.{read_with, e_heights_by, e_heights_with, e_line_with}
 use Rattle.layer_mufs.specs.Lines.{f2_heights_by, f2_heights_with, f2_line_with, f1_own_by, f1_own_with, f1_line_by, f1_line_with}
 use Rattle.layer_mufs.specs.declared.PathNumbers.{PathNumbers}
-use Rattle.tangents.specs.declared.F2Tangent.{F2Tangent}
-use Rattle.e_lines.specs.declared.HeightPair.{HeightPair}
+use Rattle.layer_mufs.specs.declared.tangents.F2Tangent.{F2Tangent}
+use Rattle.layer_mufs.specs.declared.e_lines.HeightPair.{HeightPair}
 use Rattle.muf.specs.Curmuf.{found_then, regular_with}
 use Rattle.muf.specs.declared.RegularLines.{RegularLines}
 

@@ -18,8 +18,8 @@ use Rattle.refusal.specs.declared.Refusal.{Refusal}
 use Rattle.layers.specs.declared.IonoState.{IonoState}
 use Rattle.layers.specs.declared.LayerMuf.{LayerMuf}
 use Rattle.profile.specs.Lecden.{slot_at, supplied_of, lecden_of}
-use Rattle.shapes.specs.Marks.{marks_of}
-use Rattle.slot_curves.specs.declared.Slot.{Slot}
+use Rattle.profile.specs.Marks.{marks_of}
+use Rattle.profile.specs.declared.slot_curves.Slot.{Slot}
 use Rattle.heights.specs.Gethp.{Finder, gethp_of}
 use Rattle.heights.specs.declared.Heights.{Heights}
 use Rattle.heights.proofs.Finders.{FindAlike, Agree}
@@ -27,21 +27,21 @@ use Rattle.reflectrix.specs.Fobby.{angles_into, room_for}
 use Rattle.reflectrix.specs.declared.Ionogram.{Ionogram}
 use Rattle.losses.specs.Alosfv.{alosfv_of}
 use Rattle.sounding.specs.Genion.{genion_with}
-use Rattle.controlling_slot.specs.Controlling.{compare_e, controlling_of}
+use Rattle.layer_mufs.specs.Controlling.{compare_e, controlling_of}
 use Rattle.layer_mufs.specs.declared.PathNumbers.{PathNumbers}
-use Rattle.controlling_slot.proofs.Small.{controlling-small}
-use Rattle.sporadic.specs.Sporadic.{start_of, row_at, es_from}
+use Rattle.layer_mufs.proofs.controlling_slot.Small.{controlling-small}
+use Rattle.muf.specs.Sporadic.{start_of, row_at, es_from}
 use Rattle.muf.specs.Curmuf.{in_domain, lists_reach, regular_with, found_muf_of, es_by, regular_by, muf_at_slot_with, muf_from_search_by, muf_from_search_with, muf_of_rows_with, taken_rows_by, row_count_of, flat_with, answer_by, rewrite_by}
 use Rattle.layers.specs.declared.EsParams.{EsParams}
-use Rattle.sporadic.specs.declared.EsSearch.{EsSearch}
+use Rattle.muf.specs.declared.sporadic.EsSearch.{EsSearch}
 use Rattle.muf.specs.declared.RegularLines.{RegularLines}
 use Rattle.muf.specs.declared.MufAnswer.{MufAnswer}
 use Rattle.muf.specs.declared.MufHour.{MufHour}
 use Rattle.muf.specs.declared.AnswerAndRow.{AnswerAndRow}
-use Rattle.shapes.specs.declared.Mark.{Mark}
+use Rattle.profile.specs.declared.shapes.Mark.{Mark}
 use Rattle.slot_sheet.specs.declared.SlotSheet.{SlotSheet}
 use Rattle.slot_sheet.specs.Sheet.{sheet_by, sheet_cells_by, slot_sheet_with, sheet_cells_with}
-use Rattle.muf_records.specs.Records.{es_row_at, records_answer_with}
+use Rattle.muf.specs.LentRecords.{es_row_at, records_answer_with}
 use Rattle.call_lists.specs.Calls.{EsRows, flat, records, muf_with, Call, a_muf, a_sheet, a_nominal, SlotRows, shown_of, part_of, answer_with, answer_of, state_left, after_with, after_of, answered, prepares, picked_slot}
 use Rattle.call_lists.specs.Lists.{SameProfile}
 use Rattle.call_lists.proofs.Alike.{Alike, gethp-same, genion-same, alosfv-same, three-same}

@@ -11,12 +11,12 @@ use borrow.Author.Tests.{eqb-true, eqb-false}
 use lib.Dec.{T}
 use Rattle.layers.specs.declared.IonoState.{IonoState}
 use Rattle.layers.specs.Owners.{owner_of}
-use Rattle.slots.specs.Ionset.{ionset_by, ionset_of}
-use Rattle.layer_rules.specs.Rules.{count_taken}
+use Rattle.layers.specs.Ionset.{ionset_by, ionset_of}
+use Rattle.layers.specs.Rules.{count_taken}
 use Rattle.profile.specs.Lecden.{slot_at, lecden_of}
 use Rattle.profile.proofs.Owns.{lecden-owner}
 use Rattle.heights.specs.Gethp.{Finder, gethp_of, gethp_scan_of}
-use Rattle.heights.specs.Walk.{gethp_walk_of}
+use Rattle.heights.specs.GethpWalk.{gethp_walk_of}
 use Rattle.heights.proofs.Whole.{forty-reads}
 use Rattle.heights.proofs.Finders.{Agree, walks-agree, scans-agree}
 use Rattle.call_lists.specs.Calls.{Call, Answer, answer_of, after_of, after_with, prepares, picked_slot}

@@ -16,19 +16,19 @@ use Rattle.scalar.specs.Root.{sqrt_of}
 use Rattle.same.specs.Same.{F32}
 use Rattle.layers.specs.State.{with_kfx}
 use Rattle.layers.specs.Owners.{disowned}
-use Rattle.slots.proofs.OwnersLeft.{disowned-only}
-use Rattle.layer_rules.specs.Rules.{count_taken, too_close}
-use Rattle.slots.specs.Ionset.{layer_from, two_slots, three_slots, assigned_by, assigned_of, f1_kept_by, f1_settled, f2_settled, slot_settled, slots_settled, ionset_by, ionset_of}
-use Rattle.slots.specs.Ionset as ionset
+use Rattle.layers.proofs.slots.OwnersLeft.{disowned-only}
+use Rattle.layers.specs.Rules.{count_taken, too_close}
+use Rattle.layers.specs.Ionset.{layer_from, two_slots, three_slots, assigned_by, assigned_of, f1_kept_by, f1_settled, f2_settled, slot_settled, slots_settled, ionset_by, ionset_of}
+use Rattle.layers.specs.Ionset as ionset
 use Rattle.layers.specs.declared.IonoState.{IonoState}
-use Rattle.slot_curves.specs.Draw.{tail_of}
+use Rattle.profile.specs.Draw.{tail_of}
 use Rattle.profile.specs.Lecden.{slot_at, slot_written, supplied_of, lecden_by, lecden_of}
-use Rattle.slot_curves.specs.F1.{valley_of, f1_of, reshaped_of}
-use Rattle.slot_curves.specs.Grid.{filled, lower_of, f2_only_of, upper_by, upper_of, heights_of}
-use Rattle.slot_curves.specs.declared.Slot.{Slot}
-use Rattle.slot_curves.specs.declared.Valley.{Valley}
-use Rattle.slot_curves.specs.declared.F1Shape.{F1Shape}
-use Rattle.walk.specs.Walk.{EachF32}
+use Rattle.profile.specs.F1.{valley_of, f1_of, reshaped_of}
+use Rattle.profile.specs.Grid.{filled, lower_of, f2_only_of, upper_by, upper_of, heights_of}
+use Rattle.profile.specs.declared.slot_curves.Slot.{Slot}
+use Rattle.profile.specs.declared.slot_curves.Valley.{Valley}
+use Rattle.profile.specs.declared.slot_curves.F1Shape.{F1Shape}
+use Rattle.heights.specs.Walk.{EachF32}
 use Rattle.call_lists.specs.Lists.{HeldNumbers}
 
 constants : F32 f0 × F32 f1 × F32 f70

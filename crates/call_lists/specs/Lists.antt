@@ -4,15 +4,15 @@ use Rattle.std.specs.Prelude.{Bool, true, false, List, [], ◌∷◌, map, ◌�
 use Rattle.std.specs.Bool.{then_some}
 use Rattle.scalar.specs.F32.{at}
 use Rattle.layers.specs.Owners.{owner_by, owner_of}
-use Rattle.slots.specs.Ionset.{ionset_of}
-use Rattle.layer_rules.specs.Rules.{count_taken}
+use Rattle.layers.specs.Ionset.{ionset_of}
+use Rattle.layers.specs.Rules.{count_taken}
 use Rattle.layers.specs.declared.IonoState.{IonoState}
 use Rattle.layers.specs.declared.Owner.{Owner}
 use Rattle.profile.specs.Lecden.{slot_at, lecden_of}
 use Rattle.profile.specs.Rising.{rises_of}
-use Rattle.walk.specs.Walk.{EachF32}
+use Rattle.heights.specs.Walk.{EachF32}
 use Rattle.heights.specs.Gethp.{Finder, gethp_of, gethp_scan_of}
-use Rattle.heights.specs.Walk.{gethp_walk_of}
+use Rattle.heights.specs.GethpWalk.{gethp_walk_of}
 use Rattle.heights.specs.Reads.{FortyReads}
 use Rattle.call_lists.specs.Calls.{Call, Answer, answer_of, after_of, answer_with, after_with, prepares, picked_slot}
 

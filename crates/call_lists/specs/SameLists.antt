@@ -3,14 +3,14 @@ use Rattle.std.specs.Prelude.{true, List, [], ◌∷◌, map, ◌≡◌, ℕ, �
 use Rattle.refusal.specs.declared.Refusal.{Refusal}
 use Rattle.same.specs.Same.{Same, SameAll}
 use Rattle.scalar.specs.F32.{at}
-use Rattle.slots.specs.Ionset.{ionset_of}
-use Rattle.layer_rules.specs.Rules.{count_taken}
+use Rattle.layers.specs.Ionset.{ionset_of}
+use Rattle.layers.specs.Rules.{count_taken}
 use Rattle.layers.specs.declared.IonoState.{IonoState}
 use Rattle.layers.specs.declared.LayerMuf.{LayerMuf}
 use Rattle.layers.specs.declared.EsParams.{EsParams}
 use Rattle.profile.specs.Lecden.{slot_at}
 use Rattle.profile.specs.Rising.{rises_of}
-use Rattle.slot_curves.specs.declared.Slot.{Slot}
+use Rattle.profile.specs.declared.slot_curves.Slot.{Slot}
 use Rattle.heights.specs.SameReads.{SameReads}
 use Rattle.reflectrix.specs.declared.Ionogram.{Ionogram}
 use Rattle.muf.specs.declared.MufHour.{MufHour}

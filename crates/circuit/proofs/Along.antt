@@ -10,9 +10,9 @@ use lib.Seq.{length-take-le}
 use Rattle.std.specs.Prelude.{Ok}
 use Rattle.records.specs.declared.Form.{Form}
 use Rattle.records.specs.Record.{Fit, record_at}
-use Rattle.record_chain.specs.declared.Chain.{Chain}
-use Rattle.record_chain.specs.Chain.{chain_of, km_of}
-use Rattle.record_chain.proofs.Followed.{Followed, followed, there, count-range}
+use Rattle.records.specs.declared.record_chain.Chain.{Chain}
+use Rattle.records.specs.Chain.{chain_of, km_of}
+use Rattle.records.proofs.record_chain.Followed.{Followed, followed, there, count-range}
 use Rattle.circuit.specs.Read.{Parts, RecordsFound, numbers_of}
 use Rattle.circuit.proofs.Lists.{numbers-part, part-there}
 

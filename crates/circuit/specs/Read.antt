@@ -2,11 +2,11 @@
 use Rattle.std.specs.Prelude.{ℕ, zero, suc, ◌+◌, ◌*◌, ◌-◌, List, [], ◌++◌, get_or, drop, length, replicate, Result, Ok, Err, ◌≤◌, ◌<◌, ◌≡◌}
 use Rattle.std.specs.Borrow.{Bor}
 use Rattle.refusal.specs.declared.Refusal.{Refusal}
-use Rattle.record_chain.specs.declared.Chain.{Chain}
+use Rattle.records.specs.declared.record_chain.Chain.{Chain}
 use Rattle.circuit.specs.declared.Circuit.{Circuit}
 use Rattle.records.specs.declared.Form.{Form}
 use Rattle.records.specs.Record.{record_at, word_at, record_words}
-use Rattle.record_chain.specs.Chain.{chain_of, km_of, shape_of, padded}
+use Rattle.records.specs.Chain.{chain_of, km_of, shape_of, padded}
 
 -- of n records of the chain, from place `from` on, so many words each, those after the first `skip`
 unfoldable pub numbers_of : Form → List ℕ → List ℕ → ℕ → ℕ → ℕ → ℕ → List ℕ

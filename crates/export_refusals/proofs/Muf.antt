@@ -11,27 +11,27 @@ use lib.ListN.{length, get_or}
 use lib.Ieee.{Float, nan}
 use Rattle.scalar.specs.F32.{◌≤f◌}
 use Rattle.scalar.specs.Literals.{f0}
-use Rattle.record_chain.specs.Chain.{member}
+use Rattle.records.specs.Chain.{member}
 use Rattle.layers.specs.declared.IonoState.{IonoState}
 use Rattle.layers.specs.declared.LayerParams.{LayerParams}
 use Rattle.layers.specs.declared.EsParams.{EsParams}
 use Rattle.heights.specs.Gethp.{gethp_of}
 use Rattle.deciles.specs.F2dis.{icc_of, f2dis_of}
-use Rattle.controlling_slot.specs.Controlling.{controlling_of}
+use Rattle.layer_mufs.specs.Controlling.{controlling_of}
 use Rattle.layer_mufs.specs.declared.PathNumbers.{PathNumbers}
-use Rattle.sporadic.specs.Sporadic.{start_of, row_at, es_from}
-use Rattle.sporadic.specs.declared.EsSearch.{EsSearch}
+use Rattle.muf.specs.Sporadic.{start_of, row_at, es_from}
+use Rattle.muf.specs.declared.sporadic.EsSearch.{EsSearch}
 use Rattle.muf.specs.declared.MufHour.{MufHour}
 use Rattle.muf.specs.Curmuf.{in_domain, lists_reach, muf_from_search_by, muf_from_search_with, muf_of_rows_with, row_count_of, flat_with, flat_of}
 use Rattle.nominal.specs.Nommuf.{path_taken, nommuf_of}
-use Rattle.nominal_factors.specs.Factors.{counts_agree}
+use Rattle.nominal.specs.Factors.{counts_agree}
 use Rattle.port_state.specs.State.{state_words, state_of}
 use Rattle.port_state.specs.Ports.{Ported, points_of}
 use Rattle.port_state.specs.Words.{number}
-use Rattle.deviation_words.specs.Floats.{floats}
-use Rattle.deviation_words.specs.F2disWords.{f2dis_by, f2dis_left}
+use Rattle.port_muf.specs.Floats.{floats}
+use Rattle.port_muf.specs.F2disWords.{f2dis_by, f2dis_left}
 use Rattle.port_muf.specs.Exports.{leaves, path_numbers_of, done_left, curmuf_by, HourLeft, curmuf_left}
-use Rattle.port_nominal.specs.Exports.{nominal_into, nominal_words, word_rows, words_reach, five_at_most, nominal_left}
+use Rattle.port_muf.specs.NominalExports.{nominal_into, nominal_words, word_rows, words_reach, five_at_most, nominal_left}
 use Rattle.sheet_refusals.specs.Refusals.{Among}
 use Rattle.sheet_refusals.proofs.Muf.{flat-refused}
 use Rattle.sheet_refusals.proofs.Sheet.{deciles-right}

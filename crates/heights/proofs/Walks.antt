@@ -18,15 +18,15 @@ use Rattle.readings.specs.Scan.{segment_number, reading_of, profile_interpolate_
 use Rattle.readings.specs.Cursor.{count_of}
 use Rattle.readings.specs.declared.Reading.{Reading}
 use Rattle.readings.specs.declared.Read.{Read}
-use Rattle.walk.specs.Walk.{EachF32, Rising, cursor_before, scanned_read, moves_of}
-use Rattle.walk.proofs.Walks.{reads-are-scans, segment-after, cursor-after, moves-bound}
-use Rattle.forty_reads.specs.Nodes.{xnpl, twdiv, height_of, height_at, ig_at, ib_at}
-use Rattle.forty_reads.specs.Densities.{cut_of, ysq_of}
-use Rattle.forty_reads.specs.Walk.{read_at, cursor_after, turn_of, ysq_walk_of}
-use Rattle.forty_reads.proofs.Rise.{all, all-at, height-fits, reads-orderly}
+use Rattle.heights.specs.Walk.{EachF32, Rising, cursor_before, scanned_read, moves_of}
+use Rattle.heights.proofs.walk.Walks.{reads-are-scans, segment-after, cursor-after, moves-bound}
+use Rattle.heights.specs.Nodes.{xnpl, twdiv, height_of, height_at, ig_at, ib_at}
+use Rattle.heights.specs.Densities.{cut_of, ysq_of}
+use Rattle.heights.specs.ReadsByWalk.{read_at, cursor_after, turn_of, ysq_walk_of}
+use Rattle.heights.proofs.forty_reads.Rise.{all, all-at, height-fits, reads-orderly}
 use Rattle.heights.specs.Weights.{wt}
 use Rattle.heights.specs.Gethp.{mup_of, hp_of, heights_by, gethp_by, cursor_by, gethp_of, gethp_scan_of}
-use Rattle.heights.specs.Walk.{gethp_read_of}
+use Rattle.heights.specs.GethpWalk.{gethp_read_of}
 use Rattle.heights.specs.declared.Heights.{Heights}
 
 -- ---- the rising test at each height

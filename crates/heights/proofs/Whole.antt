@@ -15,11 +15,11 @@ use Rattle.layers.specs.State.{with_profile}
 use Rattle.profile.specs.Rising.{rises_of}
 use Rattle.readings.specs.Scan.{profile_interpolate_of, profile_segment_of}
 use Rattle.readings.specs.Cursor.{count_of}
-use Rattle.walk.specs.Walk.{EachF32}
-use Rattle.walk.proofs.Cursor.{count-bound}
-use Rattle.forty_reads.specs.Nodes.{height_at}
-use Rattle.forty_reads.specs.Densities.{ysq_of}
-use Rattle.forty_reads.proofs.Rise.{reads-rise-finite}
+use Rattle.heights.specs.Walk.{EachF32}
+use Rattle.heights.proofs.walk.Cursor.{count-bound}
+use Rattle.heights.specs.Nodes.{height_at}
+use Rattle.heights.specs.Densities.{ysq_of}
+use Rattle.heights.proofs.forty_reads.Rise.{reads-rise-finite}
 use Rattle.heights.specs.Gethp.{heights_by, gethp_by, cursor_by, gethp_of, gethp_scan_of}
 use Rattle.heights.specs.Reads.{difference_of, walks, FortyReads, ExactRule}
 use Rattle.heights.proofs.Walks.{walk-is-scan, segment-counts, cursor-starts, cursor-counts, moves}

@@ -9,9 +9,9 @@ use Rattle.layers.specs.declared.IonoState.{IonoState}
 use Rattle.profile.specs.Rising.{rises_of}
 use Rattle.readings.specs.Scan.{profile_interpolate_of, profile_segment_of, unsearched}
 use Rattle.readings.specs.Cursor.{count_of}
-use Rattle.height_integral.specs.Exact.{virtual_height_exact_of}
-use Rattle.forty_reads.specs.Nodes.{xnpl, twdiv, height_at}
-use Rattle.forty_reads.specs.Densities.{ysq_of}
+use Rattle.heights.specs.Exact.{virtual_height_exact_of}
+use Rattle.heights.specs.Nodes.{xnpl, twdiv, height_at}
+use Rattle.heights.specs.Densities.{ysq_of}
 use Rattle.heights.specs.Weights.{wt}
 use Rattle.heights.specs.declared.Heights.{Heights}
 

@@ -8,10 +8,10 @@ use Rattle.layers.specs.State.{with_exact}
 use Rattle.layers.specs.declared.IonoState.{IonoState}
 use Rattle.readings.specs.Scan.{segment_number, profile_interpolate_of, profile_segment_of, reading_of}
 use Rattle.readings.specs.Cursor.{count_of}
-use Rattle.walk.specs.Walk.{moves_of}
-use Rattle.height_integral.specs.Exact.{virtual_height_exact_of}
-use Rattle.forty_reads.specs.Nodes.{height_at}
-use Rattle.forty_reads.specs.Walk.{read_at, cursor_after}
+use Rattle.heights.specs.Walk.{moves_of}
+use Rattle.heights.specs.Exact.{virtual_height_exact_of}
+use Rattle.heights.specs.Nodes.{height_at}
+use Rattle.heights.specs.ReadsByWalk.{read_at, cursor_after}
 use Rattle.heights.specs.Gethp.{gethp_of}
 
 -- the reflecting height less the lowest one

@@ -3,6 +3,9 @@
 // into slots by `ionset` (crate `slots`).
 #![tactic(auto)]
 
+pub mod layer_rules;
+pub mod slots;
+
 ghost use Rattle.std.specs.Prelude.{◌≡◌, ◌<◌, IfOk};
 ghost use Rattle.layers.specs.Slots.{slot_number_of};
 ghost use Rattle.layers.specs.State.{profile_only, zero_state, with_iedp, with_ielect, with_exact};

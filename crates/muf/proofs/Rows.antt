@@ -1,5 +1,5 @@
 -- The row that is rewritten is one of those that were worked: a search that holds no row still has the MUF of its start, and then nothing is rewritten.
-use Rattle.sporadic.specs.declared.Rewrite.{Rewrite}
+use Rattle.muf.specs.declared.sporadic.Rewrite.{Rewrite}
 use Rattle.refusal.specs.declared.Refusal.{Refusal}
 use Rattle.std.specs.Prelude.{Option, Some, None, Result, Ok, Err}
 use mathlib.Core.Path.{◌≡◌, refl, ap, sym, ◌∙◌}
@@ -17,17 +17,17 @@ use Rattle.scalar.specs.F32.{◌-f◌, ◌*f◌, ◌>f◌, ◌≥f◌, ◌≤f�
 use Rattle.scalar.specs.Literals.{f0, f1000}
 use Rattle.hops.specs.Geometry.{hops_of}
 use Rattle.layers.specs.declared.IonoState.{IonoState}
-use Rattle.controlling_slot.specs.Controlling.{controlling_of}
+use Rattle.layer_mufs.specs.Controlling.{controlling_of}
 use Rattle.profile.specs.Lecden.{slot_at, lecden_of}
-use Rattle.slot_curves.specs.declared.Slot.{Slot}
+use Rattle.profile.specs.declared.slot_curves.Slot.{Slot}
 use Rattle.heights.specs.Gethp.{gethp_of}
 use Rattle.layer_mufs.specs.declared.PathNumbers.{PathNumbers}
-use Rattle.sporadic.specs.Sporadic.{ray_of, taken_by, taken_of, hop_by, row_by, es_row_of, start_of, next_by, es_from, es_line_by, es_line_of, row_at, es_found_of}
-use Rattle.muf_domain.specs.Domain.{in_domain, lists_reach, taken_rows_by, taken_rows, row_count_of}
+use Rattle.muf.specs.Sporadic.{ray_of, taken_by, taken_of, hop_by, row_by, es_row_of, start_of, next_by, es_from, es_line_by, es_line_of, row_at, es_found_of}
+use Rattle.muf.specs.Domain.{in_domain, lists_reach, taken_rows_by, taken_rows, row_count_of}
 use Rattle.muf.specs.Curmuf.{es_by, regular_by, regular_with, muf_at_slot_with, muf_from_search_by, muf_from_search_with, muf_of_rows_with, flat_with, flat_of, rewrite_by, found_muf_of, RowBelow}
 use Rattle.layers.specs.declared.EsParams.{EsParams}
-use Rattle.sporadic.specs.declared.EsRay.{EsRay}
-use Rattle.sporadic.specs.declared.EsSearch.{EsSearch}
+use Rattle.muf.specs.declared.sporadic.EsRay.{EsRay}
+use Rattle.muf.specs.declared.sporadic.EsSearch.{EsSearch}
 use Rattle.muf.specs.declared.RegularLines.{RegularLines}
 use Rattle.muf.specs.declared.AnswerAndRow.{AnswerAndRow}
 

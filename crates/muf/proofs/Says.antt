@@ -1,5 +1,5 @@
 -- Number and value of the regular lines, and the number of the hour, case by case of the definitions. A refusal's number is not 0.
-use Rattle.sporadic.specs.declared.EsSearch.{EsSearch}
+use Rattle.muf.specs.declared.sporadic.EsSearch.{EsSearch}
 use Rattle.refusal.specs.Number.{answer_number}
 use Rattle.refusal.specs.declared.Refusal.{Refusal}
 use Rattle.std.specs.Prelude.{Result, Ok, Err}
@@ -13,10 +13,10 @@ use Rattle.refusal.proofs.Numbers.{no_answer}
 use Rattle.layers.specs.declared.IonoState.{IonoState}
 use Rattle.layers.specs.declared.LayerMuf.{LayerMuf}
 use Rattle.profile.specs.Lecden.{slot_at, lecden_of}
-use Rattle.slot_curves.specs.declared.Slot.{Slot}
+use Rattle.profile.specs.declared.slot_curves.Slot.{Slot}
 use Rattle.heights.specs.Gethp.{gethp_of}
-use Rattle.tangents.specs.Tangents.{tangents_of}
-use Rattle.e_lines.specs.Lines.{line_value, e_line_of}
+use Rattle.layer_mufs.specs.Tangents.{tangents_of}
+use Rattle.layer_mufs.specs.LayerLine.{line_value, e_line_of}
 use Rattle.layer_mufs.specs.Lines.{f2_line_of, f1_line_of}
 use Rattle.layer_mufs.specs.Says.{first_refusal_number}
 use Rattle.layer_mufs.specs.declared.PathNumbers.{PathNumbers}

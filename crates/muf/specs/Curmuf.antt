@@ -1,28 +1,28 @@
 -- `curmuf` whole: what is refused and in which order, the hour, the state and the Es rows after. The Es rows enter by their number and what each holds, so that one definition serves flat rows and rows of records; `find` is the way of finding heights off the profile.
 -- Where the parts of the Rust's `curmuf` stand: the controlling slot in controlling_slot/specs; `lecden` in profile/specs; the tangent frequencies in tangents/specs; the E layer MUF in e_lines/specs, the F2 and F1 ones in layer_mufs/specs, with `gethp` in heights/specs, `bendy` and `pen` in parabolas/specs, `hop_geometry` and the rounds of the loop in hops/specs (Geometry, Rounds), and `f2dis` in deciles/specs; the sporadic E MUF in sporadic/specs; the circuit MUF in Hour, beside this file. What is refused by the arguments alone, and how many Es rows are read, is in muf_domain/specs; here the order of all these, and what is refused on the way.
-use Rattle.sporadic.specs.declared.Rewrite.{Rewrite}
-use Rattle.sporadic.specs.declared.EsSearch.{EsSearch}
+use Rattle.muf.specs.declared.sporadic.Rewrite.{Rewrite}
+use Rattle.muf.specs.declared.sporadic.EsSearch.{EsSearch}
 use Rattle.std.specs.Prelude.{Bool, true, false, List, ℕ, ◌*◌, length, set, Float, Option, Some, None, Result, Ok, Err, ◌<◌, ⊤}
 use Rattle.scalar.specs.F32.{at}
 use Rattle.refusal.specs.declared.Refusal.{Refusal}
 use Rattle.layers.specs.declared.IonoState.{IonoState}
 use Rattle.layers.specs.declared.LayerMuf.{LayerMuf}
 use Rattle.profile.specs.Lecden.{slot_at, lecden_of}
-use Rattle.slot_curves.specs.declared.Slot.{Slot}
+use Rattle.profile.specs.declared.slot_curves.Slot.{Slot}
 use Rattle.heights.specs.Gethp.{Finder, gethp_of}
-use Rattle.controlling_slot.specs.Controlling.{controlling_of}
-use Rattle.tangents.specs.Tangents.{tangents_of}
-use Rattle.e_lines.specs.Lines.{zero_line, e_line_with}
+use Rattle.layer_mufs.specs.Controlling.{controlling_of}
+use Rattle.layer_mufs.specs.Tangents.{tangents_of}
+use Rattle.layer_mufs.specs.LayerLine.{zero_line, e_line_with}
 use Rattle.layer_mufs.specs.Lines.{f2_line_with, f1_line_with}
 use Rattle.layer_mufs.specs.declared.PathNumbers.{PathNumbers}
-use Rattle.sporadic.specs.Sporadic.{start_of, row_at, es_from, es_line_of}
+use Rattle.muf.specs.Sporadic.{start_of, row_at, es_from, es_line_of}
 use Rattle.muf.specs.Hour.{hour_of}
 use Rattle.layers.specs.declared.EsParams.{EsParams}
 use Rattle.muf.specs.declared.RegularLines.{RegularLines}
 use Rattle.muf.specs.declared.MufAnswer.{MufAnswer}
 use Rattle.muf.specs.declared.AnswerAndRow.{AnswerAndRow}
-unfoldable pub use Rattle.muf_domain.specs.Domain.{in_domain, lists_reach, row_count_of}
-pub use Rattle.muf_domain.specs.Domain.{within_of, amin_by, taken_rows_by, taken_rows}
+unfoldable pub use Rattle.muf.specs.Domain.{in_domain, lists_reach, row_count_of}
+pub use Rattle.muf.specs.Domain.{within_of, amin_by, taken_rows_by, taken_rows}
 
 -- E, then F2, then F1
 

@@ -1,15 +1,15 @@
 -- What the lines of the regular layers, and with them the hour, say by number: the paper's order of refusals on the way, E hops, F2 hops, deciles, F1 hops, Es hops by point.
 use Rattle.muf.specs.declared.RegularLines.{RegularLines}
-use Rattle.sporadic.specs.declared.EsSearch.{EsSearch}
+use Rattle.muf.specs.declared.sporadic.EsSearch.{EsSearch}
 use Rattle.refusal.specs.Number.{answer_number}
 use Rattle.refusal.specs.declared.Refusal.{Refusal}
 use Rattle.std.specs.Prelude.{cond, List, ◌≡◌, ℕ, eqb, Float, Result}
 use Rattle.layers.specs.declared.IonoState.{IonoState}
 use Rattle.profile.specs.Lecden.{slot_at, lecden_of}
-use Rattle.slot_curves.specs.declared.Slot.{Slot}
+use Rattle.profile.specs.declared.slot_curves.Slot.{Slot}
 use Rattle.heights.specs.Gethp.{gethp_of}
-use Rattle.tangents.specs.Tangents.{tangents_of}
-use Rattle.e_lines.specs.Lines.{line_value, e_line_of}
+use Rattle.layer_mufs.specs.Tangents.{tangents_of}
+use Rattle.layer_mufs.specs.LayerLine.{line_value, e_line_of}
 use Rattle.layer_mufs.specs.Lines.{f2_line_of, f1_line_of}
 use Rattle.layer_mufs.specs.Says.{first_refusal_number}
 use Rattle.layer_mufs.specs.declared.PathNumbers.{PathNumbers}

@@ -2,9 +2,14 @@
 // with the Es line.
 #![tactic(auto)]
 
+pub mod es_records;
+pub mod muf_domain;
+pub mod muf_records;
+pub mod sporadic;
+
 ghost use Rattle.std.specs.Prelude.{◌≡◌, ◌+◌, ◌*◌, ◌^◌, ◌<◌, length};
 ghost use Rattle.heights.specs.Gethp.{gethp_of};
-ghost use Rattle.sporadic.specs.Sporadic.{row_at};
+ghost use Rattle.muf.specs.Sporadic.{row_at};
 ghost use Rattle.muf.specs.Hour.{mode_of, hour_of, zero_hour};
 ghost use Rattle.muf.specs.Curmuf.{regular_with, found_muf_of, muf_at_slot_of, muf_from_search_of, flat_of, es_after_of, curmuf_of};
 ghost use Rattle.muf.specs.Says.{RegularSays, SlotSays};
@@ -12,11 +17,11 @@ ghost use Rattle.muf.specs.Says.{RegularSays, SlotSays};
 pub mod lent;
 
 use crate::lent::Numbers;
+use crate::sporadic::{EsSearch, Rewrite};
 use layer_mufs::PathNumbers;
 use layers::{EsParams, IonoState, LayerMuf};
+use profile::slot_curves::Slot;
 use refusal::Refusal;
-use slot_curves::Slot;
-use sporadic::{EsSearch, Rewrite};
 
 // The lines of the regular layers.
 #[derive(Clone, Copy, Debug, PartialEq)]
@@ -115,7 +120,7 @@ fn hour(m: RegularLines, es: LayerMuf, ks: usize) -> MufHour
 pub fn zero_hour() -> MufHour
     ensures { result ≡ zero_hour }
 {
-    let z = e_lines::zero_line();
+    let z = layer_mufs::e_lines::zero_line();
     let layers = [z, z, z, z];
     MufHour {
         emuf: 0.0,
@@ -144,8 +149,8 @@ fn regular_lines(
     ensures value { result ≡ regular_with gethp_of t l f2d.now clat clck c }
     ensures regular_says { RegularSays result t l f2d.now clat clck c }
 {
-    let x = tangents::tangent_frequencies(l, c.gcdkm);
-    let e = e_lines::e_line(&t, x.fxe, c.gcdkm, c.amind)?;
+    let x = layer_mufs::tangents::tangent_frequencies(l, c.gcdkm);
+    let e = layer_mufs::e_lines::e_line(&t, x.fxe, c.gcdkm, c.amind)?;
     let f2 = layer_mufs::f2_line(&t, l, x.f2, f2d, clat, clck, c)?;
     let f1 = layer_mufs::f1_line(&t, l, x.fx1, e, c)?;
     Ok(RegularLines { e, f1, f2 })
@@ -162,7 +167,7 @@ pub struct AnswerAndRow {
 fn finish(t: IonoState, fe: f32, m: RegularLines, ks: usize, a: EsSearch) -> AnswerAndRow
     ensures { result ≡ found_muf_of a t fe m ks }
 {
-    let x = sporadic::es_line(a, fe);
+    let x = crate::sporadic::es_line(a, fe);
     let hour = hour(m, x.line, ks);
     AnswerAndRow {
         answer: MufAnswer { hour, state: t },
@@ -203,11 +208,11 @@ pub fn muf_from_search<L: Numbers>(
 ) -> Result<AnswerAndRow, Refusal>
     ensures { result ≡ muf_from_search_of s step f2d.now (L.floats clat) (L.floats clck) c }
 {
-    if !muf_domain::in_domain(c) {
+    if !crate::muf_domain::in_domain(c) {
         return Err(Refusal::MufInput);
     }
-    let ks = controlling_slot::controlling(s);
-    if !muf_domain::lists_reach(ks, f2d.len(), clat.count(), clck.count()) {
+    let ks = layer_mufs::controlling_slot::controlling(s);
+    if !crate::muf_domain::lists_reach(ks, f2d.len(), clat.count(), clck.count()) {
         return Err(Refusal::MufLists);
     }
     muf_at_slot(s, ks, step, f2d, clat.number(ks), clck.number(ks), c)
@@ -236,8 +241,8 @@ pub fn flat<L: Numbers>(
 ) -> Result<AnswerAndRow, Refusal>
     ensures { result ≡ flat_of s (L.floats es) f2d.now (L.floats clat) (L.floats clck) c }
 {
-    let n = muf_domain::row_count(es.count(), s.km);
-    let step = sporadic::search(|k| flat_row(es, k), n, c);
+    let n = crate::muf_domain::row_count(es.count(), s.km);
+    let step = crate::sporadic::search(|k| flat_row(es, k), n, c);
     muf_from_search(s, step, f2d, clat, clck, c)
 }
 

@@ -6,7 +6,7 @@ use Rattle.std.specs.Float.Ieee.{fits}
 use Rattle.scalar.specs.F32.{◌*f◌, ◌/f◌}
 use Rattle.scalar.specs.Literals.{f0_5}
 use Rattle.waves.specs.SinCos.{sin_of, cos_of}
-use Rattle.wave_answers.specs.Answers.{sin_answer, cos_answer}
+use Rattle.waves.specs.Answers.{sin_answer, cos_answer}
 use Rattle.nominal.specs.Nommuf.{hop_of, path_taken}
 
 abbrev pub nominal_psi : Float → Float → Float → Float

@@ -1,5 +1,5 @@
 -- A list's words as floats, one at a time, and a call whose lists but for the deciles are words.
-use Rattle.hour_words.specs.HourWords.{WordThere}
+use Rattle.port_muf.specs.HourWords.{WordThere}
 use Rattle.std.specs.Prelude.{Option, Some, None, Result}
 use mathlib.Core.Path.{◌≡◌}
 use mathlib.Core.List.{List}
@@ -10,12 +10,12 @@ use lib.Ieee.{Float, binary32, of_bits}
 use Rattle.refusal.specs.declared.Refusal.{Refusal}
 use Rattle.layers.specs.declared.IonoState.{IonoState}
 use Rattle.layer_mufs.specs.declared.PathNumbers.{PathNumbers}
-use Rattle.muf_domain.specs.Domain.{row_count_of}
+use Rattle.muf.specs.Domain.{row_count_of}
 use Rattle.muf.specs.Curmuf.{flat_of, RowBelow, rewrite_by}
 use Rattle.muf.specs.declared.AnswerAndRow.{AnswerAndRow}
-use Rattle.sporadic.specs.declared.Rewrite.{Rewrite}
+use Rattle.muf.specs.declared.sporadic.Rewrite.{Rewrite}
 use Rattle.muf.proofs.Rows.{flat-below, rows-there}
-use Rattle.deviation_words.specs.Floats.{floats}
+use Rattle.port_muf.specs.Floats.{floats}
 
 -- of n rows, four words each
 word-there : (n m : ℕ) (w : Option Rewrite) → 4 * n ≤ m → RowBelow n w → WordThere w m

@@ -7,8 +7,8 @@ use Rattle.muf.specs.Curmuf.{flat_of}
 use Rattle.muf.specs.declared.AnswerAndRow.{AnswerAndRow}
 use Rattle.port_state.specs.State.{state_words, state_of, state_into}
 use Rattle.port_state.specs.Words.{number}
-use Rattle.deviation_words.specs.Floats.{floats}
-use Rattle.hour_words.specs.HourWords.{hour_into, words_by}
+use Rattle.port_muf.specs.Floats.{floats}
+use Rattle.port_muf.specs.HourWords.{hour_into, words_by}
 
 -- the circuit MUF: its number, and the state's, the Es rows' and the hour's words afterwards
 pub record HourLeft : Type 0 where

@@ -2,6 +2,8 @@
 // heights rise, on from the segment at which the last read stopped.
 #![tactic(auto)]
 
+pub mod xlin;
+
 ghost use Rattle.std.specs.Prelude.{◌≡◌};
 ghost use Rattle.readings.specs.Scan.{interpolated, segment_of, scan_of, value_of, reading_kind, segment_number, found_of, reading_of};
 ghost use Rattle.readings.specs.Cursor.{climb_of, read_on_of};

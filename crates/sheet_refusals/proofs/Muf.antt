@@ -11,24 +11,24 @@ use Rattle.refusal.specs.declared.Refusal.{Refusal}
 use Rattle.layers.specs.declared.IonoState.{IonoState}
 use Rattle.layers.specs.declared.LayerMuf.{LayerMuf}
 use Rattle.profile.specs.Lecden.{slot_at, lecden_of}
-use Rattle.slot_curves.specs.declared.Slot.{Slot}
+use Rattle.profile.specs.declared.slot_curves.Slot.{Slot}
 use Rattle.heights.specs.Gethp.{Finder, gethp_of}
 use Rattle.deciles.specs.F2dis.{icc_of, f2dis_of}
 use Rattle.hops.specs.Geometry.{hop_ratio_of, hops_by, hops_of, geometry_by, geometry_of}
 use Rattle.hops.specs.declared.HopGeometry.{HopGeometry}
 use Rattle.hops.specs.declared.Round.{Round}
-use Rattle.controlling_slot.specs.Controlling.{controlling_of}
-use Rattle.tangents.specs.Tangents.{tangents_of}
-use Rattle.e_lines.specs.Lines.{read_with, e_heights_with, e_line_by, e_line_with}
+use Rattle.layer_mufs.specs.Controlling.{controlling_of}
+use Rattle.layer_mufs.specs.Tangents.{tangents_of}
+use Rattle.layer_mufs.specs.LayerLine.{read_with, e_heights_with, e_line_by, e_line_with}
 use Rattle.layer_mufs.specs.Lines.{f2_heights_with, bent_of, both_by, deviations_of, f2_bent_by, f2_bent_of, f2_line_by, f2_line_with, f1_own_by, f1_own_with, f1_line_by, f1_line_with}
 use Rattle.layer_mufs.specs.declared.PathNumbers.{PathNumbers}
-use Rattle.tangents.specs.declared.F2Tangent.{F2Tangent}
-use Rattle.e_lines.specs.declared.HeightPair.{HeightPair}
+use Rattle.layer_mufs.specs.declared.tangents.F2Tangent.{F2Tangent}
+use Rattle.layer_mufs.specs.declared.e_lines.HeightPair.{HeightPair}
 use Rattle.layer_mufs.specs.declared.Deviations.{Deviations}
-use Rattle.controlling_slot.proofs.Small.{controlling-small}
-use Rattle.sporadic.specs.Sporadic.{hop_by, row_by, es_row_of, start_of, row_at, next_by, es_from}
+use Rattle.layer_mufs.proofs.controlling_slot.Small.{controlling-small}
+use Rattle.muf.specs.Sporadic.{hop_by, row_by, es_row_of, start_of, row_at, next_by, es_from}
 use Rattle.layers.specs.declared.EsParams.{EsParams}
-use Rattle.sporadic.specs.declared.EsSearch.{EsSearch}
+use Rattle.muf.specs.declared.sporadic.EsSearch.{EsSearch}
 use Rattle.muf.specs.Hour.{mode_by, mode_of, hour_of}
 use Rattle.muf.specs.Curmuf.{in_domain, lists_reach, found_then, regular_with, found_muf_of, es_by, regular_by, muf_at_slot_with, muf_from_search_by, muf_from_search_with, muf_of_rows_with, row_count_of, flat_with, flat_of, answer_by, curmuf_of}
 use Rattle.muf.specs.declared.RegularLines.{RegularLines}

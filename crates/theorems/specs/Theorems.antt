@@ -16,22 +16,22 @@ use Rattle.exact_waves.specs.Literal.{SinLiteral, CosLiteral}
 use Rattle.arcs.specs.Special.{ArcValues, AtanWithin}
 use Rattle.exact_arcs.specs.Asin.{AsinNear}
 use Rattle.exact_arcs.specs.Atan.{AtanNear}
-use Rattle.circuit_laws.specs.Laws.{EveryForm, ReadWritten, ReadSame, WrittenLength, WrittenInForm, WrittenRead, Carried, OffChain}
-use Rattle.circuit_laws.specs.Paper.{PaperLaws}
-use Rattle.chain_laws.specs.Laws.{LongerFile, RecordsAppended, PrintedAlike, PrintedAppended, WriterOrder}
+use Rattle.circuit.specs.Laws.{EveryForm, ReadWritten, ReadSame, WrittenLength, WrittenInForm, WrittenRead, Carried, OffChain}
+use Rattle.circuit.specs.Paper.{PaperLaws}
+use Rattle.chain_text.specs.Laws.{LongerFile, RecordsAppended, PrintedAlike, PrintedAppended, WriterOrder}
 use Rattle.sheet_refusals.specs.Refusals.{ChainRefusals, SheetRefusals, SheetPrinted}
 use Rattle.export_refusals.specs.Exports.{ExportRefusals}
-use Rattle.wide_circuit.specs.Laws.{WideLaws}
+use Rattle.circuit.specs.WideLaws.{WideLaws}
 use Rattle.circuit_turn.specs.Laws.{TurnLaws}
 use Rattle.figures.specs.Nearest.{NearestRule}
-use Rattle.figure_text.specs.FigureText.{FiveCharacters}
+use Rattle.figures.specs.FigureText.{FiveCharacters}
 use Rattle.figure_laws.specs.Jump.{Jump, Keeps, Reached}
 use Rattle.figure_laws.specs.Text.{Texts}
 use Rattle.figure_laws.specs.Second.{OneSecondMore}
 use Rattle.tariff.specs.Meaning.{TariffRule, BandRule, CentsRule, PriceRule}
 use Rattle.totals.specs.Orders.{AnyOrder, NewestFirst, AtMost}
-use Rattle.trace_laws.specs.Held.{LinesHold, OnlyLines, LinesCount}
-use Rattle.computed_trace.specs.Computed.{TraceFits}
+use Rattle.traces.specs.Held.{LinesHold, OnlyLines, LinesCount}
+use Rattle.traces.specs.Computed.{TraceFits}
 use Rattle.first_difference.specs.Laws.{DifferenceLaws}
 use Rattle.marking.specs.Laws.{MarkingLaws, MarkingCases}
 use Rattle.angles.specs.Angles.{SinAnswers, CosAnswers, NeverRefused13, FobbySmall, FobbyAnswers}
@@ -40,29 +40,29 @@ use Rattle.nominal.specs.Coefficients.{CoefficientsNearest}
 use Rattle.nominal.specs.Angles.{NominalNeverRefused13}
 use Rattle.nominal.specs.Inputs.{ReadsOnly, EsRewritten}
 use Rattle.starred.specs.Starred.{Holds, starred}
-use Rattle.walk.specs.Walk.{DistanceRule}
+use Rattle.heights.specs.Walk.{DistanceRule}
 use Rattle.heights.specs.SameReads.{WalkSameAsScan}
-use Rattle.walk_apart.specs.Apart.{WalkApart}
-use Rattle.state_laws.specs.ReadBack.{StateReadBack, WordsSufficeRead}
+use Rattle.heights.specs.Apart.{WalkApart}
+use Rattle.port_state.specs.ReadBack.{StateReadBack, WordsSufficeRead}
 use Rattle.call_lists.specs.Lists.{ListsOfCalls, OnlyState, ReadAll}
 use Rattle.call_lists.specs.PaperWords.{PaperWords, RefusalByArguments, WithContracts}
 use Rattle.call_lists.specs.SameLists.{SameListsOfCalls}
 use Rattle.call_lists.specs.Nominal.{NominalAnywhere}
 use Rattle.arc_series.specs.OwnSeries.{AtanOwnSeries}
 use Rattle.theorems.specs.Unnamed.{LecdenKeeps, LecdenSupplied, NeverBoth, ReadsOfWalk, MarkUnread, AnyList, MarkRules, SlotsMarked, ExactRules}
-use Rattle.slots.specs.OwnersLeft.{LayersUnowned, IonsetDisowns}
+use Rattle.layers.specs.OwnersLeft.{LayersUnowned, IonsetDisowns}
 use Rattle.profile.specs.LecdenOwns.{LecdenOwner, LecdenOwned}
-use Rattle.height_integral.specs.Lowest.{AboveLowest, LastFromOne}
+use Rattle.heights.specs.Lowest.{AboveLowest, LastFromOne}
 use Rattle.heights.specs.Segments.{SegmentsFound}
 use Rattle.sounding.specs.Prepared.{GenionPrepared}
 use Rattle.slot_sheet.specs.Owned.{SheetNeverRefused19, SheetOwned, SheetByGenion}
 use Rattle.deciles.specs.NanRow.{NanMiddle}
-use Rattle.cell_test.specs.Laws.{TestSuffices}
-use Rattle.aligned.specs.Aligned.{RightWidth}
-use Rattle.decimal_text.specs.Number.{NumberWidth}
-use Rattle.svg_points.specs.Points.{InFrame}
-use Rattle.compose_laws.specs.Laws.{TextWritten}
-use Rattle.compose_laws.specs.Laws.{TextReadBack}
+use Rattle.reflectrix.specs.Laws.{TestSuffices}
+use Rattle.lines.specs.Aligned.{RightWidth}
+use Rattle.figures.specs.Number.{NumberWidth}
+use Rattle.svg.specs.Points.{InFrame}
+use Rattle.composing.specs.Laws.{TextWritten}
+use Rattle.composing.specs.Laws.{TextReadBack}
 use Rattle.statement_checks.specs.Checks.{StatementChecks}
 
 pub record Theorems : Type 0 where

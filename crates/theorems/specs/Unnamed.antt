@@ -7,11 +7,11 @@ use Rattle.layers.specs.State.{with_profile}
 use Rattle.profile.specs.Lecden.{lecden_of}
 use Rattle.profile.specs.LecdenKept.{LecdenKept}
 use Rattle.profile.specs.Rising.{rises_of}
-use Rattle.walk.specs.Walk.{EachF32}
+use Rattle.heights.specs.Walk.{EachF32}
 use Rattle.heights.specs.Gethp.{gethp_of}
 use Rattle.heights.specs.Reads.{FortyReads, ExactRule}
-use Rattle.shape_densities.specs.declared.Curves.{Curves}
-use Rattle.shapes.specs.Meaning.{MarkRule, SlotMarks}
+use Rattle.profile.specs.declared.shape_densities.Curves.{Curves}
+use Rattle.profile.specs.Meaning.{MarkRule, SlotMarks}
 use Rattle.call_lists.specs.Calls.{Call}
 use Rattle.call_lists.specs.Lists.{Allowed, ListOfCalls}
 

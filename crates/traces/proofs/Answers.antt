@@ -8,10 +8,10 @@ use lib.IntN.{ℤ}
 use lib.ListN.{length}
 use borrow.Author.Tests.{eqb-true, leb-true}
 use Rattle.refusal.specs.declared.Refusal.{Refusal}
-use Rattle.trace_lines.specs.Trace.{rises, fit}
-use Rattle.trace_lines.specs.Lines.{trace_lines}
-use Rattle.traces.specs.Lines.{ready, column, compared_of}
-use Rattle.trace_lines.specs.Trace.{TraceRows}
+use Rattle.traces.specs.Trace.{rises, fit}
+use Rattle.traces.specs.Lines.{trace_lines}
+use Rattle.traces.specs.Compared.{ready, column, compared_of}
+use Rattle.traces.specs.Trace.{TraceRows}
 use Rattle.std.specs.Prelude.{Ok, Err}
 use Rattle.std.proofs.lemmas.Bool.{and_parts}
 use Rattle.traces.proofs.Merged.{khz_in, which_in, difference_in}

@@ -7,12 +7,12 @@ use native.Mathlib.Numerals.{add-one}
 use lib.IntN.{ℤ}
 use lib.ListN.{length, drop, set, length-drop, drop_of_length-le}
 use lib.Seq.{drop-drop}
-use Rattle.trace_lines.specs.Lines.{which_number, of_first, of_second, listed, trace_lines, line_at}
-use Rattle.traces.specs.Lines.{column}
-use Rattle.trace_lines.specs.Trace.{TraceRows}
-use Rattle.trace_lines.specs.declared.Line.{Line}
-use Rattle.trace_lines.proofs.Places.{up, up-drop, up-rises}
-use Rattle.trace_lines.proofs.Steps.{Goes, goes}
+use Rattle.traces.specs.Lines.{which_number, of_first, of_second, listed, trace_lines, line_at}
+use Rattle.traces.specs.Compared.{column}
+use Rattle.traces.specs.Trace.{TraceRows}
+use Rattle.traces.specs.declared.trace_lines.Line.{Line}
+use Rattle.traces.proofs.trace_lines.Places.{up, up-drop, up-rises}
+use Rattle.traces.proofs.trace_lines.Steps.{Goes, goes}
 use Rattle.traces.proofs.Cells.{head-drop, sofar, sofar-more, sofar-all, sofar-length}
 
 abbrev pub khz_in : Line → ℕ

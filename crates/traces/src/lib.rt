@@ -1,10 +1,13 @@
 // Two traces held against one another: every kHz of either, rising, with the difference of the heights where both have it.
 #![tactic(auto)]
 
+pub mod computed_trace;
+pub mod trace_lines;
+
 ghost use Rattle.std.specs.Prelude.{◌≡◌, ◌+◌, ◌≤◌, length};
-ghost use Rattle.trace_lines.specs.Trace.{rises as rises_of, fit as fit_of, TraceRows};
-ghost use Rattle.trace_lines.specs.Lines.{which_number, trace_lines};
-ghost use Rattle.traces.specs.Lines.{column, ready as ready_of, compared_of};
+ghost use Rattle.traces.specs.Trace.{rises as rises_of, fit as fit_of, TraceRows};
+ghost use Rattle.traces.specs.Lines.{which_number, trace_lines};
+ghost use Rattle.traces.specs.Compared.{column, ready as ready_of, compared_of};
 
 use refusal::Refusal;
 
@@ -46,7 +49,7 @@ fn lines(
     let mut j: usize = 0;
     let mut n: usize = 0;
     while i + j < a.len() + b.len() {
-        let l = trace_lines::next(&a[i..], &ah[i..], &b[j..], &bh[j..]);
+        let l = crate::trace_lines::next(&a[i..], &ah[i..], &b[j..], &bh[j..]);
         khz[n] = l.khz;
         which[n] = u32::from(l.which);
         difference[n] = l.difference;

@@ -3,7 +3,7 @@ use Rattle.std.specs.Prelude.{Result, Ok, Some}
 use Rattle.std.proofs.Common.{◌≡◌, ◌*◌, ◌<◌, ℕ, length}
 use native.Mathlib.Omega.{arith}
 use Rattle.refusal.specs.declared.Refusal.{Refusal}
-use Rattle.sporadic.specs.declared.Rewrite.{Rewrite}
+use Rattle.muf.specs.declared.sporadic.Rewrite.{Rewrite}
 use Rattle.muf.specs.Curmuf.{RowBelow, rewrite_by}
 use Rattle.muf.specs.declared.AnswerAndRow.{AnswerAndRow}
 use Rattle.muf.proofs.Rows.{flat-below, rows-there}

@@ -1,7 +1,7 @@
 -- The step is the search of the rows of the numbers, and these are there.
 use Rattle.std.proofs.Common.{rules, ◌*◌, ◌≤◌}
 use Rattle.std.proofs.iter.Serving.{serving}
-use Rattle.sporadic.specs.Sporadic.{row_at}
+use Rattle.muf.specs.Sporadic.{row_at}
 use Rattle.muf.specs.Curmuf.{muf_of_rows_with, flat_with}
 use Rattle.muf.proofs.Rows.{rows-there}
 use Rattle.muf.proofs.flat.Goals as goal

@@ -3,7 +3,7 @@ use Prim.Native.Nat.{◌+◌, ◌≤◌}
 use mathlib.Core.Path.{◌≡◌}
 use lib.ListN.{length}
 use Rattle.records.specs.declared.Form.{Form}
-use Rattle.record_chain.specs.Chain.{padded}
+use Rattle.records.specs.Chain.{padded}
 use Rattle.circuit.specs.Read.{RecordsFound, numbers_of}
 use Rattle.circuit.proofs.numbers.numbers_of.Given as goal
 

@@ -1,0 +1,8 @@
+#![tactic(auto)]
+
+pub mod axes;
+pub mod frame;
+pub mod legend;
+pub mod points;
+pub mod text;
+pub mod trace;
