@@ -74,7 +74,7 @@ impl<'a> Draft<'a> {
     {
         let size = self.form.size;
         // Stays: i is the record's number, and `out` is written by parts: of what `chunks_exact_mut` leaves under `enumerate` a proof
-        // knows the lengths alone, as in crate `cell_rows`.
+        // knows the lengths alone, as in `cell_rows` of crate `reflectrix`.
         for i in 0..self.count {
             self.entry(i, &mut out[size * i..size * i + size]);
         }

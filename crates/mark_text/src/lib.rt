@@ -10,7 +10,7 @@ ghost use Rattle.mark_text.specs.MarkText.{mark_line, marks_text};
 use lines::Page;
 use profile::shapes::Mark;
 
-// Stays: a mark has two words, its name here and another in pictures (`svg_text`); a `From`, which would have to stand in `shapes`,
+// Stays: a mark has two words, its name here and another in pictures (`svg::text`); a `From`, which would have to stand in `shapes`,
 // would not say which of them it gives.
 #[tactic(auto, unfolding(profile::specs::Mark::name_of))]
 fn name(m: Mark) -> &'static [u8]

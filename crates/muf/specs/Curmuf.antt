@@ -1,5 +1,5 @@
 -- `curmuf` whole: what is refused and in which order, the hour, the state and the Es rows after. The Es rows enter by their number and what each holds, so that one definition serves flat rows and rows of records; `find` is the way of finding heights off the profile.
--- Where the parts of the Rust's `curmuf` stand: the controlling slot in controlling_slot/specs; `lecden` in profile/specs; the tangent frequencies in tangents/specs; the E layer MUF in e_lines/specs, the F2 and F1 ones in layer_mufs/specs, with `gethp` in heights/specs, `bendy` and `pen` in parabolas/specs, `hop_geometry` and the rounds of the loop in hops/specs (Geometry, Rounds), and `f2dis` in deciles/specs; the sporadic E MUF in sporadic/specs; the circuit MUF in Hour, beside this file. What is refused by the arguments alone, and how many Es rows are read, is in muf_domain/specs; here the order of all these, and what is refused on the way.
+-- Where the parts of the Rust's `curmuf` stand: the controlling slot in layer_mufs/specs (Controlling); `lecden` in profile/specs; the tangent frequencies in layer_mufs/specs (Tangents), and there the E layer MUF (LayerLine) and the F2 and F1 ones (Lines), with `gethp` in heights/specs, `bendy` and `pen` in parabolas/specs, `hop_geometry` and the rounds of the loop in hops/specs (Geometry, Rounds), and `f2dis` in deciles/specs; the sporadic E MUF in Sporadic and the circuit MUF in Hour, beside this file. What is refused by the arguments alone, and how many Es rows are read, is in Domain; here the order of all these, and what is refused on the way.
 use Rattle.muf.specs.declared.sporadic.Rewrite.{Rewrite}
 use Rattle.muf.specs.declared.sporadic.EsSearch.{EsSearch}
 use Rattle.std.specs.Prelude.{Bool, true, false, List, ℕ, ◌*◌, length, set, Float, Option, Some, None, Result, Ok, Err, ◌<◌, ⊤}

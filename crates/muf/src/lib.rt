@@ -249,7 +249,7 @@ pub fn flat<L: Numbers>(
 // The MUF hour; `es` holds four numbers a row: three of `fs`, then `hs`. Only the controlling row's
 // lower decile is rewritten.
 // Stays: s, es, f2d, clat and clck are the Rust's own parameters, in its order; es is flat, four numbers a row, as words are, and the
-// Rust's records are crate `muf_records`; c is its last four.
+// Rust's records are module `muf_records`; c is its last four.
 pub fn curmuf(
     s: IonoState,
     es: &mut [f32],

@@ -19,7 +19,7 @@ pub fn put_bits<const N: usize>(page: &mut Page<N>, x: f32)
     page.put_hex(scalar::bits(x));
 }
 
-// Stays: ion and i, here and below, are a row, since the ionogram has its rows by columns, as the Rust has. In crate row_table,
+// Stays: ion and i, here and below, are a row, since the ionogram has its rows by columns, as the Rust has. In `row_table` of crate show_text,
 // whose functions have these names, each column has a width and places of its own.
 #[tactic(auto, using(lines::proofs::Placing::putting), unfolding(crate::specs::SheetRows::row_fields))]
 fn put_numbers<const N: usize>(page: &mut Page<N>, ion: &Ionogram, i: usize)

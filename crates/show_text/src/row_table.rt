@@ -23,7 +23,7 @@ fn put_column<const N: usize>(page: &mut Page<N>, width: usize, places: usize, v
 }
 
 // Stays: ion and i, here and below, are a row, since the ionogram has its rows by columns, as the Rust has. Beside the two
-// functions of these names in crate sheet_rows, where a number is its bits: here each column has a width and places of its own,
+// functions of these names in `sheet_rows` of crate sheet_text, where a number is its bits: here each column has a width and places of its own,
 // and a segment may be a word.
 #[tactic(auto, using(lines::proofs::Placing::putting), unfolding(crate::specs::RowTable::table_row_fields))]
 fn put_numbers<const N: usize>(page: &mut Page<N>, ion: &Ionogram, i: usize)

@@ -1,4 +1,4 @@
--- The frame of a panel with its axes, as SVG. Units are tenths of a pixel, and the frame is that of `Points` of `svg_points`.
+-- The frame of a panel with its axes, as SVG. Units are tenths of a pixel, and the frame is that of Points, beside this file.
 use Rattle.std.specs.Prelude.{List, ◌++◌, ℕ, ◌+◌, ◌-◌, ◌*◌}
 use Rattle.lines.specs.Text.{decimal_of, joined}
 use Rattle.lines.specs.Ascii.{ascii}

@@ -1,4 +1,4 @@
--- What every picture begins with, as SVG: its size, the forms and colours, the frame with its axes, the circuit MUF and the legend. Units are tenths of a pixel, and the frame is that of `Points` of `svg_points`. The colours are those of Okabe and Ito, which colour-blind readers can tell apart; the forms and dashes differ too.
+-- What every picture begins with, as SVG: its size, the forms and colours, the frame with its axes, the circuit MUF and the legend. Units are tenths of a pixel, and the frame is that of Points, beside this file. The colours are those of Okabe and Ito, which colour-blind readers can tell apart; the forms and dashes differ too.
 use Rattle.std.specs.Prelude.{List, ◌++◌, ℕ, ◌+◌, ◌*◌, Float}
 use Rattle.lines.specs.Text.{decimal_of}
 use Rattle.figures.specs.Figure.{figure_of}

@@ -9,7 +9,7 @@ ghost use Rattle.svg.specs.Axes.{across_text, up_text, across_at, up_at, axes_te
 use lines::Page;
 
 // A line of the grid at a frequency, with its number.
-// Stays: a text of its own beside that of `svg_text`, `put_line`, of which only a piece is alike.
+// Stays: a text of its own beside that of `text`, `put_line`, of which only a piece is alike.
 #[tactic(auto, using(lines::proofs::Placing::putting), unfolding(crate::specs::Axes::across_text))]
 fn put_across<const N: usize>(page: &mut Page<N>, mhz: u64)
     requires { mhz ≤ 30 }

@@ -1,3 +1,4 @@
+// The forms of a picture, as SVG, put on a page.
 #![tactic(auto)]
 
 pub mod axes;

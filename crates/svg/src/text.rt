@@ -49,7 +49,7 @@ pub fn put_mark<const N: usize>(page: &mut Page<N>, m: Mark, f: f32, h: f32)
     }
 }
 
-// Stays: a text of its own beside that of `svg_axes`, `put_across`, of which only a piece is alike.
+// Stays: a text of its own beside that of `axes`, `put_across`, of which only a piece is alike.
 #[tactic(auto, using(lines::proofs::Placing::putting), unfolding(crate::specs::Pieces::line_text))]
 fn put_line<const N: usize>(page: &mut Page<N>, x: u64, muf: f32)
     ensures { page.new ≡ with_text N page.old (line_text x muf) }

@@ -38,10 +38,14 @@ use Rattle.sheet_refusals.proofs.Sheet.{chain-refusals, sheet-refusals, sheet-pr
 use Rattle.export_refusals.proofs.Exports.{export-refusals}
 use Rattle.circuit.proofs.wide_circuit.Laws.{wide_laws}
 use Rattle.circuit_turn.proofs.Laws.{turn-laws}
+use Rattle.layers.proofs.slots.Keeps.{ionset-keeps}
+use Rattle.layers.proofs.slots.ExactOff.{exact-off}
 use Rattle.profile.proofs.Keeps.{lecden-keeps, lecden-supplied}
 use Rattle.profile.proofs.shape_densities.NeverBoth.{never_both}
 use Rattle.heights.proofs.walk.Walks.{distance-rule}
 use Rattle.heights.proofs.Whole.{forty-reads, mark-unread, exact-rule}
+use Rattle.readings.proofs.Segments.{first-held}
+use Rattle.heights.proofs.height_integral.Literal.{flat-nearest}
 use Rattle.heights.proofs.SameReads.{walk-same-as-scan}
 use Rattle.heights.proofs.walk_apart.Apart.{walk-apart}
 use Rattle.angles.proofs.Angles.{sin-answers, cos-answers, never-refused-13}
@@ -146,6 +150,8 @@ theorems =
       paper-laws = paper-laws;
       wide_laws = wide_laws;
       turn-laws = turn-laws;
+      ionset-keeps = ionset-keeps;
+      exact-off = exact-off;
       lecden-keeps = lecden-keeps;
       lecden-supplied = lecden-supplied;
       never_both = never_both;
@@ -218,6 +224,8 @@ theorems =
       above-lowest = above-lowest;
       last-from-one = last-from-one;
       exact-rule = exact-rule;
+      first-held = first-held;
+      flat-nearest = flat-nearest;
       segments-found = segments-found;
       statement-checks = statement-checks;
     }

@@ -49,7 +49,8 @@ use Rattle.call_lists.specs.PaperWords.{PaperWords, RefusalByArguments, WithCont
 use Rattle.call_lists.specs.SameLists.{SameListsOfCalls}
 use Rattle.call_lists.specs.Nominal.{NominalAnywhere}
 use Rattle.arc_series.specs.OwnSeries.{AtanOwnSeries}
-use Rattle.theorems.specs.Unnamed.{LecdenKeeps, LecdenSupplied, NeverBoth, ReadsOfWalk, MarkUnread, AnyList, MarkRules, SlotsMarked, ExactRules}
+use Rattle.heights.specs.Exact.{FlatNearest}
+use Rattle.theorems.specs.Unnamed.{LecdenKeeps, LecdenSupplied, NeverBoth, ReadsOfWalk, MarkUnread, AnyList, MarkRules, SlotsMarked, ExactRules, SwitchesOff, IonsetKeeps, FirstFound}
 use Rattle.layers.specs.OwnersLeft.{LayersUnowned, IonsetDisowns}
 use Rattle.profile.specs.LecdenOwns.{LecdenOwner, LecdenOwned}
 use Rattle.heights.specs.Lowest.{AboveLowest, LastFromOne}
@@ -159,19 +160,23 @@ pub record Theorems : Type 0 where
   pub sheet-printed : SheetPrinted
   -- each export, on lists of any length with any numbers, answers 0 or one of the refusals listed for it, and nothing else
   pub export-refusals : ExportRefusals
-  -- all of these at the paper's layout, and at the one that carries F2M3
+  -- what is written is read back, and what is read written back, at the paper's layout, and at the one that carries F2M3
   pub paper-laws : PaperLaws
   pub wide_laws : WideLaws
   -- `widen` and `narrow`: there and back byte for byte, the circuit kept, 14 exactly where a point carries F2M3, every other refusal the chain's, new files refused by the old reader
   pub turn-laws : TurnLaws
   -- ---- Slots and profile
-  -- `lecden` changes slot k's F1 height and semi-thickness, `fsecv[k]`, the profile and the mark, and nothing else; nothing where the profile is supplied
+  -- `ionset` changes the three tables, kfx and the owner, and nothing else; not the owner where the profile is supplied
+  pub ionset-keeps : IonsetKeeps
+  -- the switch of the exact height rule is off in every state that `from_layers` makes, and in what `ionset` makes of it
+  pub exact-off : SwitchesOff
+  -- `lecden` changes slot k's F1 height and semi-thickness, `fsecv[k]`, the profile, the mark and the owner, and nothing else; nothing where the profile is supplied
   pub lecden-keeps : LecdenKeeps
   pub lecden-supplied : LecdenSupplied
   -- a branch of the Rust that can't be reached is left out
   pub never_both : NeverBoth
   -- ---- Heights, on profiles that pass the rising test, infinities and NaN reads included
-  -- each of the forty readings of the walk, kind and number, is the full scan's; the cursor after each is how many of the upper 49 heights are at or below its height, and its moves sum to at most 49; the heights in the order read never fall, or all are NaN
+  -- each of the forty readings of the walk, kind, number and segment, is the full scan's; the cursor after each is how many of the upper 49 heights are at or below its height, and its moves sum to at most 49; where the lowest height is finite and the difference no NaN, no height in the order read is below the one before it
   pub forty-reads : ReadsOfWalk
   -- by bits, each reading of the walk is the scan's, and the heights found by walks and by scans are the contract's
   pub walk-same-as-scan : WalkSameAsScan
@@ -270,6 +275,10 @@ pub record Theorems : Type 0 where
   pub last-from-one : LastFromOne
   -- where the rule is used, and that the switch changes nothing else
   pub exact-rule : ExactRules
+  -- a scan of any two columns finds the first segment that holds the probe, the top where none does
+  pub first-held : FirstFound
+  -- the literal below which the exact rule takes a segment for flat is nearest to its decimal
+  pub flat-nearest : FlatNearest
   -- a searched segment is at most 49, and 50 stands just where the first test ends `gethp` or `xlin`
   pub segments-found : SegmentsFound
   -- ---- Lists of calls

@@ -1,5 +1,5 @@
 -- The lines of two traces. The definition says of each kHz what its line is; that the lines are the only ones with the properties
--- asked for is stated in Held of trace_laws.
+-- asked for is stated in Held.
 use Rattle.std.specs.Prelude.{ℕ, cond, List, [], ◌∷◌, map, eqb, ltb, pos, ◌-ℤ◌, get_or}
 use Rattle.std.proofs.Math.Option.{Option, none, some}
 use Rattle.traces.specs.Trace.{height_at_khz}
