@@ -42,12 +42,3 @@ sign_length w = cond (starts_with_minus w || eqb (get_or w 0 0) 43) 1 0
 
 unfoldable pub decimal_read : List ℕ → Option ℕ
 decimal_read w = unsigned_of (starts_with_minus w) (drop (sign_length w) w)
-
--- the bits of a decimal, and its number as a case: 0 for a number, 1 for what is none
-abbrev pub bits_of : Option ℕ → ℕ
-bits_of (Some b) = b
-bits_of None = 0
-
-abbrev pub case_of : Option ℕ → ℕ
-case_of (Some b) = 0
-case_of None = 1

@@ -6,7 +6,6 @@ pub mod Words
 pub mod Decimal
 -- What a line of a circuit's text says.
 pub mod Names
-pub mod Fault
 pub mod Row
 -- The circuit that a text says.
 pub mod Draft

@@ -3,12 +3,6 @@ use Rattle.std.specs.Prelude.{ℕ, Bool, true, false, cond, List, [], ◌∷◌,
 use Rattle.first_difference.specs.Difference.{same_bytes}
 use Rattle.composing.specs.declared.compose_line.names.LineKind.{LineKind}
 
--- the number of a line's kind, as the kinds of the file's records are numbered
-abbrev pub kind_number : LineKind → ℕ
-kind_number LineKind.Path = 1
-kind_number LineKind.Point = 2
-kind_number LineKind.Deciles = 3
-
 -- `path`, `point`, `deciles`; no kind for any other word
 unfoldable pub line_kind_of : List ℕ → Option LineKind
 line_kind_of w =
