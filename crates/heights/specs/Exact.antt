@@ -1,18 +1,19 @@
 -- `virtual_height_exact`: the integral over the profile's segments up to the reflecting height, each in closed form, since the density is linear in height on a segment. Line by line as in the Rust.
-use Rattle.std.specs.Prelude.{cond, List, [], ◌∷◌, ℕ, zero, suc, ◌+◌, ◌-◌, Float}
+use Rattle.std.specs.Prelude.{cond, List, ◌≡◌, ℕ, zero, suc, ◌+◌, ◌-◌, Float}
 use Rattle.std.specs.Float.{binary32}
 use Rattle.std.specs.Float.Ieee.{of_bits}
 use Rattle.scalar.specs.F32.{◌+f◌, ◌-f◌, ◌*f◌, ◌/f◌, ◌<f◌, ◌≤f◌, ◌≥f◌, at}
-use Rattle.scalar.specs.Literals.{f0, f0_9999, f1, f2, Literal, is}
+use Rattle.scalar.specs.Literals.{f0, f0_9999, f1, f2, decimal}
 use Rattle.scalar.specs.Root.{sqrt_of}
 use Rattle.scalar.specs.Scalar.{min_of, max_of, abs_of}
 
--- the one literal that no other function has: the f32 nearest to 1e-9 (`flat-nearest`)
+-- the one literal that no other function has
 abbrev pub f0_000000001 : Float
 f0_000000001 = of_bits binary32 0x3089705f
 
-unfoldable pub flat_literal : List Literal
-flat_literal = is f0_000000001 1 9 ∷ []
+-- it is the f32 nearest to 1e-9
+abbrev pub FlatNearest : Type 0
+FlatNearest = f0_000000001 ≡ decimal 1 9
 
 -- ---- last: the place of the first height at or above top, and 49 where there is none, as for a NaN
 -- among the n heights from ih on
