@@ -43,7 +43,7 @@ module _ (htr fnsq : List Float) (z : ℕ → Float) (n : ℕ) (held : EachF32 h
   rises-so : (k : ℕ) → k < n → cursor_before htr fnsq z k ≤ cursor_before htr fnsq z (suc k)
   rises-so k h = le_trans (below-count k h) (le_of_eq (sym (cursor-after k h)))
 
-  moves-are : (k : ℕ) → k ≤ n → moves_of htr fnsq z k ≡ cursor_before htr fnsq z k
+  pub moves-are : (k : ℕ) → k ≤ n → moves_of htr fnsq z k ≡ cursor_before htr fnsq z k
   unfolding moves_of
   moves-are zero h = unfold cursor_before in refl
   moves-are (suc k) h =
