@@ -10,26 +10,32 @@ unfoldable pub e_grid : List Float → Float → List Float
 e_grid fv fi0 =
     let xtail = f0_85 in
     let fex = fi0 *f sqrt_of (f1 -f xtail *f xtail) in
-    let a = set (set fv 0 f0_01) 3 fex in
-    let fdif = (at a 3 -f at a 0) /f f3 in
-    let b = set a 1 (at a 0 +f fdif) in
-    let c = set b 2 (at b 1 +f fdif) in
-    let d = set (set c 8 (f0_957 *f fi0)) 9 (f0_99 *f fi0) in
-    filled d 3 ((at d 8 -f at d 3) /f f5) 4
+    let fv = set fv 0 f0_01 in
+    let fv = set fv 3 fex in
+    let fdif = (at fv 3 -f at fv 0) /f f3 in
+    let fv = set fv 1 (at fv 0 +f fdif) in
+    let fv = set fv 2 (at fv 1 +f fdif) in
+    let fv = set fv 8 (f0_957 *f fi0) in
+    let fv = set fv 9 (f0_99 *f fi0) in
+    filled fv 3 ((at fv 8 -f at fv 3) /f f5) 4
 
 -- the E-F cusp, place 10, and the F nose: places 26 to 29
 unfoldable pub nose_grid : List Float → Float → Float → List Float
 nose_grid fv fi0 fi2 =
-    set (set (set (set (set fv 10 (f1_05 *f fi0)) 29 (f0_99 *f fi2)) 28 (f0_98 *f fi2)) 27 (f0_96 *f fi2)) 26 (f0_92 *f fi2)
+    let fv = set fv 10 (f1_05 *f fi0) in
+    let fv = set fv 29 (f0_99 *f fi2) in
+    let fv = set fv 28 (f0_98 *f fi2) in
+    let fv = set fv 27 (f0_96 *f fi2) in
+    set fv 26 (f0_92 *f fi2)
 
 -- places 11 to 25: F2 alone, or F1 up to its cusp with F2 at place 20 and then F2. `fi1 <= 0.0`, which a NaN is not
 abbrev pub f_grid_by : Bool → List Float → Float → List Float
 f_grid_by true fv fi1 = filled fv 10 ((at fv 26 -f at fv 10) /f f16) 15
 f_grid_by false fv fi1 =
-    let a = set fv 19 (f0_99 *f fi1) in
-    let b = filled a 10 ((at a 19 -f at a 10) /f f9) 8 in
-    let c = set b 20 (f1_01 *f fi1) in
-    filled c 20 ((at c 26 -f at c 20) /f f6) 5
+    let fv = set fv 19 (f0_99 *f fi1) in
+    let fv = filled fv 10 ((at fv 19 -f at fv 10) /f f9) 8 in
+    let fv = set fv 20 (f1_01 *f fi1) in
+    filled fv 20 ((at fv 26 -f at fv 20) /f f6) 5
 
 unfoldable pub f_grid : List Float → Float → List Float
 f_grid fv fi1 = f_grid_by (fi1 ≤f f0) fv fi1
