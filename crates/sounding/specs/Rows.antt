@@ -10,12 +10,12 @@ use Rattle.readings.specs.Xlin.{xlin_of, xlin_segment_of}
 use Rattle.parabolas.specs.Bendy.{bendy_of, pen_of}
 use Rattle.reflectrix.specs.declared.Ionogram.{Ionogram}
 
--- the first ten rows where the profile does not give them: true heights, then virtual ones, of an E parabola that peaks at 110 km and is 20 km in semi-thickness. The other rows are zero
+-- the first ten rows where the profile does not give them: true heights, then virtual ones, of an E parabola that peaks at 110 km and is 20 km in semi-thickness.
 unfoldable pub HTE : List Float
-HTE = (f70 ∷ f84_51 ∷ f88_52 ∷ f93 ∷ f94_26 ∷ f95_71 ∷ f97_68 ∷ f100_27 ∷ f104_22 ∷ f107_19 ∷ []) ++ replicate 20 f0
+HTE = f70 ∷ f84_51 ∷ f88_52 ∷ f93 ∷ f94_26 ∷ f95_71 ∷ f97_68 ∷ f100_27 ∷ f104_22 ∷ f107_19 ∷ []
 
 unfoldable pub HPE : List Float
-HPE = (f70 ∷ f87_4 ∷ f94 ∷ f98_68 ∷ f100_2 ∷ f102_65 ∷ f107_15 ∷ f113_74 ∷ f125_25 ∷ f140_03 ∷ []) ++ replicate 20 f0
+HPE = f70 ∷ f87_4 ∷ f94 ∷ f98_68 ∷ f100_2 ∷ f102_65 ∷ f107_15 ∷ f113_74 ∷ f125_25 ∷ f140_03 ∷ []
 
 -- n rows from `first` on, each by its frequency
 unfoldable pub rows_of : {A : Type 0} → (Float → A) → List Float → ℕ → List A → ℕ → List A
@@ -49,8 +49,8 @@ rows_by true find s k fv =
     (rows_of (λ f. (find s f).segment) fv 0 (replicate 30 0) 30)
 rows_by false find s k fv =
     made fv
-    (rows_of (λ f. virtual_by (at s.fi (3 * k + 1) >f f0) find s k f) fv 10 HPE 20)
-    (rows_of (λ f. true_by_profile s f) fv 10 HTE 20)
+    (rows_of (λ f. virtual_by (at s.fi (3 * k + 1) >f f0) find s k f) fv 10 (HPE ++ replicate 20 f0) 20)
+    (rows_of (λ f. true_by_profile s f) fv 10 (HTE ++ replicate 20 f0) 20)
     (rows_of (λ f. segment_by_profile s f) fv 10 (replicate 30 unsearched) 20)
 
 unfoldable pub rows_with : Finder → IonoState → ℕ → List Float → Ionogram

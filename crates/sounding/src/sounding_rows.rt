@@ -78,7 +78,7 @@ pub struct TrueColumns {
 }
 
 fn true_rows(s: IonoState, fv: [f32; 30]) -> TrueColumns
-    ensures htrue_value { result.htrue ≡ rows_of (λ f. true_by_profile s f) fv 10 Rows.HTE 20 }
+    ensures htrue_value { result.htrue ≡ rows_of (λ f. true_by_profile s f) fv 10 (Rows.HTE ++ replicate 20 f0) 20 }
     ensures segment_value { result.segment ≡ rows_of (λ f. segment_by_profile s f) fv 10 (replicate 30 unsearched) 20 }
 {
     let mut htrue = [0.0; 30];
@@ -121,7 +121,7 @@ fn rows_from_ten<F: Fn(f32) -> f32>(start: [f32; 10], fv: [f32; 30], row: F) -> 
 // With an F1 off the profile, since the closed form of E and F2 leaves it out.
 fn virtual_rows(t: Tested, k: usize, fv: [f32; 30]) -> [f32; 30]
     requires { k < 3 }
-    ensures { result ≡ rows_of (λ f. virtual_by (at t.s.fi (3 * k + 1) >f f0) gethp_of t.s k f) fv 10 Rows.HPE 20 }
+    ensures { result ≡ rows_of (λ f. virtual_by (at t.s.fi (3 * k + 1) >f f0) gethp_of t.s k f) fv 10 (Rows.HPE ++ replicate 20 f0) 20 }
 {
     if t.s.fi[3 * k + 1] > 0.0 {
         let p = heights::lent(&t.s, t.rises);
