@@ -42,7 +42,7 @@ pub fn valley(s: Slot) -> Valley
 
 // Where F2 reaches F1's critical frequency above F1's peak, F1 stays a parabola; else its peak is
 // moved there, and it is a parabola that starts with F2, or a line.
-// Stays: -1 is the Rust's number for a profile without a cusp, and is compared and exported as such.
+// Stays: -1 is the Rust's number where F1 is a parabola, and is compared and exported as such.
 pub fn reshape(s: Slot, v: Valley) -> F1Shape
     ensures { result ≡ f1_of s v }
 {
