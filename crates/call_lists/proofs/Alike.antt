@@ -12,7 +12,7 @@ use lib.Signed.{lt_z}
 use lib.Ieee.{Float}
 use Rattle.scalar.specs.F32.{◌-f◌, ◌≤f◌, ◌>f◌, at}
 use Rattle.scalar.specs.Literals.{f0}
-use Rattle.layers.specs.State.{profile_only}
+use Rattle.layers.specs.State.{profile_only, layer_line_at}
 use Rattle.layers.specs.declared.IonoState.{IonoState}
 use Rattle.layers.specs.declared.LayerMuf.{LayerMuf}
 use Rattle.profile.specs.Lecden.{slot_at}
@@ -25,7 +25,7 @@ use Rattle.reflectrix.specs.declared.Ionogram.{Ionogram}
 use Rattle.sounding.specs.Rows.{HTE, HPE, rows_of, true_by_profile, segment_by_profile, virtual_by_parabola, virtual_by, made, rows_by, rows_with}
 use Rattle.sounding.specs.Genion.{fvert_at, genion_with}
 use Rattle.sounding.proofs.Ways.{rows_agree}
-use Rattle.losses.specs.Alosfv.{e_rows, layer_line_at, above_by, above_of, alosfv_of}
+use Rattle.losses.specs.Alosfv.{e_rows, above_by, above_of, alosfv_of}
 use Rattle.losses.specs.declared.Factors.{Factors}
 use Rattle.losses.specs.declared.Decay.{Decay}
 use Rattle.hops.specs.Geometry.{geometry_of}

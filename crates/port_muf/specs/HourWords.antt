@@ -1,8 +1,9 @@
 -- An hour as words, its 54 in the order of its fields, and the one word of the Es rows that is rewritten.
 use Rattle.muf.specs.declared.sporadic.Rewrite.{Rewrite}
-use Rattle.std.specs.Prelude.{List, [], ◌∷◌, ℕ, ◌+◌, ◌*◌, pos, get_or, set, Option, Some, None, ◌<◌, ⊤}
-use Rattle.std.specs.Float.{nan, binary32}
+use Rattle.std.specs.Prelude.{List, [], ◌∷◌, ℕ, ◌+◌, ◌*◌, set, Option, Some, None, ◌<◌, ⊤}
+use Rattle.std.specs.Float.{binary32}
 use Rattle.std.specs.Float.Ieee.{to_bits}
+use Rattle.layers.specs.State.{layer_line_at}
 use Rattle.layers.specs.declared.LayerMuf.{LayerMuf}
 use Rattle.muf.specs.declared.MufHour.{MufHour}
 use Rattle.port_state.specs.Words.{floats_into, word_of, count_word}
@@ -21,10 +22,6 @@ unfoldable pub head_into : MufHour → List ℕ → List ℕ
 head_into h w =
     let a = floats_into w 0 (h.emuf ∷ h.f1muf ∷ h.f2muf ∷ h.esmuf ∷ h.allmuf ∷ h.fot ∷ h.hpf ∷ h.angmuf ∷ []) in
     set (set a 8 (word_of h.modmuf)) 9 (count_word h.ks)
-
--- line i of four; past the end, where no code reads, one without numbers
-abbrev pub layer_line_at : List LayerMuf → ℕ → LayerMuf
-layer_line_at layers i = get_or layers i (record { sigl = nan; sigu = nan; delmuf = nan; hpmuf = nan; htmuf = nan; fvmuf = nan; afmuf = nan; nhopmf = pos 0; yfot = nan; ymuf = nan; yhpf = nan })
 
 -- words 0 to 53: then E, F1, F2 and Es
 unfoldable pub hour_into : MufHour → List ℕ → List ℕ
