@@ -13,10 +13,11 @@ use Rattle.layers.specs.declared.Owner.{Owner}
 abbrev pub no_layers : LayerParams
 no_layers = record { fi = []; yi = []; hi = [] }
 
--- line i of a layer table; past the end, where no code reads, one without numbers
+-- a line past the end of a layer table, where no code reads
 abbrev pub line_past_end : LayerMuf
 line_past_end = record { sigl = nan; sigu = nan; delmuf = nan; hpmuf = nan; htmuf = nan; fvmuf = nan; afmuf = nan; nhopmf = pos 0; yfot = nan; ymuf = nan; yhpf = nan }
 
+-- line i of a layer table
 abbrev pub layer_line_at : List LayerMuf → ℕ → LayerMuf
 layer_line_at layers i = get_or layers i line_past_end
 
