@@ -11,8 +11,8 @@ compare_e s kr = cond (at s.fi 0 -f at s.fi (3 * kr) ≤f f0) 0 kr
 -- with kfx 0 or 1 kr is 0, with 2 it is 1, else 2
 unfoldable pub controlling_of : IonoState → ℕ
 controlling_of s =
-    let f2 = at s.fi 2 -f at s.fi 8 in
+    let delfi = at s.fi 2 -f at s.fi 8 in
     cond (leb s.kfx 1) 0
     (cond (eqb s.kfx 2) (compare_e s 1)
-    (cond (abs_of f2 -f f0_01 ≤f f0) (compare_e s 2)
-    (cond (f2 <f f0) 0 2)))
+    (cond (abs_of delfi -f f0_01 ≤f f0) (compare_e s 2)
+    (cond (delfi <f f0) 0 2)))

@@ -13,4 +13,4 @@ row_set t k row = set (set (set t (3 * k) (at row 0)) (3 * k + 1) (at row 1)) (3
 
 -- F1 is at most 0.2 MHz above E, or F2 above F1
 unfoldable pub too_close : Float → Float → Float → Bool
-too_close e f1 f2' = (f1 -f e -f f0_2 ≤f f0) || (f2' -f f1 -f f0_2 ≤f f0)
+too_close fi0 fi1 fi2 = (fi1 -f fi0 -f f0_2 ≤f f0) || (fi2 -f fi1 -f f0_2 ≤f f0)

@@ -22,11 +22,11 @@ flfc_of arc = cond (f24 ≤f arc) f1 (horner_of AF arc 6 (at AF 6) *f arc)
 abbrev pub ec_step : Float → Float → Float
 ec_step ec f = cond (ec >f f) f ec
 
--- the MUF of F2 at a point, of its critical frequency f2 and its F2M3
+-- the MUF of F2 at a point, of its critical frequency fi2 and its F2M3
 unfoldable pub fmuf_of : Float → Float → Float → Float
-fmuf_of f2 m3 flfc =
-    let four = m3 *f f2 *f f1_1 in
-    f2 +f flfc *f (four -f f2)
+fmuf_of fi2 m3 flfc =
+    let four = m3 *f fi2 *f f1_1 in
+    fi2 +f flfc *f (four -f fi2)
 
 -- and its turn in the lowest
 abbrev pub f2_step : Float → Float → Float
