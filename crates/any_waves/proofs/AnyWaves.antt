@@ -2,7 +2,7 @@
 use Rattle.refusal.specs.declared.Refusal.{Refusal}
 use Rattle.muf.specs.declared.RegularLines.{RegularLines}
 use Rattle.std.specs.Prelude.{Result, Ok, Err}
-use mathlib.Core.Bool.{Bool, true, false, ◌&&◌}
+use mathlib.Core.Bool.{Bool, true, false, not, ◌&&◌}
 use mathlib.Core.List.{List}
 use mathlib.Core.Path.{◌≡◌, refl, sym, ap, ◌∙◌}
 use Prim.Native.Nat.{ℕ, zero, suc, ◌+◌}
@@ -38,7 +38,7 @@ use Rattle.muf.specs.Sporadic.{ray_of, taken_of, hop_by, row_by, es_row_of, star
 use Rattle.muf.specs.declared.sporadic.EsRay.{EsRay}
 use Rattle.layers.specs.declared.EsParams.{EsParams}
 use Rattle.muf.specs.declared.sporadic.EsSearch.{EsSearch}
-use Rattle.muf.specs.Curmuf.{within_of, amin_by, in_domain, lists_reach, found_then, regular_with, regular_by, muf_at_slot_with, muf_from_search_by, muf_from_search_with, muf_of_rows_with}
+use Rattle.muf.specs.Curmuf.{within_of, in_domain, lists_reach, found_then, regular_with, regular_by, muf_at_slot_with, muf_from_search_by, muf_from_search_with, muf_of_rows_with}
 use Rattle.angles.specs.Angles.{Small, AllSmall}
 use Rattle.angles.proofs.Angles.{never-refused-13}
 use Rattle.any_waves.specs.Over.{Waves, hop_ratio_over, hops_over, sphe_over, hop_geometry_over, geometry_over_by, geometry_over, round_over, rounds_over, bent_over, e_line_over, f2_line_over_by, f2_line_over, f1_found_over, f1_own_over_by, f1_own_over, f1_line_over_by, f1_line_over, regular_over, ray_over, hop_over_by, row_over_by, es_row_over, es_from_over, muf_at_slot_over, muf_from_search_over_by, muf_of_rows_over}
@@ -210,7 +210,7 @@ module _ (w : Waves) (alike : OursWhereSmall w) where
         ap (λ (x : Result RegularLines Refusal). regular_by x t l ks step) (regular-so find t l f2d clat clck)
 
   -- where it is refused 9 nothing is looked at
-  not-above : (b : Bool) → amin_by b ≡ true → b ≡ false
+  not-above : (b : Bool) → not b ≡ true → b ≡ false
   not-above true e = sym e
   not-above false e = refl
 
@@ -226,7 +226,7 @@ pub any-waves : AnyWaves
 unfolding muf_of_rows_over muf_of_rows_with muf_from_search_with in_domain
 any-waves w alike find s n row f2d clat clck c p q r =
     search-by w alike (in_domain c) (lists_reach (controlling_of s) (length f2d) (length clat) (length clck)) find s n row f2d clat clck c
-    (λ e. let a = and_parts (within_of c.gcdkm f40100 && within_of c.gcd f6_3) (amin_by (c.amind >f f90)) e in
+    (λ e. let a = and_parts (within_of c.gcdkm f40100 && within_of c.gcd f6_3) (not (c.amind >f f90)) e in
     let b = and_parts (within_of c.gcdkm f40100) (within_of c.gcd f6_3) a.0 in
     never-refused-13 c.gcd c.gcdkm c.amind p q r b.1 b.0 (not-above w alike (c.amind >f f90) a.1))
 

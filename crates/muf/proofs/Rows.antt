@@ -8,11 +8,9 @@ use mathlib.Core.Logic.{◌⊎◌, inl, inr}
 use mathlib.Core.List.{List}
 use Prim.Native.Nat.{ℕ, zero, suc, ◌+◌, ◌*◌, ◌/◌, ◌<◌, ◌≤◌}
 use native.Mathlib.Omega.{arith}
-use native.Mathlib.Nat.{div-add-mod'}
-use lib.Dec.{ltb}
+use native.Mathlib.Nat.{div-add-mod', min-le_left}
 use lib.ListN.{length}
 use lib.Ieee.{Float, of_bits, sub, add, neg, le, round}
-use borrow.Author.Tests.{ltb-false}
 use Rattle.scalar.specs.F32.{◌-f◌, ◌*f◌, ◌>f◌, ◌≥f◌, ◌≤f◌, at}
 use Rattle.scalar.specs.Literals.{f0, f1000}
 use Rattle.hops.specs.Geometry.{hops_of}
@@ -23,7 +21,7 @@ use Rattle.profile.specs.declared.slot_curves.Slot.{Slot}
 use Rattle.heights.specs.Gethp.{gethp_of}
 use Rattle.layer_mufs.specs.declared.PathNumbers.{PathNumbers}
 use Rattle.muf.specs.Sporadic.{ray_of, taken_by, taken_of, hop_by, row_by, es_row_of, start_of, next_by, es_from, es_line_by, es_line_of, row_at, es_found_of}
-use Rattle.muf.specs.Domain.{in_domain, lists_reach, taken_rows_by, taken_rows, row_count_of}
+use Rattle.muf.specs.Domain.{in_domain, lists_reach, taken_rows, row_count_of}
 use Rattle.muf.specs.Curmuf.{es_by, regular_by, regular_with, muf_at_slot_with, muf_from_search_by, muf_from_search_with, muf_of_rows_with, flat_with, flat_of, rewrite_by, found_muf_of, RowBelow}
 use Rattle.layers.specs.declared.EsParams.{EsParams}
 use Rattle.muf.specs.declared.sporadic.EsRay.{EsRay}
@@ -110,13 +108,9 @@ pub done_below : (s : IonoState) (n : ℕ) (row : ℕ → EsParams) (f2d clat cl
 unfolding muf_of_rows_with muf_from_search_with
 done_below s n row f2d clat clck c = done-by-below (in_domain c) (lists_reach (controlling_of s) (length f2d) (length clat) (length clck)) n s (es_from row c n 0 start_of) f2d clat clck c (all_held row c n)
 
-rows-by : (b : Bool) (there km : ℕ) → ltb there km ≡ b → taken_rows_by b there km ≤ there
-rows-by true there km h = omega arith
-rows-by false there km h = ltb-false there km h
-
 -- the rows that are worked are there
 pub taken-there : (there km : ℕ) → taken_rows there km ≤ there
-taken-there there km = rows-by (ltb there km) there km refl
+taken-there there km = min-le_left there km
 
 pub rows-there : (numbers km : ℕ) → 4 * row_count_of numbers km ≤ numbers
 unfolding row_count_of

@@ -22,7 +22,7 @@ use Rattle.muf.specs.declared.RegularLines.{RegularLines}
 use Rattle.muf.specs.declared.MufAnswer.{MufAnswer}
 use Rattle.muf.specs.declared.AnswerAndRow.{AnswerAndRow}
 unfoldable pub use Rattle.muf.specs.Domain.{in_domain, lists_reach, row_count_of}
-pub use Rattle.muf.specs.Domain.{within_of, amin_by, taken_rows_by, taken_rows}
+pub use Rattle.muf.specs.Domain.{within_of, taken_rows}
 
 -- E, then F2, then F1
 
