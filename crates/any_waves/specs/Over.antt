@@ -159,15 +159,15 @@ es_from_over w row c (suc n) k a = next_by (es_row_over w a k (row k) c) (λ b. 
 -- ---- the whole
 
 unfoldable pub muf_at_slot_over : Waves → Finder → IonoState → ℕ → Result EsSearch Refusal → List Float → Float → Float → PathNumbers → Result AnswerAndRow Refusal
-muf_at_slot_over w find s ks step f2d clat clck c =
+muf_at_slot_over w find s ks found f2d clat clck c =
     let t = lecden_of s ks in
     let l = slot_at t ks in
-    regular_by (regular_over w find t l f2d clat clck c) t l ks step
+    regular_by (regular_over w find t l f2d clat clck c) t l ks found
 
 abbrev pub muf_from_search_over_by : Bool → Bool → Waves → Finder → IonoState → Result EsSearch Refusal → List Float → List Float → List Float → PathNumbers → Result AnswerAndRow Refusal
-muf_from_search_over_by true true w find s step f2d clat clck c = let ks = controlling_of s in muf_at_slot_over w find s ks step f2d (at clat ks) (at clck ks) c
-muf_from_search_over_by true false w find s step f2d clat clck c = Err Refusal.MufLists
-muf_from_search_over_by false reach w find s step f2d clat clck c = Err Refusal.MufInput
+muf_from_search_over_by true true w find s found f2d clat clck c = let ks = controlling_of s in muf_at_slot_over w find s ks found f2d (at clat ks) (at clck ks) c
+muf_from_search_over_by true false w find s found f2d clat clck c = Err Refusal.MufLists
+muf_from_search_over_by false reach w find s found f2d clat clck c = Err Refusal.MufInput
 
 -- n rows of Es, each as `row` gives it: flat rows and records alike
 unfoldable pub muf_of_rows_over : Waves → Finder → IonoState → ℕ → (ℕ → EsParams) → List Float → List Float → List Float → PathNumbers → Result AnswerAndRow Refusal

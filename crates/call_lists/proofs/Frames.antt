@@ -31,7 +31,7 @@ use Rattle.layer_mufs.specs.Controlling.{compare_e, controlling_of}
 use Rattle.layer_mufs.specs.declared.PathNumbers.{PathNumbers}
 use Rattle.layer_mufs.proofs.controlling_slot.Small.{controlling-small}
 use Rattle.muf.specs.Sporadic.{start_of, row_at, es_from}
-use Rattle.muf.specs.Curmuf.{in_domain, lists_reach, regular_with, found_muf_of, es_by, regular_by, muf_at_slot_with, muf_from_search_by, muf_from_search_with, muf_of_rows_with, taken_rows, row_count_of, flat_with, answer_by, rewrite_by}
+use Rattle.muf.specs.Curmuf.{in_domain, lists_reach, regular_with, found_muf_of, es_by, regular_by, muf_at_slot_with, muf_from_search_by, muf_from_search_with, muf_of_rows_with, taken_rows, row_count_of, flat_muf_with, answer_by, rewrite_by}
 use Rattle.layers.specs.declared.EsParams.{EsParams}
 use Rattle.muf.specs.declared.sporadic.EsSearch.{EsSearch}
 use Rattle.muf.specs.declared.RegularLines.{RegularLines}
@@ -132,7 +132,7 @@ done-follows find s t n row f2d clat clck c agree g fresh =
     (done-by (in_domain c) (reach (controlling_of s)) find s t step f2d clat clck c (λ hd hr. agree (controlling_of s) (has-picked hd hr)) g (λ hd hr. fresh (controlling_of s) (has-picked hd hr)))
 
 muf-follows : (es : EsRows) (find : Finder) (s t : IonoState) (f2d clat clck : List Float) (c : PathNumbers) → AgreesFor find s t (a_muf es f2d clat clck c) → Common s t → FreshFor s t (a_muf es f2d clat clck c) → Follows (muf_with find t es f2d clat clck c) (muf_with gethp_of s es f2d clat clck c) t (controlling_of s)
-unfolding muf_with flat_with records_answer_with picked_slot
+unfolding muf_with flat_muf_with records_answer_with picked_slot
 muf-follows (flat es) find s t f2d clat clck c agree g fresh =
     subst (λ (m : ℕ). Follows (muf_of_rows_with find t (row_count_of (length es) m) (row_at es) f2d clat clck c) (muf_of_rows_with gethp_of s (row_count_of (length es) s.km) (row_at es) f2d clat clck c) t (controlling_of s)) (sym g.km-common)
     (done-follows find s t (row_count_of (length es) s.km) (row_at es) f2d clat clck c agree g fresh)
@@ -155,7 +155,7 @@ done-picked s n row f2d clat clck c e =
     picked (in_domain c) (eqb (length f2d) 576) k h.0 (deciles-right (length f2d) k (length clat) (length clck) h.1)
 
 muf-picked : (es : EsRows) (s : IonoState) (f2d clat clck : List Float) (c : PathNumbers) → answered s (a_muf es f2d clat clck c) ≡ true → picked_slot s (a_muf es f2d clat clck c) ≡ Some (controlling_of s)
-unfolding answered answer_with picked_slot muf_with flat_with records_answer_with
+unfolding answered answer_with picked_slot muf_with flat_muf_with records_answer_with
 muf-picked (flat es) s f2d clat clck c e = done-picked s (row_count_of (length es) s.km) (row_at es) f2d clat clck c e
 muf-picked (records es) s f2d clat clck c e = done-picked s (taken_rows (length es) s.km) (es_row_at es) f2d clat clck c e
 

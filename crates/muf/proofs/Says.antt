@@ -49,17 +49,17 @@ regular-says r t l f2d clat clck c e =
     (then_by (e_line_of t x.fxe c.gcdkm c.amind) (λ m. found_then f2 (last m)) (λ m. first_refusal_number (answer_number f2) (answer_number (f1 m))) (λ m. lines m (line_value f2))
     (λ m. then_by f2 (last m) (λ n. answer_number (f1 m)) (lines m) (λ n. last-by (f1 m) m n)))
 
-es-by : (step : Result EsSearch Refusal) (t : IonoState) (fe : Float) (m : RegularLines) (ks : ℕ) → answer_number (es_by step t fe m ks) ≡ answer_number step
+es-by : (found : Result EsSearch Refusal) (t : IonoState) (fe : Float) (m : RegularLines) (ks : ℕ) → answer_number (es_by found t fe m ks) ≡ answer_number found
 es-by (Ok a) t fe m ks = refl
 es-by (Err r) t fe m ks = refl
 
-slot-by : (a : Result RegularLines Refusal) (t : IonoState) (l : Slot) (ks : ℕ) (step : Result EsSearch Refusal) → answer_number (regular_by a t l ks step) ≡ first_refusal_number (answer_number a) (answer_number step)
-slot-by (Ok m) t l ks step = es-by step t l.fi0 m ks
-slot-by (Err r) t l ks step = rw (no_answer r)
+slot-by : (a : Result RegularLines Refusal) (t : IonoState) (l : Slot) (ks : ℕ) (found : Result EsSearch Refusal) → answer_number (regular_by a t l ks found) ≡ first_refusal_number (answer_number a) (answer_number found)
+slot-by (Ok m) t l ks found = es-by found t l.fi0 m ks
+slot-by (Err r) t l ks found = rw (no_answer r)
 
-pub slot-says : (r : Result AnswerAndRow Refusal) (s : IonoState) (ks : ℕ) (step : Result EsSearch Refusal) (f2d : List Float) (clat clck : Float) (c : PathNumbers) → r ≡ muf_at_slot_of s ks step f2d clat clck c → SlotSays r s ks step f2d clat clck c
+pub slot-says : (r : Result AnswerAndRow Refusal) (s : IonoState) (ks : ℕ) (found : Result EsSearch Refusal) (f2d : List Float) (clat clck : Float) (c : PathNumbers) → r ≡ muf_at_slot_of s ks found f2d clat clck c → SlotSays r s ks found f2d clat clck c
 unfolding muf_at_slot_with SlotSays
-slot-says r s ks step f2d clat clck c e =
+slot-says r s ks found f2d clat clck c e =
     let t = lecden_of s ks in
     let l = slot_at t ks in
-    rw e (slot-by (regular_with gethp_of t l f2d clat clck c) t l ks step)
+    rw e (slot-by (regular_with gethp_of t l f2d clat clck c) t l ks found)

@@ -28,6 +28,6 @@ RegularSays r t l f2d clat clck c =
 
 -- the hour of slot ks: the regular lines' number, then that of the search of the Es rows
 unfoldable pub SlotSays : Result AnswerAndRow Refusal → IonoState → ℕ → Result EsSearch Refusal → List Float → Float → Float → PathNumbers → Type 0
-SlotSays r s ks step f2d clat clck c =
+SlotSays r s ks found f2d clat clck c =
     let t = lecden_of s ks in
-    answer_number r ≡ first_refusal_number (answer_number (regular_with gethp_of t (slot_at t ks) f2d clat clck c)) (answer_number step)
+    answer_number r ≡ first_refusal_number (answer_number (regular_with gethp_of t (slot_at t ks) f2d clat clck c)) (answer_number found)

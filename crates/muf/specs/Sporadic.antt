@@ -61,9 +61,9 @@ start_of = record { esmuf = f1000; ksx = 0; ray = no_ray; hop = f0; row = no_row
 abbrev pub no_search : EsSearch
 no_search = record { esmuf = f0; ksx = 0; ray = no_ray; hop = f0; row = no_row }
 
-abbrev pub step_value : Result EsSearch Refusal → EsSearch
-step_value (Ok a) = a
-step_value (Err r) = no_search
+abbrev pub search_value : Result EsSearch Refusal → EsSearch
+search_value (Ok a) = a
+search_value (Err r) = no_search
 
 -- row k of a flat list
 abbrev pub row_at : List Float → ℕ → EsParams

@@ -11,7 +11,7 @@ ghost use Rattle.std.specs.Prelude.{◌≡◌, ◌+◌, ◌*◌, ◌^◌, ◌<�
 ghost use Rattle.heights.specs.Gethp.{gethp_of};
 ghost use Rattle.muf.specs.Sporadic.{row_at};
 ghost use Rattle.muf.specs.Hour.{mode_of, hour_of, zero_hour};
-ghost use Rattle.muf.specs.Curmuf.{regular_with, found_muf_of, muf_at_slot_of, muf_from_search_of, flat_of, es_after_of, curmuf_of};
+ghost use Rattle.muf.specs.Curmuf.{regular_with, found_muf_of, muf_at_slot_of, muf_from_search_of, flat_muf_of, es_after_of, curmuf_of};
 ghost use Rattle.muf.specs.Says.{RegularSays, SlotSays};
 
 pub mod lent;
@@ -179,20 +179,20 @@ fn finish(t: IonoState, fe: f32, m: RegularLines, ks: usize, a: EsSearch) -> Ans
 pub fn muf_at_slot(
     s: IonoState,
     ks: usize,
-    step: Result<EsSearch, Refusal>,
+    found: Result<EsSearch, Refusal>,
     f2d: &[f32],
     clat: f32,
     clck: f32,
     c: PathNumbers,
 ) -> Result<AnswerAndRow, Refusal>
     requires { ks < 3 }
-    ensures value { result ≡ muf_at_slot_of s ks step f2d.now clat clck c }
-    ensures slot_says { SlotSays result s ks step f2d.now clat clck c }
+    ensures value { result ≡ muf_at_slot_of s ks found f2d.now clat clck c }
+    ensures slot_says { SlotSays result s ks found f2d.now clat clck c }
 {
     let t = profile::lecden_slot(s, ks);
     let l = profile::slot_at(t, ks);
     let m = regular_lines(t, l, f2d, clat, clck, c)?;
-    let a = step?;
+    let a = found?;
     Ok(finish(t, l.fi0, m, ks, a))
 }
 
@@ -200,13 +200,13 @@ pub fn muf_at_slot(
 // is, and the row to be rewritten is named. Where the call is refused before them it is not used.
 pub fn muf_from_search<L: Numbers>(
     s: IonoState,
-    step: Result<EsSearch, Refusal>,
+    found: Result<EsSearch, Refusal>,
     f2d: &[f32],
     clat: L,
     clck: L,
     c: PathNumbers,
 ) -> Result<AnswerAndRow, Refusal>
-    ensures { result ≡ muf_from_search_of s step f2d.now (L.floats clat) (L.floats clck) c }
+    ensures { result ≡ muf_from_search_of s found f2d.now (L.floats clat) (L.floats clck) c }
 {
     if !crate::muf_domain::in_domain(c) {
         return Err(Refusal::MufInput);
@@ -215,7 +215,7 @@ pub fn muf_from_search<L: Numbers>(
     if !crate::muf_domain::lists_reach(ks, f2d.len(), clat.count(), clck.count()) {
         return Err(Refusal::MufLists);
     }
-    muf_at_slot(s, ks, step, f2d, clat.number(ks), clck.number(ks), c)
+    muf_at_slot(s, ks, found, f2d, clat.number(ks), clck.number(ks), c)
 }
 
 // Row k of numbers that stand four a row.
@@ -239,11 +239,11 @@ pub fn flat<L: Numbers>(
     clck: L,
     c: PathNumbers,
 ) -> Result<AnswerAndRow, Refusal>
-    ensures { result ≡ flat_of s (L.floats es) f2d.now (L.floats clat) (L.floats clck) c }
+    ensures { result ≡ flat_muf_of s (L.floats es) f2d.now (L.floats clat) (L.floats clck) c }
 {
     let n = crate::muf_domain::row_count(es.count(), s.km);
-    let step = crate::sporadic::search(|k| flat_row(es, k), n, c);
-    muf_from_search(s, step, f2d, clat, clck, c)
+    let found = crate::sporadic::search(|k| flat_row(es, k), n, c);
+    muf_from_search(s, found, f2d, clat, clck, c)
 }
 
 // The MUF hour; `es` holds four numbers a row: three of `fs`, then `hs`. Only the controlling row's

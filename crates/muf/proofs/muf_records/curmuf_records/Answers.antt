@@ -16,9 +16,9 @@ use Rattle.muf.proofs.muf_records.Rows.{records-below}
 use Rattle.muf.proofs.muf_records.curmuf_records.Goals as goal
 
 -- the answer of the search of the records is that of the records
-of-records : (s : IonoState) (ys : List EsParams) (step : Result EsSearch Refusal) (f2d clat clck : List Float) (c : PathNumbers) (r : Result AnswerAndRow Refusal) → step ≡ es_from (es_row_at ys) c (taken_rows (length ys) s.km) 0 start_of → r ≡ muf_from_search_of s step f2d clat clck c → r ≡ records_answer_of s ys f2d clat clck c
+of-records : (s : IonoState) (ys : List EsParams) (found : Result EsSearch Refusal) (f2d clat clck : List Float) (c : PathNumbers) (r : Result AnswerAndRow Refusal) → found ≡ es_from (es_row_at ys) c (taken_rows (length ys) s.km) 0 start_of → r ≡ muf_from_search_of s found f2d clat clck c → r ≡ records_answer_of s ys f2d clat clck c
 unfolding records_answer_with muf_of_rows_with
-of-records s ys step f2d clat clck c r e w = w ∙ ap (λ (z : Result EsSearch Refusal). muf_from_search_of s z f2d clat clck c) e
+of-records s ys found f2d clat clck c r e w = w ∙ ap (λ (z : Result EsSearch Refusal). muf_from_search_of s z f2d clat clck c) e
 
 pub rewrite-requires : goal.rewrite-requires
 rewrite-requires c =
