@@ -9,10 +9,10 @@ pub mod sporadic;
 
 ghost use Rattle.std.specs.Prelude.{◌≡◌, ◌+◌, ◌*◌, ◌^◌, ◌<◌, length};
 ghost use Rattle.heights.specs.Gethp.{gethp_of};
-ghost use Rattle.muf.specs.Sporadic.{row_at};
+ghost use Rattle.muf.specs.Sporadic.{start_of, row_at, es_from};
 ghost use Rattle.muf.specs.Hour.{mode_of, hour_of, zero_hour};
-ghost use Rattle.muf.specs.Curmuf.{regular_with, found_muf_of, muf_at_slot_of, muf_from_search_of, flat_muf_of, es_after_of, curmuf_of};
-ghost use Rattle.muf.specs.Says.{RegularSays, SlotSays};
+ghost use Rattle.muf.specs.Curmuf.{regular_with, found_muf_of, muf_at_slot_of, muf_from_search_of, flat_muf_of, es_after_of, curmuf_of, row_count_of};
+ghost use Rattle.muf.specs.Says.{RegularSays, SlotSays, MufSays};
 
 pub mod lent;
 
@@ -260,6 +260,7 @@ pub fn curmuf(
 ) -> Result<MufAnswer, Refusal>
     ensures value { result ≡ curmuf_of s es.old f2d.now clat.now clck.now c }
     ensures es_after { es.new ≡ es_after_of s es.old f2d.now clat.now clck.now c }
+    ensures muf_says { MufSays result s (es_from (row_at es.old) c (row_count_of (length es.old) s.km) 0 start_of) f2d.now clat.now clck.now c }
 {
     let d = flat(s, &*es, f2d, clat, clck, c)?;
     if let Some(w) = d.rewrite {

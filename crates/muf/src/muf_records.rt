@@ -2,6 +2,7 @@
 ghost use Rattle.std.specs.Prelude.{◌≡◌, length};
 ghost use Rattle.muf.specs.Sporadic.{start_of, es_from};
 ghost use Rattle.muf.specs.Domain.{taken_rows};
+ghost use Rattle.muf.specs.Says.{MufSays};
 ghost use Rattle.muf.specs.LentRecords.{es_row_at, records_muf_of, records_after_of};
 
 use crate::MufAnswer;
@@ -32,6 +33,7 @@ pub fn curmuf_records(
 ) -> Result<MufAnswer, Refusal>
     ensures answer { result ≡ records_muf_of s es.old f2d.now clat.now clck.now c }
     ensures records_after { es.new ≡ records_after_of s es.old f2d.now clat.now clck.now c }
+    ensures muf_says { MufSays result s (es_from (es_row_at es.old) c (taken_rows (length es.old) s.km) 0 start_of) f2d.now clat.now clck.now c }
 {
     let found = search(es, s.km, c);
     let d = crate::muf_from_search(s, found, f2d, clat, clck, c)?;

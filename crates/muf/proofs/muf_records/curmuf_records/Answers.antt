@@ -12,6 +12,7 @@ use Rattle.muf.specs.Sporadic.{es_from, start_of}
 use Rattle.muf.specs.declared.AnswerAndRow.{AnswerAndRow}
 use Rattle.muf.specs.Curmuf.{muf_of_rows_with, muf_from_search_of, taken_rows}
 use Rattle.muf.specs.LentRecords.{es_row_at, records_answer_with, records_answer_of}
+use Rattle.muf.proofs.Says.{records-say}
 use Rattle.muf.proofs.muf_records.Rows.{records-below}
 use Rattle.muf.proofs.muf_records.curmuf_records.Goals as goal
 
@@ -30,9 +31,9 @@ pub returns-in_err-d : goal.returns-in_err-d
 returns-in_err-d c =
     let p = err_from_is_err_and c.from_residual.result c.from_residual.ensures.1 in
     let e = of-records c.args.s c.args.es.now c.search-found.result c.args.f2d.now c.args.clat.now c.args.clck.now c.args.c (Err c.in_err-d.field-0.0) c.search-found.ensures c.in_err-d.ensures in
-    record { answer = rw (p.1, p.2, ← e); records_after = rw (← e) }
+    record { answer = rw (p.1, p.2, ← e); records_after = rw (← e); muf_says = records-say _ _ c.args.es.now _ _ _ _ (rw (p.1, p.2, ← e)) }
 
 pub returns : goal.returns
 returns c =
     let e = of-records c.args.s c.args.es.now c.search-found.result c.args.f2d.now c.args.clat.now c.args.clck.now c.args.c (Ok c.in_ok-d.d) c.search-found.ensures c.in_ok-d.ensures in
-    record { answer = rw (← e); records_after = rw (← e) c.rewrite.ensures }
+    record { answer = rw (← e); records_after = rw (← e) c.rewrite.ensures; muf_says = records-say _ _ c.args.es.now _ _ _ _ (rw (← e)) }
