@@ -34,7 +34,7 @@ use Rattle.layer_mufs.specs.Lines.{f2_heights_with, bent_of, f2_bent_of, f2_line
 use Rattle.layer_mufs.specs.declared.PathNumbers.{PathNumbers}
 use Rattle.layer_mufs.specs.declared.tangents.F2Tangent.{F2Tangent}
 use Rattle.layer_mufs.specs.declared.e_lines.HeightPair.{HeightPair}
-use Rattle.muf.specs.Sporadic.{ray_of, taken_of, hop_by, row_by, es_row_of, start_of, next_by, es_from}
+use Rattle.muf.specs.Sporadic.{es_psi, ray_of, taken_of, hop_by, row_by, es_row_of, start_of, next_by, es_from}
 use Rattle.muf.specs.declared.sporadic.EsRay.{EsRay}
 use Rattle.layers.specs.declared.EsParams.{EsParams}
 use Rattle.muf.specs.declared.sporadic.EsSearch.{EsSearch}
@@ -173,7 +173,7 @@ module _ (w : Waves) (alike : OursWhereSmall w) where
     ray-so : (h hs x : Float) → hops_of c.gcdkm c.amind h ≡ Ok x → ray_over w hs x c.gcd ≡ ray_of hs x c.gcd
     unfolding ray_over ray_of
     ray-so h hs x e =
-        let psi = f0_5 *f c.gcd /f x in
+        let psi = es_psi c.gcd x in
         let is = small.es h x e in
         let whole : Float → Float → EsRay = λ cpsi spsi. let tdel = (cpsi -f RZ /f (RZ +f hs)) /f spsi in let cdel = f1 /f sqrt_of (f1 +f tdel *f tdel) in let sphe = RZ *f cdel /f (RZ +f hs) in record { tdel = tdel; secp = f1 /f sqrt_of (f1 -f sphe *f sphe) } in
         ap (λ (y : Float). whole y (w.sine psi)) (alike psi is).1 ∙ ap (whole (cos_of psi)) (alike psi is).0

@@ -26,7 +26,7 @@ use Rattle.layer_mufs.specs.Lines.{f2_heights_with, f2_bent_of}
 use Rattle.layer_mufs.specs.declared.PathNumbers.{PathNumbers}
 use Rattle.layer_mufs.specs.declared.tangents.F2Tangent.{F2Tangent}
 use Rattle.layer_mufs.specs.declared.e_lines.HeightPair.{HeightPair}
-use Rattle.muf.specs.Sporadic.{taken_of, start_of, next_by}
+use Rattle.muf.specs.Sporadic.{es_psi, taken_of, start_of, next_by}
 use Rattle.muf.specs.declared.sporadic.EsRay.{EsRay}
 use Rattle.layers.specs.declared.EsParams.{EsParams}
 use Rattle.muf.specs.declared.sporadic.EsSearch.{EsSearch}
@@ -134,7 +134,7 @@ regular_over w find t l f2d clat clck c =
 
 unfoldable pub ray_over : Waves → Float → Float → Float → EsRay
 ray_over w hs hop gcd =
-    let psi = f0_5 *f gcd /f hop in
+    let psi = es_psi gcd hop in
     let tdel = (w.cosine psi -f RZ /f (RZ +f hs)) /f w.sine psi in
     let cdel = f1 /f sqrt_of (f1 +f tdel *f tdel) in
     let sphe = RZ *f cdel /f (RZ +f hs) in

@@ -16,9 +16,13 @@ use Rattle.muf.specs.declared.sporadic.EsRay.{EsRay}
 use Rattle.muf.specs.declared.sporadic.EsSearch.{EsSearch}
 use Rattle.muf.specs.declared.sporadic.EsLine.{EsLine}
 
+-- half the angle of a hop at the Earth's centre
+abbrev pub es_psi : Float → Float → Float
+es_psi gcd hop = f0_5 *f gcd /f hop
+
 unfoldable pub ray_of : Float → Float → Float → EsRay
 ray_of hs hop gcd =
-    let psi = f0_5 *f gcd /f hop in
+    let psi = es_psi gcd hop in
     let tdel = (cos_of psi -f RZ /f (RZ +f hs)) /f sin_of psi in
     let cdel = f1 /f sqrt_of (f1 +f tdel *f tdel) in
     let sphe = RZ *f cdel /f (RZ +f hs) in
