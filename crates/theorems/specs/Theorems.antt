@@ -176,7 +176,7 @@ pub record Theorems : Type 0 where
   -- a branch of the Rust that can't be reached is left out
   pub never_both : NeverBoth
   -- ---- Heights, on profiles that pass the rising test, infinities and NaN reads included
-  -- each of the forty readings of the walk, kind, number and segment, is the full scan's; the cursor after each is how many of the upper 49 heights are at or below its height, and its moves sum to at most 49; where the lowest height is finite and the difference no NaN, no height in the order read is below the one before it
+  -- each of the forty readings of the walk, kind, number and segment, is the full scan's; the cursor after each is how many of the upper 49 heights are at or below its height, and its moves sum to where it ends, so none is back, and to at most 49; where the lowest height is finite and the difference no NaN, no height in the order read is below the one before it
   pub forty-reads : ReadsOfWalk
   -- by bits, each reading of the walk is the scan's, and the heights found by walks and by scans are the contract's
   pub walk-same-as-scan : WalkSameAsScan
