@@ -1,11 +1,16 @@
 /* The exports of the frequency sheet, for C and whatever calls C.
  *
  * A list is a pointer and a length, in elements. An f32 crosses as its bits in a
- * u32, so that a NaN keeps its payload and -0 its sign; floats are only the
- * deciles and what the scalar functions take and give. Each port_ function
- * answers 0, or the number of the refusal, and then no lent cell has changed. A
- * list lent shorter than is said here, and an input list of another length, is
- * refused with 1. Cells past those that are named stay as they are.
+ * u32, so that -0 keeps its sign. The words of a circuit keep a NaN's payload too,
+ * and so do words of Es rows that are not rewritten; every other NaN that is
+ * answered in a word, or handed back in a state, is 0x7fc00000. Floats are only the
+ * deciles and what the scalar functions take and give; of a NaN that these give
+ * neither sign nor payload is said. Each port_ function answers 0, or the number of
+ * the refusal, and then no lent cell has changed. A list shorter than is said here
+ * is refused with 1; one that is longer is taken, and cells past those that are
+ * named are not read and stay as they are. Files, cells (8), and lists that are
+ * counted (points, F2M3s, Es rows, deciles, clat, clck, tariffs, prices, traces)
+ * have rules of their own.
  *
  * Refusals: 1 length, 2 record 0, 3 a chain's step, 4 a chain's record, 5 count of
  * points, 6 slot or layer, 7 path for the angles, 8 angles or cells, 9 path, 10

@@ -17,7 +17,7 @@ echo "the Rust: HFcast Engine in $source, commit $commit; this port was made fro
 # Proves and builds a crate that is there, and ends with the prover's words where that fails, since an archive that an
 # earlier build left would be compared otherwise.
 made() {
-    if [ -d "crates/$1" ]; then
+    if [ -d "crates/$1" ] || [ -d "crates/${1}_c" ]; then
         tools/build "$1"
     else
         echo "crates/$1 is not there"

@@ -3,7 +3,7 @@
 
 usage: respell.py [--list] [FOLDER]
 
-Run once, at the top, after the kit's port.py. It reads the names that specs/ and proofs/ of each crate declare, and turns
+Run once, at the top, after the kit's port.py, over crates as they were named then. It reads the names that specs/ and proofs/ of each crate declare, and turns
   angleCellsOf  to  angle_cells_of
   f0·05         to  f0_05
 in every .antt file, in the clauses of .rt files and in must-fail edits. Names of src/ keep their spelling, and so does all

@@ -25,7 +25,7 @@ use Rattle.order.proofs.Keys.{lt-key, overflow-pos}
 use Rattle.order.proofs.Sums.{round-as, round-key, rounded-mono, finite-real}
 use Rattle.order.proofs.Tests.{nought-is, nought-key, le→keys, le-real, lt→keys, lt-real}
 use Rattle.arcs.specs.Atan.{atan_bits, atan_of}
-use Rattle.wave_answers.specs.Answers.{sin_answer, cos_answer}
+use Rattle.waves.specs.Answers.{sin_answer, cos_answer}
 use Rattle.arcs.proofs.Within.{atan-within}
 use Rattle.constants.specs.Constants.{D2R, PIO2, RZ}
 use Rattle.hops.specs.Geometry.{hop_ratio_of, hops_by, hops_of, psi_of, del_of}

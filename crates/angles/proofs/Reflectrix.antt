@@ -10,7 +10,7 @@ use lib.Ieee.Fits.{and_l, and_r}
 use Rattle.scalar.specs.F32.{◌*f◌, ◌<f◌, ◌>f◌, negf, at}
 use Rattle.scalar.specs.Literals.{f4}
 use Rattle.constants.specs.Constants.{D2R}
-use Rattle.scan_angles.specs.Angles.{ANG}
+use Rattle.reflectrix.specs.Angles.{ANG}
 use Rattle.angles.specs.Angles.{Small, FobbySmall, FobbyAnswers}
 use Rattle.angles.proofs.Angles.{cos-answers}
 

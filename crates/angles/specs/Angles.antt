@@ -2,14 +2,15 @@
 use Rattle.std.specs.Prelude.{◌≡◌, Bool, true, false, ◌&&◌, ℕ, T, Float, Ok}
 use Rattle.std.specs.Float.{binary32}
 use Rattle.std.specs.Float.Ieee.{fits}
-use Rattle.scalar.specs.F32.{◌*f◌, ◌/f◌, ◌≤f◌, ◌<f◌, ◌>f◌, negf, at}
-use Rattle.scalar.specs.Literals.{f0, f0_5, f4, f6_3, f90, f40100}
+use Rattle.scalar.specs.F32.{◌*f◌, ◌≤f◌, ◌<f◌, ◌>f◌, negf, at}
+use Rattle.scalar.specs.Literals.{f0, f4, f6_3, f90, f40100}
 use Rattle.scalar.specs.Scalar.{max_of}
 use Rattle.waves.specs.SinCos.{sin_of, cos_of}
-use Rattle.wave_answers.specs.Answers.{sin_answer, cos_answer}
+use Rattle.waves.specs.Answers.{sin_answer, cos_answer}
 use Rattle.constants.specs.Constants.{D2R}
 use Rattle.hops.specs.Geometry.{hops_of, psi_of, del_of}
-use Rattle.scan_angles.specs.Angles.{ANG}
+use Rattle.muf.specs.Sporadic.{es_psi}
+use Rattle.reflectrix.specs.Angles.{ANG}
 
 -- neither below -4 nor above 4; NaN is neither
 abbrev pub Small : Float → Type 0
@@ -27,7 +28,7 @@ pub record AllSmall (gcd gcdkm amind : Float) : Type 0 where
   pub least : Small (max_of amind f0 *f D2R)
   pub hop : (h x : Float) (split : Bool) → hops_of gcdkm amind h ≡ Ok x → Small (psi_of gcdkm x split)
   pub takeoff : (h x cpsi spsi hp : Float) (split : Bool) → hops_of gcdkm amind h ≡ Ok x → Small (del_of (psi_of gcdkm x split) cpsi spsi hp)
-  pub es : (h x : Float) → hops_of gcdkm amind h ≡ Ok x → Small (f0_5 *f gcd /f x)
+  pub es : (h x : Float) → hops_of gcdkm amind h ≡ Ok x → Small (es_psi gcd x)
 
 -- The domain of refusal 9, whatever the state, the Es rows and the lists.
 abbrev pub NeverRefused13 : Type 0

@@ -2,7 +2,7 @@
 use Rattle.refusal.specs.declared.Refusal.{Refusal}
 use Rattle.muf.specs.declared.RegularLines.{RegularLines}
 use Rattle.std.specs.Prelude.{Result, Ok, Err}
-use mathlib.Core.Bool.{Bool, true, false, ◌&&◌}
+use mathlib.Core.Bool.{Bool, true, false, not, ◌&&◌}
 use mathlib.Core.List.{List}
 use mathlib.Core.Path.{◌≡◌, refl, sym, ap, ◌∙◌}
 use Prim.Native.Nat.{ℕ, zero, suc, ◌+◌}
@@ -20,25 +20,25 @@ use Rattle.arcs.specs.Asin.{asin_of}
 use Rattle.layers.specs.declared.IonoState.{IonoState}
 use Rattle.layers.specs.declared.LayerMuf.{LayerMuf}
 use Rattle.profile.specs.Lecden.{slot_at, lecden_of}
-use Rattle.slot_curves.specs.declared.Slot.{Slot}
+use Rattle.profile.specs.declared.slot_curves.Slot.{Slot}
 use Rattle.heights.specs.Gethp.{Finder}
 use Rattle.hops.specs.Geometry.{hop_ratio_of, hops_by, hops_of, psi_of, del_of, sphe_of, secp_of, hop_geometry_of, geometry_by, geometry_of}
 use Rattle.hops.specs.Rounds.{sph_of, round_of, settled_of, stop_by, rounds_of}
 use Rattle.hops.specs.declared.HopGeometry.{HopGeometry}
 use Rattle.hops.specs.declared.Ray.{Ray}
 use Rattle.hops.specs.declared.Round.{Round}
-use Rattle.controlling_slot.specs.Controlling.{controlling_of}
-use Rattle.tangents.specs.Tangents.{tangents_of}
-use Rattle.e_lines.specs.Lines.{tenth_of, layer_line_of, read_with, e_heights_with, e_line_by, e_line_with}
+use Rattle.layer_mufs.specs.Controlling.{controlling_of}
+use Rattle.layer_mufs.specs.Tangents.{tangents_of}
+use Rattle.layer_mufs.specs.LayerLine.{tenth_of, layer_line_of, read_with, e_heights_with, e_line_by, e_line_with}
 use Rattle.layer_mufs.specs.Lines.{f2_heights_with, bent_of, f2_bent_of, f2_line_by, f2_line_with, f1_found_of, f1_own_by, f1_own_with, f1_line_by, f1_line_with}
 use Rattle.layer_mufs.specs.declared.PathNumbers.{PathNumbers}
-use Rattle.tangents.specs.declared.F2Tangent.{F2Tangent}
-use Rattle.e_lines.specs.declared.HeightPair.{HeightPair}
-use Rattle.sporadic.specs.Sporadic.{ray_of, taken_of, hop_by, row_by, es_row_of, start_of, next_by, es_from}
-use Rattle.sporadic.specs.declared.EsRay.{EsRay}
+use Rattle.layer_mufs.specs.declared.tangents.F2Tangent.{F2Tangent}
+use Rattle.layer_mufs.specs.declared.e_lines.HeightPair.{HeightPair}
+use Rattle.muf.specs.Sporadic.{es_psi, ray_of, taken_of, hop_by, row_by, es_row_of, start_of, next_by, es_from}
+use Rattle.muf.specs.declared.sporadic.EsRay.{EsRay}
 use Rattle.layers.specs.declared.EsParams.{EsParams}
-use Rattle.sporadic.specs.declared.EsSearch.{EsSearch}
-use Rattle.muf.specs.Curmuf.{within_of, amin_by, in_domain, lists_reach, found_then, regular_with, regular_by, muf_at_slot_with, muf_from_search_by, muf_from_search_with, muf_of_rows_with}
+use Rattle.muf.specs.declared.sporadic.EsSearch.{EsSearch}
+use Rattle.muf.specs.Curmuf.{within_of, in_domain, lists_reach, found_then, regular_with, regular_by, muf_at_slot_with, muf_from_search_by, muf_from_search_with, muf_of_rows_with}
 use Rattle.angles.specs.Angles.{Small, AllSmall}
 use Rattle.angles.proofs.Angles.{never-refused-13}
 use Rattle.any_waves.specs.Over.{Waves, hop_ratio_over, hops_over, sphe_over, hop_geometry_over, geometry_over_by, geometry_over, round_over, rounds_over, bent_over, e_line_over, f2_line_over_by, f2_line_over, f1_found_over, f1_own_over_by, f1_own_over, f1_line_over_by, f1_line_over, regular_over, ray_over, hop_over_by, row_over_by, es_row_over, es_from_over, muf_at_slot_over, muf_from_search_over_by, muf_of_rows_over}
@@ -173,7 +173,7 @@ module _ (w : Waves) (alike : OursWhereSmall w) where
     ray-so : (h hs x : Float) → hops_of c.gcdkm c.amind h ≡ Ok x → ray_over w hs x c.gcd ≡ ray_of hs x c.gcd
     unfolding ray_over ray_of
     ray-so h hs x e =
-        let psi = f0_5 *f c.gcd /f x in
+        let psi = es_psi c.gcd x in
         let is = small.es h x e in
         let whole : Float → Float → EsRay = λ cpsi spsi. let tdel = (cpsi -f RZ /f (RZ +f hs)) /f spsi in let cdel = f1 /f sqrt_of (f1 +f tdel *f tdel) in let sphe = RZ *f cdel /f (RZ +f hs) in record { tdel = tdel; secp = f1 /f sqrt_of (f1 -f sphe *f sphe) } in
         ap (λ (y : Float). whole y (w.sine psi)) (alike psi is).1 ∙ ap (whole (cos_of psi)) (alike psi is).0
@@ -210,7 +210,7 @@ module _ (w : Waves) (alike : OursWhereSmall w) where
         ap (λ (x : Result RegularLines Refusal). regular_by x t l ks step) (regular-so find t l f2d clat clck)
 
   -- where it is refused 9 nothing is looked at
-  not-above : (b : Bool) → amin_by b ≡ true → b ≡ false
+  not-above : (b : Bool) → not b ≡ true → b ≡ false
   not-above true e = sym e
   not-above false e = refl
 
@@ -226,7 +226,7 @@ pub any-waves : AnyWaves
 unfolding muf_of_rows_over muf_of_rows_with muf_from_search_with in_domain
 any-waves w alike find s n row f2d clat clck c p q r =
     search-by w alike (in_domain c) (lists_reach (controlling_of s) (length f2d) (length clat) (length clck)) find s n row f2d clat clck c
-    (λ e. let a = and_parts (within_of c.gcdkm f40100 && within_of c.gcd f6_3) (amin_by (c.amind >f f90)) e in
+    (λ e. let a = and_parts (within_of c.gcdkm f40100 && within_of c.gcd f6_3) (not (c.amind >f f90)) e in
     let b = and_parts (within_of c.gcdkm f40100) (within_of c.gcd f6_3) a.0 in
     never-refused-13 c.gcd c.gcdkm c.amind p q r b.1 b.0 (not-above w alike (c.amind >f f90) a.1))
 

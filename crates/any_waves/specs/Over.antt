@@ -12,24 +12,24 @@ use Rattle.refusal.specs.declared.Refusal.{Refusal}
 use Rattle.layers.specs.declared.IonoState.{IonoState}
 use Rattle.layers.specs.declared.LayerMuf.{LayerMuf}
 use Rattle.profile.specs.Lecden.{slot_at, lecden_of}
-use Rattle.slot_curves.specs.declared.Slot.{Slot}
+use Rattle.profile.specs.declared.slot_curves.Slot.{Slot}
 use Rattle.heights.specs.Gethp.{Finder}
 use Rattle.hops.specs.Geometry.{hops_by, psi_of, del_of, secp_of}
 use Rattle.hops.specs.Rounds.{sph_of, settled_of, stop_by}
 use Rattle.hops.specs.declared.HopGeometry.{HopGeometry}
 use Rattle.hops.specs.declared.Ray.{Ray}
 use Rattle.hops.specs.declared.Round.{Round}
-use Rattle.controlling_slot.specs.Controlling.{controlling_of}
-use Rattle.tangents.specs.Tangents.{tangents_of}
-use Rattle.e_lines.specs.Lines.{tenth_of, layer_line_of, read_with, e_heights_with, e_line_by}
+use Rattle.layer_mufs.specs.Controlling.{controlling_of}
+use Rattle.layer_mufs.specs.Tangents.{tangents_of}
+use Rattle.layer_mufs.specs.LayerLine.{tenth_of, layer_line_of, read_with, e_heights_with, e_line_by}
 use Rattle.layer_mufs.specs.Lines.{f2_heights_with, f2_bent_of}
 use Rattle.layer_mufs.specs.declared.PathNumbers.{PathNumbers}
-use Rattle.tangents.specs.declared.F2Tangent.{F2Tangent}
-use Rattle.e_lines.specs.declared.HeightPair.{HeightPair}
-use Rattle.sporadic.specs.Sporadic.{taken_of, start_of, next_by}
-use Rattle.sporadic.specs.declared.EsRay.{EsRay}
+use Rattle.layer_mufs.specs.declared.tangents.F2Tangent.{F2Tangent}
+use Rattle.layer_mufs.specs.declared.e_lines.HeightPair.{HeightPair}
+use Rattle.muf.specs.Sporadic.{es_psi, taken_of, start_of, next_by}
+use Rattle.muf.specs.declared.sporadic.EsRay.{EsRay}
 use Rattle.layers.specs.declared.EsParams.{EsParams}
-use Rattle.sporadic.specs.declared.EsSearch.{EsSearch}
+use Rattle.muf.specs.declared.sporadic.EsSearch.{EsSearch}
 use Rattle.muf.specs.Curmuf.{in_domain, lists_reach, found_then, regular_by}
 use Rattle.muf.specs.declared.AnswerAndRow.{AnswerAndRow}
 
@@ -134,7 +134,7 @@ regular_over w find t l f2d clat clck c =
 
 unfoldable pub ray_over : Waves → Float → Float → Float → EsRay
 ray_over w hs hop gcd =
-    let psi = f0_5 *f gcd /f hop in
+    let psi = es_psi gcd hop in
     let tdel = (w.cosine psi -f RZ /f (RZ +f hs)) /f w.sine psi in
     let cdel = f1 /f sqrt_of (f1 +f tdel *f tdel) in
     let sphe = RZ *f cdel /f (RZ +f hs) in
@@ -159,15 +159,15 @@ es_from_over w row c (suc n) k a = next_by (es_row_over w a k (row k) c) (λ b. 
 -- ---- the whole
 
 unfoldable pub muf_at_slot_over : Waves → Finder → IonoState → ℕ → Result EsSearch Refusal → List Float → Float → Float → PathNumbers → Result AnswerAndRow Refusal
-muf_at_slot_over w find s ks step f2d clat clck c =
+muf_at_slot_over w find s ks found f2d clat clck c =
     let t = lecden_of s ks in
     let l = slot_at t ks in
-    regular_by (regular_over w find t l f2d clat clck c) t l ks step
+    regular_by (regular_over w find t l f2d clat clck c) t l ks found
 
 abbrev pub muf_from_search_over_by : Bool → Bool → Waves → Finder → IonoState → Result EsSearch Refusal → List Float → List Float → List Float → PathNumbers → Result AnswerAndRow Refusal
-muf_from_search_over_by true true w find s step f2d clat clck c = let ks = controlling_of s in muf_at_slot_over w find s ks step f2d (at clat ks) (at clck ks) c
-muf_from_search_over_by true false w find s step f2d clat clck c = Err Refusal.MufLists
-muf_from_search_over_by false reach w find s step f2d clat clck c = Err Refusal.MufInput
+muf_from_search_over_by true true w find s found f2d clat clck c = let ks = controlling_of s in muf_at_slot_over w find s ks found f2d (at clat ks) (at clck ks) c
+muf_from_search_over_by true false w find s found f2d clat clck c = Err Refusal.MufLists
+muf_from_search_over_by false reach w find s found f2d clat clck c = Err Refusal.MufInput
 
 -- n rows of Es, each as `row` gives it: flat rows and records alike
 unfoldable pub muf_of_rows_over : Waves → Finder → IonoState → ℕ → (ℕ → EsParams) → List Float → List Float → List Float → PathNumbers → Result AnswerAndRow Refusal

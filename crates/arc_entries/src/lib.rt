@@ -142,7 +142,7 @@ static ANGLES: [u64; 130] = [
 ];
 
 #[tactic(auto, unfolding(arc_tables::specs::Tables::angles))]
-pub fn gentle_angle(i: usize) -> u64
+pub fn tangent_angle(i: usize) -> u64
     requires { i < 130 }
     ensures { result ≡ get_or angles i 0 }
 {

@@ -1,4 +1,4 @@
--- The angles of a table, each with its tangent: one computed test on sharp enclosures of sine and cosine shows an entry; here for the tangents i / 128, and 128 / (i + 1) by half pi less the angle.
+-- The angles of a table, each with its tangent: one computed test on sharp enclosures of sine and cosine shows an entry; here for the tangents i / 128, and 128 / j, j from 1 on, by half pi less the angle.
 use mathlib.Core.Path.{◌≡◌, sym, subst₂}
 use mathlib.Core.Logic.{◌⊎◌, inl, inr}
 use mathlib.Core.Bool.{Bool, true, ◌&&◌, ◌||◌}

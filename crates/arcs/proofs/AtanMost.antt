@@ -1,4 +1,4 @@
--- No angle of the arc tangent is rounded above the f32 nearest to half pi, whose pattern is 0x3fc9_0fdb: only the table's first steep angle comes near it, and what is added there
+-- No angle of the arc tangent is rounded above the f32 nearest to half pi, whose pattern is 0x3fc9_0fdb: only half pi less the table's angle 1 comes near it, and what is added there
 -- is at most 2 ^ -7 less a third of its cube.
 use mathlib.Core.Path.{◌≡◌, refl, sym, ap, ◌∙◌, subst}
 use mathlib.Core.Bool.{◌||◌}

@@ -293,7 +293,7 @@ pub record Case (a : ℕ) : Type 0 where
 pub powers : (d i j k : ℕ) → i ≡ j + k → d * 2 ^ i ≡ d * 2 ^ j * 2 ^ k
 powers d i j k e = ap (λ (x : ℕ). d * 2 ^ x) e ∙ ap (λ (x : ℕ). d * x) (pow-add 2 j k) ∙ sym (mul_assoc d (2 ^ j) (2 ^ k))
 
--- what the steep table asks of 4 m / e, m being a significand and e at most 2 ^ 25
+-- what the steep angles ask of 4 m / e, m being a significand and e at most 2 ^ 25
 pub high-top : (m e : ℕ) → 2 ^ 23 ≤ m → e ≤ 2 ^ 25 → e ≤ 4 * m
 high-top m e h k = omega arith
 

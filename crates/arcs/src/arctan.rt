@@ -3,7 +3,7 @@
 ghost use Rattle.std.specs.Prelude.{◌≡◌, ◌+◌, ◌-◌, ◌*◌, ◌/◌, ◌%◌, ◌^◌, ◌<◌, ◌≤◌};
 ghost use Rattle.arcs.specs.Atan.{cube_of, angle_of, low_angle, mid_angle, high_angle, atan_mag, atan_bits};
 
-use arc_entries::{HALF_PI, gentle_angle};
+use arc_entries::{HALF_PI, tangent_angle};
 use fixed::{high_product, pack, power, scaled};
 
 // v^3 / 3 for v = q * 2^-56
@@ -49,7 +49,7 @@ fn mid_angle(a: u32) -> u64
     let x = scaled(a, 120);
     let i = (128 * x - 0x10_0000) / 0x4000_0000;
     let q = quotient(128 * x - i * 0x4000_0000, 0x20_0000_0000 + i * x);
-    angle_sum(gentle_angle(i as usize), q)
+    angle_sum(tangent_angle(i as usize), q)
 }
 
 // x from 1 to 2^26
@@ -61,7 +61,7 @@ fn high_angle(a: u32) -> u64
     let e = power(152 - a / 0x80_0000);
     let j = (128 * e + 0x1_0000) / n + 1;
     let q = quotient(n * j - 128 * e, e * j + 128 * n);
-    angle_sum(HALF_PI - gentle_angle(j as usize), q)
+    angle_sum(HALF_PI - tangent_angle(j as usize), q)
 }
 
 fn atan_mag(a: u32) -> u64

@@ -1,6 +1,6 @@
 -- What the rows of slot k, their loss factors and the layers' MUF lines read of a state: the critical frequencies, the slot's own numbers, the profile and `iedp`. Two states alike in these give the same, each by a way of finding heights that finds the same two, and the same segment, on its own state.
 use mathlib.Core.Bool.{Bool, true, false}
-use mathlib.Core.List.{List}
+use mathlib.Core.List.{List, ◌++◌}
 use Rattle.std.specs.Prelude.{Result, Ok, Err}
 use Rattle.refusal.specs.declared.Refusal.{Refusal}
 use mathlib.Core.Path.{◌≡◌, refl, ap, ◌∙◌}
@@ -12,29 +12,29 @@ use lib.Signed.{lt_z}
 use lib.Ieee.{Float}
 use Rattle.scalar.specs.F32.{◌-f◌, ◌≤f◌, ◌>f◌, at}
 use Rattle.scalar.specs.Literals.{f0}
-use Rattle.layers.specs.State.{profile_only}
+use Rattle.layers.specs.State.{profile_only, layer_line_at}
 use Rattle.layers.specs.declared.IonoState.{IonoState}
 use Rattle.layers.specs.declared.LayerMuf.{LayerMuf}
 use Rattle.profile.specs.Lecden.{slot_at}
-use Rattle.slot_curves.specs.declared.Slot.{Slot}
+use Rattle.profile.specs.declared.slot_curves.Slot.{Slot}
 use Rattle.heights.specs.Gethp.{Finder, gethp_of}
 use Rattle.parabolas.specs.Bendy.{bendy_of, pen_of}
 use Rattle.heights.proofs.Finders.{FindAlike}
 use Rattle.readings.specs.Scan.{unsearched}
 use Rattle.reflectrix.specs.declared.Ionogram.{Ionogram}
-use Rattle.sounding_rows.specs.Rows.{HTE, HPE, rows_of, true_by_profile, segment_by_profile, virtual_by_parabola, virtual_by, made, rows_by, rows_with}
+use Rattle.sounding.specs.Rows.{HTE, HPE, rows_of, true_by_profile, segment_by_profile, virtual_by_parabola, virtual_by, made, rows_by, rows_with}
 use Rattle.sounding.specs.Genion.{fvert_at, genion_with}
 use Rattle.sounding.proofs.Ways.{rows_agree}
-use Rattle.losses.specs.Alosfv.{e_rows, layer_line_at, above_by, above_of, alosfv_of}
+use Rattle.losses.specs.Alosfv.{e_rows, above_by, above_of, alosfv_of}
 use Rattle.losses.specs.declared.Factors.{Factors}
 use Rattle.losses.specs.declared.Decay.{Decay}
 use Rattle.hops.specs.Geometry.{geometry_of}
-use Rattle.tangents.specs.Tangents.{tangents_of}
-use Rattle.e_lines.specs.Lines.{read_with, e_heights_by, e_heights_with, e_line_with}
+use Rattle.layer_mufs.specs.Tangents.{tangents_of}
+use Rattle.layer_mufs.specs.LayerLine.{read_with, e_heights_by, e_heights_with, e_line_with}
 use Rattle.layer_mufs.specs.Lines.{f2_heights_by, f2_heights_with, f2_line_with, f1_own_by, f1_own_with, f1_line_by, f1_line_with}
 use Rattle.layer_mufs.specs.declared.PathNumbers.{PathNumbers}
-use Rattle.tangents.specs.declared.F2Tangent.{F2Tangent}
-use Rattle.e_lines.specs.declared.HeightPair.{HeightPair}
+use Rattle.layer_mufs.specs.declared.tangents.F2Tangent.{F2Tangent}
+use Rattle.layer_mufs.specs.declared.e_lines.HeightPair.{HeightPair}
 use Rattle.muf.specs.Curmuf.{found_then, regular_with}
 use Rattle.muf.specs.declared.RegularLines.{RegularLines}
 
@@ -115,11 +115,11 @@ module _ (find other : Finder) (u v : IonoState) (k : ℕ) (a : Alike u v k) (fo
       rw (rows_agree (λ f. (find u f).hp) (λ f. (other v f).hp) (λ f. (found f).0) fv 0 _ 30, rows_agree (λ f. (find u f).ht) (λ f. (other v f).ht) (λ f. (found f).1) fv 0 _ 30, rows_agree (λ f. (find u f).segment) (λ f. (other v f).segment) (λ f. (found f).2) fv 0 _ 30)
   rows_same false fv =
       let e : (at u.fi (3 * k + 1) >f f0) ≡ (at v.fi (3 * k + 1) >f f0) = ap (λ (fi : List Float). at fi (3 * k + 1) >f f0) a.fi-same in
-      ap (λ (hprim : List Float). made fv hprim (rows_of (λ f. true_by_profile u f) fv 10 HTE 20) (rows_of (λ f. segment_by_profile u f) fv 10 (replicate 30 unsearched) 20))
-      (rows_agree (λ f. virtual_by (at u.fi (3 * k + 1) >f f0) find u k f) (λ f. virtual_by (at v.fi (3 * k + 1) >f f0) other v k f) (λ f. virtual-same (at u.fi (3 * k + 1) >f f0) f ∙ ap (λ (b : Bool). virtual_by b other v k f) e) fv 10 HPE 20)
-      ∙ ap (λ (htrue : List Float). made fv (rows_of (λ f. virtual_by (at v.fi (3 * k + 1) >f f0) other v k f) fv 10 HPE 20) htrue (rows_of (λ f. segment_by_profile u f) fv 10 (replicate 30 unsearched) 20))
-      (rows_agree (λ f. true_by_profile u f) (λ f. true_by_profile v f) (true_same u v k a) fv 10 HTE 20)
-      ∙ ap (λ (segment : List ℕ). made fv (rows_of (λ f. virtual_by (at v.fi (3 * k + 1) >f f0) other v k f) fv 10 HPE 20) (rows_of (λ f. true_by_profile v f) fv 10 HTE 20) segment)
+      ap (λ (hprim : List Float). made fv hprim (rows_of (λ f. true_by_profile u f) fv 10 (HTE ++ replicate 20 f0) 20) (rows_of (λ f. segment_by_profile u f) fv 10 (replicate 30 unsearched) 20))
+      (rows_agree (λ f. virtual_by (at u.fi (3 * k + 1) >f f0) find u k f) (λ f. virtual_by (at v.fi (3 * k + 1) >f f0) other v k f) (λ f. virtual-same (at u.fi (3 * k + 1) >f f0) f ∙ ap (λ (b : Bool). virtual_by b other v k f) e) fv 10 (HPE ++ replicate 20 f0) 20)
+      ∙ ap (λ (htrue : List Float). made fv (rows_of (λ f. virtual_by (at v.fi (3 * k + 1) >f f0) other v k f) fv 10 (HPE ++ replicate 20 f0) 20) htrue (rows_of (λ f. segment_by_profile u f) fv 10 (replicate 30 unsearched) 20))
+      (rows_agree (λ f. true_by_profile u f) (λ f. true_by_profile v f) (true_same u v k a) fv 10 (HTE ++ replicate 20 f0) 20)
+      ∙ ap (λ (segment : List ℕ). made fv (rows_of (λ f. virtual_by (at v.fi (3 * k + 1) >f f0) other v k f) fv 10 (HPE ++ replicate 20 f0) 20) (rows_of (λ f. true_by_profile v f) fv 10 (HTE ++ replicate 20 f0) 20) segment)
       (rows_agree (λ f. segment_by_profile u f) (λ f. segment_by_profile v f) (segment-same u v k a) fv 10 (replicate 30 unsearched) 20)
 
   pub genion-same : genion_with find u k ≡ genion_with other v k

@@ -18,8 +18,8 @@ use Rattle.refusal.specs.declared.Refusal.{Refusal}
 use Rattle.layers.specs.declared.IonoState.{IonoState}
 use Rattle.layers.specs.declared.LayerMuf.{LayerMuf}
 use Rattle.profile.specs.Lecden.{slot_at, supplied_of, lecden_of}
-use Rattle.shapes.specs.Marks.{marks_of}
-use Rattle.slot_curves.specs.declared.Slot.{Slot}
+use Rattle.profile.specs.Marks.{marks_of}
+use Rattle.profile.specs.declared.slot_curves.Slot.{Slot}
 use Rattle.heights.specs.Gethp.{Finder, gethp_of}
 use Rattle.heights.specs.declared.Heights.{Heights}
 use Rattle.heights.proofs.Finders.{FindAlike, Agree}
@@ -27,21 +27,21 @@ use Rattle.reflectrix.specs.Fobby.{angles_into, room_for}
 use Rattle.reflectrix.specs.declared.Ionogram.{Ionogram}
 use Rattle.losses.specs.Alosfv.{alosfv_of}
 use Rattle.sounding.specs.Genion.{genion_with}
-use Rattle.controlling_slot.specs.Controlling.{compare_e, controlling_of}
+use Rattle.layer_mufs.specs.Controlling.{compare_e, controlling_of}
 use Rattle.layer_mufs.specs.declared.PathNumbers.{PathNumbers}
-use Rattle.controlling_slot.proofs.Small.{controlling-small}
-use Rattle.sporadic.specs.Sporadic.{start_of, row_at, es_from}
-use Rattle.muf.specs.Curmuf.{in_domain, lists_reach, regular_with, found_muf_of, es_by, regular_by, muf_at_slot_with, muf_from_search_by, muf_from_search_with, muf_of_rows_with, taken_rows_by, row_count_of, flat_with, answer_by, rewrite_by}
+use Rattle.layer_mufs.proofs.controlling_slot.Small.{controlling-small}
+use Rattle.muf.specs.Sporadic.{start_of, row_at, es_from}
+use Rattle.muf.specs.Curmuf.{in_domain, lists_reach, regular_with, found_muf_of, es_by, regular_by, muf_at_slot_with, muf_from_search_by, muf_from_search_with, muf_of_rows_with, taken_rows, row_count_of, flat_muf_with, answer_by, rewrite_by}
 use Rattle.layers.specs.declared.EsParams.{EsParams}
-use Rattle.sporadic.specs.declared.EsSearch.{EsSearch}
+use Rattle.muf.specs.declared.sporadic.EsSearch.{EsSearch}
 use Rattle.muf.specs.declared.RegularLines.{RegularLines}
 use Rattle.muf.specs.declared.MufAnswer.{MufAnswer}
 use Rattle.muf.specs.declared.MufHour.{MufHour}
 use Rattle.muf.specs.declared.AnswerAndRow.{AnswerAndRow}
-use Rattle.shapes.specs.declared.Mark.{Mark}
+use Rattle.profile.specs.declared.shapes.Mark.{Mark}
 use Rattle.slot_sheet.specs.declared.SlotSheet.{SlotSheet}
 use Rattle.slot_sheet.specs.Sheet.{sheet_by, sheet_cells_by, slot_sheet_with, sheet_cells_with}
-use Rattle.muf_records.specs.Records.{es_row_at, records_answer_with}
+use Rattle.muf.specs.LentRecords.{es_row_at, records_answer_with}
 use Rattle.call_lists.specs.Calls.{EsRows, flat, records, muf_with, Call, a_muf, a_sheet, a_nominal, SlotRows, shown_of, part_of, answer_with, answer_of, state_left, after_with, after_of, answered, prepares, picked_slot}
 use Rattle.call_lists.specs.Lists.{SameProfile}
 use Rattle.call_lists.proofs.Alike.{Alike, gethp-same, genion-same, alosfv-same, three-same}
@@ -132,12 +132,12 @@ done-follows find s t n row f2d clat clck c agree g fresh =
     (done-by (in_domain c) (reach (controlling_of s)) find s t step f2d clat clck c (λ hd hr. agree (controlling_of s) (has-picked hd hr)) g (λ hd hr. fresh (controlling_of s) (has-picked hd hr)))
 
 muf-follows : (es : EsRows) (find : Finder) (s t : IonoState) (f2d clat clck : List Float) (c : PathNumbers) → AgreesFor find s t (a_muf es f2d clat clck c) → Common s t → FreshFor s t (a_muf es f2d clat clck c) → Follows (muf_with find t es f2d clat clck c) (muf_with gethp_of s es f2d clat clck c) t (controlling_of s)
-unfolding muf_with flat_with records_answer_with picked_slot
+unfolding muf_with flat_muf_with records_answer_with picked_slot
 muf-follows (flat es) find s t f2d clat clck c agree g fresh =
     subst (λ (m : ℕ). Follows (muf_of_rows_with find t (row_count_of (length es) m) (row_at es) f2d clat clck c) (muf_of_rows_with gethp_of s (row_count_of (length es) s.km) (row_at es) f2d clat clck c) t (controlling_of s)) (sym g.km-common)
     (done-follows find s t (row_count_of (length es) s.km) (row_at es) f2d clat clck c agree g fresh)
 muf-follows (records es) find s t f2d clat clck c agree g fresh =
-    let count : ℕ → ℕ = λ m. taken_rows_by (ltb (length es) m) (length es) m in
+    let count : ℕ → ℕ = λ m. taken_rows (length es) m in
     subst (λ (m : ℕ). Follows (muf_of_rows_with find t (count m) (es_row_at es) f2d clat clck c) (muf_of_rows_with gethp_of s (count s.km) (es_row_at es) f2d clat clck c) t (controlling_of s)) (sym g.km-common)
     (done-follows find s t (count s.km) (es_row_at es) f2d clat clck c agree g fresh)
 
@@ -155,9 +155,9 @@ done-picked s n row f2d clat clck c e =
     picked (in_domain c) (eqb (length f2d) 576) k h.0 (deciles-right (length f2d) k (length clat) (length clck) h.1)
 
 muf-picked : (es : EsRows) (s : IonoState) (f2d clat clck : List Float) (c : PathNumbers) → answered s (a_muf es f2d clat clck c) ≡ true → picked_slot s (a_muf es f2d clat clck c) ≡ Some (controlling_of s)
-unfolding answered answer_with picked_slot muf_with flat_with records_answer_with
+unfolding answered answer_with picked_slot muf_with flat_muf_with records_answer_with
 muf-picked (flat es) s f2d clat clck c e = done-picked s (row_count_of (length es) s.km) (row_at es) f2d clat clck c e
-muf-picked (records es) s f2d clat clck c e = done-picked s (taken_rows_by (ltb (length es) s.km) (length es) s.km) (es_row_at es) f2d clat clck c e
+muf-picked (records es) s f2d clat clck c e = done-picked s (taken_rows (length es) s.km) (es_row_at es) f2d clat clck c e
 
 -- ---- the slot sheet
 

@@ -11,16 +11,16 @@ use borrow.Author.Tests.{eqb-true, eqb-false}
 use lib.Dec.{T}
 use Rattle.layers.specs.declared.IonoState.{IonoState}
 use Rattle.layers.specs.Owners.{owner_of}
-use Rattle.slots.specs.Ionset.{ionset_by, ionset_of}
-use Rattle.layer_rules.specs.Rules.{count_taken}
+use Rattle.layers.specs.Ionset.{ionset_by, ionset_of}
+use Rattle.layers.specs.Rules.{count_taken}
 use Rattle.profile.specs.Lecden.{slot_at, lecden_of}
 use Rattle.profile.proofs.Owns.{lecden-owner}
 use Rattle.heights.specs.Gethp.{Finder, gethp_of, gethp_scan_of}
-use Rattle.heights.specs.Walk.{gethp_walk_of}
+use Rattle.heights.specs.GethpWalk.{gethp_walk_of}
 use Rattle.heights.proofs.Whole.{forty-reads}
 use Rattle.heights.proofs.Finders.{Agree, walks-agree, scans-agree}
 use Rattle.call_lists.specs.Calls.{Call, Answer, answer_of, after_of, after_with, prepares, picked_slot}
-use Rattle.call_lists.specs.Lists.{run_of, answers_of, run_with, answers_with, with_picked, states_read, Every, Together, Allowed, picks, or_else, own, later_or, last_preparing, alone, SameProfile, owner_picked, last_owner, ReadsWell, Numbers, ListOfCalls, ListsOfCalls, ReadAll, HeldState}
+use Rattle.call_lists.specs.Lists.{run_of, answers_of, run_with, answers_with, with_picked, states_read, Every, Together, Allowed, picks, or_else, own, later_or, last_preparing, alone, SameProfile, owner_picked, last_owner, ReadsWell, HeldNumbers, ListOfCalls, ListsOfCalls, ReadAll, HeldState}
 use Rattle.call_lists.proofs.Prepared.{Common, common-self}
 use Rattle.call_lists.proofs.Numbers.{lecden-numbers, ionset-numbers}
 use Rattle.call_lists.proofs.Frames.{FreshFor, prepared_if, AgreesAt, slot_of, call-leaves, answer-with, after-with, picks-own, one-step}
@@ -93,12 +93,12 @@ ran s (c ∷ cs) t g fresh allowed =
 
 -- ---- f32 numbers stay f32 numbers
 
-prepared-numbers : (b : Bool) (t : IonoState) (k : ℕ) → Numbers t → Numbers (prepared_if b t k)
+prepared-numbers : (b : Bool) (t : IonoState) (k : ℕ) → HeldNumbers t → HeldNumbers (prepared_if b t k)
 prepared-numbers true t k n = lecden-numbers t k n
 prepared-numbers false t k n = n
 
-after-numbers : (t : IonoState) (c : Call) → Numbers t → Numbers (after_of t c)
-after-numbers t c n = subst Numbers (sym (call-leaves c t)) (prepared-numbers (prepares t c) t (slot_of t c) n)
+after-numbers : (t : IonoState) (c : Call) → HeldNumbers t → HeldNumbers (after_of t c)
+after-numbers t c n = subst HeldNumbers (sym (call-leaves c t)) (prepared-numbers (prepares t c) t (slot_of t c) n)
 
 -- ---- other ways of finding heights
 
@@ -142,16 +142,16 @@ module _ (P Q : IonoState → Type 0) (stays : (t : IonoState) (c : Call) → P 
   every-read [] t p = tt
   every-read (c ∷ cs) t p = picked-reads (picked_slot t c) t (states_read (after_of t c) cs) p (every-read cs (after_of t c) (stays t c p))
 
-by-walks : (cs : List Call) (t : IonoState) → Numbers t → AgreesAll gethp_walk_of (states_read t cs)
-by-walks cs t n = every-read Numbers (λ u. Agree gethp_walk_of gethp_of u) after-numbers (λ t k n. walks-agree (lecden_of t k) (lecden-numbers t k n).htr-held) cs t n
+by-walks : (cs : List Call) (t : IonoState) → HeldNumbers t → AgreesAll gethp_walk_of (states_read t cs)
+by-walks cs t n = every-read HeldNumbers (λ u. Agree gethp_walk_of gethp_of u) after-numbers (λ t k n. walks-agree (lecden_of t k) (lecden-numbers t k n).htr-held) cs t n
 
 by-scans : (cs : List Call) (t : IonoState) → AgreesAll gethp_scan_of (states_read t cs)
 by-scans cs t = every-read (λ t. Unit {0}) (λ u. Agree gethp_scan_of gethp_of u) (λ t c u. tt) (λ t k u. scans-agree (lecden_of t k)) cs t tt
 
-reads-well-all : (cs : List Call) (t : IonoState) → Numbers t → Every ReadsWell (states_read t cs)
-reads-well-all cs t n = every-read Numbers ReadsWell after-numbers (λ t k n f rises. forty-reads (lecden_of t k) f (lecden-numbers t k n).htr-held rises) cs t n
+reads-well-all : (cs : List Call) (t : IonoState) → HeldNumbers t → Every ReadsWell (states_read t cs)
+reads-well-all cs t n = every-read HeldNumbers ReadsWell after-numbers (λ t k n f rises. forty-reads (lecden_of t k) f (lecden-numbers t k n).htr-held rises) cs t n
 
-pub numbers-walk : (s : IonoState) → Numbers s → HeldState s
+pub numbers-walk : (s : IonoState) → HeldNumbers s → HeldState s
 numbers-walk s n =
     record {
       numbers = n;

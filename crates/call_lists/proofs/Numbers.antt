@@ -16,20 +16,20 @@ use Rattle.scalar.specs.Root.{sqrt_of}
 use Rattle.same.specs.Same.{F32}
 use Rattle.layers.specs.State.{with_kfx}
 use Rattle.layers.specs.Owners.{disowned}
-use Rattle.slots.proofs.OwnersLeft.{disowned-only}
-use Rattle.layer_rules.specs.Rules.{count_taken, too_close}
-use Rattle.slots.specs.Ionset.{layer_from, two_slots, three_slots, assigned_by, assigned_of, f1_kept_by, f1_settled, f2_settled, slot_settled, slots_settled, ionset_by, ionset_of}
-use Rattle.slots.specs.Ionset as ionset
+use Rattle.layers.proofs.slots.OwnersLeft.{disowned-only}
+use Rattle.layers.specs.Rules.{count_taken, too_close}
+use Rattle.layers.specs.Ionset.{layer_from, two_slots, three_slots, assigned_by, assigned_of, f1_kept_by, f1_settled, f2_settled, slot_settled, slots_settled, ionset_by, ionset_of}
+use Rattle.layers.specs.Ionset as ionset
 use Rattle.layers.specs.declared.IonoState.{IonoState}
-use Rattle.slot_curves.specs.Draw.{tail_of}
+use Rattle.profile.specs.Draw.{tail_of}
 use Rattle.profile.specs.Lecden.{slot_at, slot_written, supplied_of, lecden_by, lecden_of}
-use Rattle.slot_curves.specs.F1.{valley_of, f1_of, reshaped_of}
-use Rattle.slot_curves.specs.Grid.{filled, lower_of, f2_only_of, upper_by, upper_of, heights_of}
-use Rattle.slot_curves.specs.declared.Slot.{Slot}
-use Rattle.slot_curves.specs.declared.Valley.{Valley}
-use Rattle.slot_curves.specs.declared.F1Shape.{F1Shape}
-use Rattle.walk.specs.Walk.{EachF32}
-use Rattle.call_lists.specs.Lists.{Numbers}
+use Rattle.profile.specs.F1.{valley_of, f1_of, reshaped_of}
+use Rattle.profile.specs.Grid.{filled, lower_of, f2_only_of, upper_by, upper_of, heights_of}
+use Rattle.profile.specs.declared.slot_curves.Slot.{Slot}
+use Rattle.profile.specs.declared.slot_curves.Valley.{Valley}
+use Rattle.profile.specs.declared.slot_curves.F1Shape.{F1Shape}
+use Rattle.heights.specs.Walk.{EachF32}
+use Rattle.call_lists.specs.Lists.{HeldNumbers}
 
 constants : F32 f0 × F32 f1 × F32 f70
 unfolding of_bits fits
@@ -141,7 +141,7 @@ f1-held s v p q =
 
 -- ---- `lecden`
 
-lecden-by : (b : Bool) (s : IonoState) (k : ℕ) → Numbers s → Numbers (lecden_by b s k)
+lecden-by : (b : Bool) (s : IonoState) (k : ℕ) → HeldNumbers s → HeldNumbers (lecden_by b s k)
 unfolding slot_at slot_written reshaped_of tail_of
 lecden-by true s k n = n
 lecden-by false s k n =
@@ -155,13 +155,13 @@ lecden-by false s k n =
       htr-held = heights-held q (tail_of q).hex (sub-fits binary32 q.hi0 (f0_85 *f q.yi0)) (n.hi-held (3 * k)) r.0 (n.hi-held (3 * k + 2));
     }
 
-pub lecden-numbers : (s : IonoState) (k : ℕ) → Numbers s → Numbers (lecden_of s k)
+pub lecden-numbers : (s : IonoState) (k : ℕ) → HeldNumbers s → HeldNumbers (lecden_of s k)
 unfolding lecden_of
 lecden-numbers s k n = lecden-by (supplied_of s) s k n
 
 -- ---- `ionset`
 
-from-numbers : (s : IonoState) (k p i : ℕ) → Numbers s → Numbers (layer_from s k p i)
+from-numbers : (s : IonoState) (k p i : ℕ) → HeldNumbers s → HeldNumbers (layer_from s k p i)
 unfolding layer_from
 from-numbers s k p i n =
     record {
@@ -170,17 +170,17 @@ from-numbers s k p i n =
       htr-held = n.htr-held;
     }
 
-counted-numbers : (s : IonoState) (kfx : ℕ) → Numbers s → Numbers (with_kfx s kfx)
+counted-numbers : (s : IonoState) (kfx : ℕ) → HeldNumbers s → HeldNumbers (with_kfx s kfx)
 counted-numbers s kfx n = record { yi-held = n.yi-held; hi-held = n.hi-held; htr-held = n.htr-held }
 
-assigned-by : (a b : Bool) (s : IonoState) → Numbers s → Numbers (assigned_by a b s)
+assigned-by : (a b : Bool) (s : IonoState) → HeldNumbers s → HeldNumbers (assigned_by a b s)
 unfolding two_slots three_slots
 assigned-by true b s n = counted-numbers s 1 n
 assigned-by false true s n = from-numbers _ 1 2 1 (from-numbers _ 1 2 0 (from-numbers _ 0 1 2 (counted-numbers s 2 n)))
 assigned-by false false s n =
     from-numbers _ 2 3 2 (from-numbers _ 2 4 1 (from-numbers _ 2 4 0 (from-numbers _ 1 2 2 (from-numbers _ 1 2 1 (from-numbers _ 1 2 0 (from-numbers _ 0 1 2 (counted-numbers s 3 n)))))))
 
-kept_by : (b : Bool) (s : IonoState) (k : ℕ) → Numbers s → Numbers (f1_kept_by b s k)
+kept_by : (b : Bool) (s : IonoState) (k : ℕ) → HeldNumbers s → HeldNumbers (f1_kept_by b s k)
 kept_by true s k n =
     record { yi-held = set-held s.yi (3 * k + 1) f0 n.yi-held constants.0; hi-held = set-held s.hi (3 * k + 1) f0 n.hi-held constants.0; htr-held = n.htr-held }
 kept_by false s k n =
@@ -188,30 +188,30 @@ kept_by false s k n =
     let y = at s.hi (3 * k + 2) in
     record { yi-held = n.yi-held; hi-held = set-held s.hi (3 * k + 1) (min_of x y) n.hi-held (min-fits x y (n.hi-held (3 * k + 1)) (n.hi-held (3 * k + 2))); htr-held = n.htr-held }
 
-looked-at : (b : Bool) (s : IonoState) (k : ℕ) → Numbers s → Numbers (ionset.f1_by b s k)
+looked-at : (b : Bool) (s : IonoState) (k : ℕ) → HeldNumbers s → HeldNumbers (ionset.f1_by b s k)
 looked-at true s k n = kept_by (too_close (at s.fi (3 * k)) (at s.fi (3 * k + 1)) (at s.fi (3 * k + 2))) s k n
 looked-at false s k n = n
 
-f2-settled : (s : IonoState) (k : ℕ) → Numbers s → Numbers (f2_settled s k)
+f2-settled : (s : IonoState) (k : ℕ) → HeldNumbers s → HeldNumbers (f2_settled s k)
 unfolding f2_settled
 f2-settled s k n =
     let x = at s.hi (3 * k + 2) -f at s.hi (3 * k) in
     let y = at s.yi (3 * k + 2) in
     record { yi-held = set-held s.yi (3 * k + 2) (min_of y (x -f f2)) n.yi-held (min-fits y (x -f f2) (n.yi-held (3 * k + 2)) (sub-fits binary32 x f2)); hi-held = n.hi-held; htr-held = n.htr-held }
 
-slots-settled : (s : IonoState) (n : ℕ) → Numbers s → Numbers (slots_settled s n)
+slots-settled : (s : IonoState) (n : ℕ) → HeldNumbers s → HeldNumbers (slots_settled s n)
 unfolding slots_settled slot_settled f1_settled
 slots-settled s zero h = h
 slots-settled s (suc n) h = let t = slots_settled s n in f2-settled (f1_settled t n) n (looked-at (at t.fi (3 * n + 1) >f f0) t n (slots-settled s n h))
 
-disowned-numbers : (s : IonoState) → Numbers s → Numbers (disowned s)
-disowned-numbers s n = subst Numbers (sym (disowned-only s)) (record { yi-held = n.yi-held; hi-held = n.hi-held; htr-held = n.htr-held })
+disowned-numbers : (s : IonoState) → HeldNumbers s → HeldNumbers (disowned s)
+disowned-numbers s n = subst HeldNumbers (sym (disowned-only s)) (record { yi-held = n.yi-held; hi-held = n.hi-held; htr-held = n.htr-held })
 
-ionset-by : (b : Bool) (s : IonoState) → Numbers s → IfOk (ionset_by b s) Numbers
+ionset-by : (b : Bool) (s : IonoState) → HeldNumbers s → IfOk (ionset_by b s) HeldNumbers
 unfolding assigned_of
 ionset-by true s n = disowned-numbers (slots_settled (assigned_of s) (assigned_of s).kfx) (slots-settled (assigned_of s) (assigned_of s).kfx (assigned-by (leb s.km 1) (leb s.km 3) s n))
 ionset-by false s n = tt
 
-pub ionset-numbers : (s t : IonoState) → Numbers s → ionset_of s ≡ Ok t → Numbers t
+pub ionset-numbers : (s t : IonoState) → HeldNumbers s → ionset_of s ≡ Ok t → HeldNumbers t
 unfolding ionset_of
-ionset-numbers s t n e = subst (λ (r : Result IonoState Refusal). IfOk r Numbers) e (ionset-by (count_taken s.km) s n)
+ionset-numbers s t n e = subst (λ (r : Result IonoState Refusal). IfOk r HeldNumbers) e (ionset-by (count_taken s.km) s n)

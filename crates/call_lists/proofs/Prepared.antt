@@ -11,9 +11,9 @@ use lib.Ieee.{Float}
 use Rattle.scalar.specs.F32.{at}
 use Rattle.layers.specs.declared.IonoState.{IonoState}
 use Rattle.profile.specs.Lecden.{slot_at, slot_written, supplied_of, profiled_of, lecden_by, lecden_of}
-use Rattle.slot_curves.specs.F1.{valley_of, f1_of, reshaped_of}
+use Rattle.profile.specs.F1.{valley_of, f1_of, reshaped_of}
 use Rattle.profile.specs.LecdenKept.{LecdenKept}
-use Rattle.slot_curves.specs.declared.Slot.{Slot}
+use Rattle.profile.specs.declared.slot_curves.Slot.{Slot}
 use Rattle.profile.proofs.Keeps.{lecden-keeps, lecden-supplied}
 use Rattle.call_lists.proofs.Alike.{Alike, slot-alike}
 

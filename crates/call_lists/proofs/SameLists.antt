@@ -11,7 +11,7 @@ use Rattle.layers.specs.declared.IonoState.{IonoState}
 use Rattle.layers.specs.declared.LayerMuf.{LayerMuf}
 use Rattle.layers.specs.declared.EsParams.{EsParams}
 use Rattle.profile.specs.Rising.{rises_of}
-use Rattle.slot_curves.specs.declared.Slot.{Slot}
+use Rattle.profile.specs.declared.slot_curves.Slot.{Slot}
 use Rattle.heights.specs.SameReads.{SameReads}
 use Rattle.heights.proofs.SameReads.{same_reads}
 use Rattle.reflectrix.specs.declared.Ionogram.{Ionogram}

@@ -8,14 +8,14 @@ use Rattle.layers.specs.declared.LayerParams.{LayerParams}
 use Rattle.layers.specs.declared.EsParams.{EsParams}
 use Rattle.heights.specs.Gethp.{Finder, gethp_of}
 use Rattle.reflectrix.specs.declared.Ionogram.{Ionogram}
-use Rattle.controlling_slot.specs.Controlling.{controlling_of}
+use Rattle.layer_mufs.specs.Controlling.{controlling_of}
 use Rattle.layer_mufs.specs.declared.PathNumbers.{PathNumbers}
-use Rattle.sporadic.specs.declared.Rewrite.{Rewrite}
-use Rattle.muf.specs.Curmuf.{in_domain, flat_with, answer_by, rewrite_by, rewritten_by}
+use Rattle.muf.specs.declared.sporadic.Rewrite.{Rewrite}
+use Rattle.muf.specs.Curmuf.{in_domain, flat_muf_with, answer_by, rewrite_by, rewritten_by}
 use Rattle.muf.specs.declared.MufHour.{MufHour}
 use Rattle.muf.specs.declared.AnswerAndRow.{AnswerAndRow}
-use Rattle.muf_records.specs.Records.{records_answer_with, records_by}
-use Rattle.shapes.specs.declared.Mark.{Mark}
+use Rattle.muf.specs.LentRecords.{records_answer_with, records_by}
+use Rattle.profile.specs.declared.shapes.Mark.{Mark}
 use Rattle.slot_sheet.specs.Sheet.{slot_sheet_with, sheet_cells_with}
 use Rattle.slot_sheet.specs.declared.SlotSheet.{SlotSheet}
 use Rattle.nominal.specs.Nommuf.{nommuf_of}
@@ -27,7 +27,7 @@ pub data EsRows : Type 0 where
   records : List EsParams → EsRows
 
 unfoldable pub muf_with : Finder → IonoState → EsRows → List Float → List Float → List Float → PathNumbers → Result AnswerAndRow Refusal
-muf_with find s (flat es) f2d clat clck c = flat_with find s es f2d clat clck c
+muf_with find s (flat es) f2d clat clck c = flat_muf_with find s es f2d clat clck c
 muf_with find s (records es) f2d clat clck c = records_answer_with find s es f2d clat clck c
 
 -- only the controlling row's lower decile is rewritten

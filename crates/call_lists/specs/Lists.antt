@@ -4,15 +4,15 @@ use Rattle.std.specs.Prelude.{Bool, true, false, List, [], ◌∷◌, map, ◌�
 use Rattle.std.specs.Bool.{then_some}
 use Rattle.scalar.specs.F32.{at}
 use Rattle.layers.specs.Owners.{owner_by, owner_of}
-use Rattle.slots.specs.Ionset.{ionset_of}
-use Rattle.layer_rules.specs.Rules.{count_taken}
+use Rattle.layers.specs.Ionset.{ionset_of}
+use Rattle.layers.specs.Rules.{count_taken}
 use Rattle.layers.specs.declared.IonoState.{IonoState}
 use Rattle.layers.specs.declared.Owner.{Owner}
 use Rattle.profile.specs.Lecden.{slot_at, lecden_of}
 use Rattle.profile.specs.Rising.{rises_of}
-use Rattle.walk.specs.Walk.{EachF32}
+use Rattle.heights.specs.Walk.{EachF32}
 use Rattle.heights.specs.Gethp.{Finder, gethp_of, gethp_scan_of}
-use Rattle.heights.specs.Walk.{gethp_walk_of}
+use Rattle.heights.specs.GethpWalk.{gethp_walk_of}
 use Rattle.heights.specs.Reads.{FortyReads}
 use Rattle.call_lists.specs.Calls.{Call, Answer, answer_of, after_of, answer_with, after_with, prepares, picked_slot}
 
@@ -117,7 +117,7 @@ abbrev pub ReadsWell : IonoState → Type 0
 ReadsWell u = (f : Float) → T (rises_of u.htr) → FortyReads u f
 
 -- The definitions' numbers are of any precision, those of a state that a program holds are f32 (`held`). It is asked of the first state only where a walk depends on it: semi-thicknesses, layers' heights and the profile's heights. `ionset` and every call keep it.
-pub record Numbers (s : IonoState) : Type 0 where
+pub record HeldNumbers (s : IonoState) : Type 0 where
   pub yi-held : EachF32 s.yi
   pub hi-held : EachF32 s.hi
   pub htr-held : EachF32 s.htr
@@ -149,18 +149,18 @@ pub record ListOfCalls (s : IonoState) (calls : List Call) : Type 0 where
   -- (ii) to (iv)
   pub state-left : StateLeft s calls (run_of s calls)
   -- (v) read by walks, as the code does where it reads, every answer (rows with their segments, marks, cells, hours, Es rows) and the state left are these; and they are the same with forty full scans in place of each walk
-  pub answers-walked : Numbers s → answers_walk_of s calls ≡ answers_of s calls
-  pub state-walked : Numbers s → run_walk_of s calls ≡ run_of s calls
+  pub answers-walked : HeldNumbers s → answers_walk_of s calls ≡ answers_of s calls
+  pub state-walked : HeldNumbers s → run_walk_of s calls ≡ run_of s calls
   pub answers-scanned : answers_scan_of s calls ≡ answers_of s calls
   pub state-scanned : run_scan_of s calls ≡ run_of s calls
   -- (vi) on each profile that is read the forty reads, kind, number and segment, where the exact rule does not stand for them, are the scans', in rising order, with the cursor as counted and moved 49 places at most
-  pub reads-well : Numbers s → Every ReadsWell (states_read s calls)
+  pub reads-well : HeldNumbers s → Every ReadsWell (states_read s calls)
 
 -- `ionset` answers any state with 1 to 5 points; so it is for what it answers, and its numbers are f32 where those of that state are
 abbrev pub ListsOfCalls : Type 0
 ListsOfCalls =
     (first : IonoState) → T (count_taken first.km)
-    → IsOkAnd (ionset_of first) (λ s. ((calls : List Call) → Allowed s calls → ListOfCalls s calls) × (Numbers first → Numbers s))
+    → IsOkAnd (ionset_of first) (λ s. ((calls : List Call) → Allowed s calls → ListOfCalls s calls) × (HeldNumbers first → HeldNumbers s))
 
 -- what `only-state` says: (ii) to (iv) leave nothing of the state unsaid. One state alone is so, of those whose `fsecv` has three numbers, as every state of the code has.
 abbrev pub OnlyState : Type 0
@@ -175,7 +175,7 @@ ReadAll = (find : Finder) (s : IonoState) (calls : List Call) → Every (FindsAs
 
 -- what `held` promises of every state that code holds, whoever made it: its numbers are f32, so what is said of walks holds of every list of calls on it, with nothing assumed
 pub record HeldState (s : IonoState) : Type 0 where
-  pub numbers : Numbers s
+  pub numbers : HeldNumbers s
   pub answers-walked : (calls : List Call) → answers_walk_of s calls ≡ answers_of s calls
   pub state-walked : (calls : List Call) → run_walk_of s calls ≡ run_of s calls
   pub reads-well : (calls : List Call) → Every ReadsWell (states_read s calls)

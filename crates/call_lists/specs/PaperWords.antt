@@ -2,8 +2,8 @@
 -- Beside them: that a sheet's refusal depends on its arguments alone, so that "answered" means the same on the first state and in the list; and that what a call answers and leaves is what the contracts of the functions promise.
 use Rattle.std.specs.Prelude.{Bool, true, false, ◌&&◌, List, [], ◌∷◌, ◌≡◌, ℕ, ◌+◌, ◌≤◌, T, eqb, ℤ, Float, Some, Result, IsOkAnd}
 use Rattle.refusal.specs.declared.Refusal.{Refusal}
-use Rattle.slots.specs.Ionset.{ionset_of}
-use Rattle.layer_rules.specs.Rules.{count_taken}
+use Rattle.layers.specs.Ionset.{ionset_of}
+use Rattle.layers.specs.Rules.{count_taken}
 use Rattle.layers.specs.declared.IonoState.{IonoState}
 use Rattle.layers.specs.declared.LayerMuf.{LayerMuf}
 use Rattle.layers.specs.declared.LayerParams.{LayerParams}
@@ -11,7 +11,7 @@ use Rattle.layers.specs.declared.EsParams.{EsParams}
 use Rattle.readings.specs.Cursor.{one_if}
 use Rattle.layer_mufs.specs.declared.PathNumbers.{PathNumbers}
 use Rattle.muf.specs.Curmuf.{curmuf_of, es_after_of}
-use Rattle.muf_records.specs.Records.{records_muf_of, records_after_of}
+use Rattle.muf.specs.LentRecords.{records_muf_of, records_after_of}
 use Rattle.slot_sheet.specs.Sheet.{slot_sheet_of, sheet_cells_of}
 use Rattle.nominal.specs.Nommuf.{nommuf_of}
 use Rattle.call_lists.specs.Calls.{flat, records, Call, a_muf, a_sheet, a_nominal, of_muf, of_sheet, of_nominal, shown_of, part_of, answer_of, state_left, after_of, answered, picked_slot}

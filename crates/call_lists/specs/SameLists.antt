@@ -3,19 +3,19 @@ use Rattle.std.specs.Prelude.{true, List, [], ◌∷◌, map, ◌≡◌, ℕ, �
 use Rattle.refusal.specs.declared.Refusal.{Refusal}
 use Rattle.same.specs.Same.{Same, SameAll}
 use Rattle.scalar.specs.F32.{at}
-use Rattle.slots.specs.Ionset.{ionset_of}
-use Rattle.layer_rules.specs.Rules.{count_taken}
+use Rattle.layers.specs.Ionset.{ionset_of}
+use Rattle.layers.specs.Rules.{count_taken}
 use Rattle.layers.specs.declared.IonoState.{IonoState}
 use Rattle.layers.specs.declared.LayerMuf.{LayerMuf}
 use Rattle.layers.specs.declared.EsParams.{EsParams}
 use Rattle.profile.specs.Lecden.{slot_at}
 use Rattle.profile.specs.Rising.{rises_of}
-use Rattle.slot_curves.specs.declared.Slot.{Slot}
+use Rattle.profile.specs.declared.slot_curves.Slot.{Slot}
 use Rattle.heights.specs.SameReads.{SameReads}
 use Rattle.reflectrix.specs.declared.Ionogram.{Ionogram}
 use Rattle.muf.specs.declared.MufHour.{MufHour}
 use Rattle.call_lists.specs.Calls.{EsRows, flat, records, Call, SlotRows, Answer, of_muf, of_sheet, of_nominal, answer_of}
-use Rattle.call_lists.specs.Lists.{run_of, answers_of, run_walk_of, answers_walk_of, run_scan_of, answers_scan_of, states_read, Every, Allowed, own, last_preparing, alone, Numbers}
+use Rattle.call_lists.specs.Lists.{run_of, answers_of, run_walk_of, answers_walk_of, run_scan_of, answers_scan_of, states_read, Every, Allowed, own, last_preparing, alone, HeldNumbers}
 
 -- ---- the same, part by part: numbers by their bits, all else equal
 
@@ -108,12 +108,12 @@ pub record SameListOfCalls (s : IonoState) (calls : List Call) : Type 0 where
   pub yi-left : (i : ℕ) → 9 ≤ i → Same (at (run_of s calls).yi i) (at s.yi i)
   pub hi-left : (i : ℕ) → 9 ≤ i → Same (at (run_of s calls).hi i) (at s.hi i)
   -- (v) the same by walks, as the code reads, and by forty scans in place of each
-  pub answers-walked : Numbers s → Pairwise SameAnswer (answers_walk_of s calls) (answers_of s calls)
-  pub state-walked : Numbers s → SameState (run_walk_of s calls) (run_of s calls)
+  pub answers-walked : HeldNumbers s → Pairwise SameAnswer (answers_walk_of s calls) (answers_of s calls)
+  pub state-walked : HeldNumbers s → SameState (run_walk_of s calls) (run_of s calls)
   pub answers-scanned : Pairwise SameAnswer (answers_scan_of s calls) (answers_of s calls)
   pub state-scanned : SameState (run_scan_of s calls) (run_of s calls)
   -- (vi) on each profile that is read and rises the forty reads are the scans'
-  pub reads_same : Numbers s → Every (λ u. (f : Float) → T (rises_of u.htr) → SameReads u f) (states_read s calls)
+  pub reads_same : HeldNumbers s → Every (λ u. (f : Float) → T (rises_of u.htr) → SameReads u f) (states_read s calls)
 
 abbrev pub SameListsOfCalls : Type 0
 SameListsOfCalls = (first : IonoState) → T (count_taken first.km) → IsOkAnd (ionset_of first) (λ s. (calls : List Call) → Allowed s calls → SameListOfCalls s calls)

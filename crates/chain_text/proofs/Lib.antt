@@ -1,2 +1,3 @@
 -- The text of a chain fits.
 mod Within
+pub mod chain_laws

@@ -7,11 +7,11 @@ use lib.ListN.{length, get_or, take, length-take}
 use lib.Seq.{get_or-take}
 use Rattle.std.specs.Prelude.{Ok}
 use Rattle.lines.proofs.Sizes.{AtMost, ◌then◌, word, line-feed, decimal, field, times}
-use Rattle.record_chain.specs.declared.Chain.{Chain}
+use Rattle.records.specs.declared.record_chain.Chain.{Chain}
 use Rattle.records.specs.Record.{form64, record_at, kind_of, next_of}
-use Rattle.record_chain.specs.Chain.{chain_of}
+use Rattle.records.specs.Chain.{chain_of}
 use Rattle.records.proofs.Lists.{fit64}
-use Rattle.record_chain.proofs.Followed.{Followed, followed, there, count-range}
+use Rattle.records.proofs.record_chain.Followed.{Followed, followed, there, count-range}
 use Rattle.chain_text.specs.ChainText.{step_line, step_line_at, end_word, end_line, followed_text}
 
 pub within : (f : List ℕ) (k : Chain) → chain_of form64 f ≡ Ok k

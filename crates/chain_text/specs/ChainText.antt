@@ -2,9 +2,9 @@
 use Rattle.std.specs.Prelude.{List, [], ◌∷◌, ◌++◌, ℕ, get_or, Result, Ok, Err}
 use Rattle.refusal.specs.declared.Refusal.{Refusal}
 use Rattle.lines.specs.Text.{space, line_feed, decimal_of, field_of, refused_text, joined}
-use Rattle.record_chain.specs.declared.Chain.{Chain}
+use Rattle.records.specs.declared.record_chain.Chain.{Chain}
 use Rattle.records.specs.Record.{form64, record_at, kind_of, next_of}
-use Rattle.record_chain.specs.Chain.{chain_of}
+use Rattle.records.specs.Chain.{chain_of}
 
 -- record n, whose bytes are r
 unfoldable pub step_line : List ℕ → ℕ → List ℕ

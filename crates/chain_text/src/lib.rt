@@ -5,12 +5,12 @@
 ghost use Rattle.std.specs.Prelude.{Ok, ◌≡◌, length};
 ghost use Rattle.lines.specs.Text.{with_text};
 ghost use Rattle.records.specs.Record.{form64};
-ghost use Rattle.record_chain.specs.Chain.{chain_of};
+ghost use Rattle.records.specs.Chain.{chain_of};
 ghost use Rattle.chain_text.specs.ChainText.{step_line, followed_text, chain_text};
 
 use lines::Page;
-use record_chain::Chain;
 pub use records::INPUT;
+use records::record_chain::Chain;
 
 // A step of the chain: the record's number, its kind and its next index.
 #[tactic(auto, using(lines::proofs::Placing::putting), unfolding(crate::specs::ChainText::step_line))]
@@ -47,7 +47,7 @@ pub fn chain_text(file: &[u8]) -> Page<ROOM>
     ensures { result ≡ chain_text file.now }
 {
     let mut page = Page::new();
-    match record_chain::follow(file) {
+    match records::record_chain::follow(file) {
         Ok(chain) => put_chain(&mut page, file, &chain),
         Err(r) => page.put_refused(r),
     }

@@ -10,10 +10,10 @@ use lib.Seq.{length-take-le}
 use Rattle.std.specs.Prelude.{Ok}
 use Rattle.records.specs.declared.Form.{Form}
 use Rattle.records.specs.Record.{Fit, record_at}
-use Rattle.record_chain.specs.declared.Chain.{Chain}
-use Rattle.record_chain.specs.Chain.{chain_of, km_of}
-use Rattle.record_chain.proofs.Followed.{Followed, followed, there, count-range}
-use Rattle.circuit.specs.Read.{Parts, Found, numbers_of}
+use Rattle.records.specs.declared.record_chain.Chain.{Chain}
+use Rattle.records.specs.Chain.{chain_of, km_of}
+use Rattle.records.proofs.record_chain.Followed.{Followed, followed, there, count-range}
+use Rattle.circuit.specs.Read.{Parts, RecordsFound, numbers_of}
 use Rattle.circuit.proofs.Lists.{numbers-part, part-there}
 
 module _ (o : Form) (fit : Fit o) (f : List ℕ) (c : Chain) (e : chain_of o f ≡ Ok c) where
@@ -61,12 +61,12 @@ module _ (o : Form) (fit : Fit o) (f : List ℕ) (c : Chain) (e : chain_of o f �
         numbers-part o f c.order (1 + km) n n skip words refl (omega (arith, deciles-after, room-deciles))
 
     module _ (pre : Bor (List ℕ) → ℕ → Type 0) (post : Bor (List ℕ) → ℕ → Bor (List ℕ) → Type 0) (parts : Parts pre post o) where
-      pub points-found : (words : ℕ) → 4 + 4 * words ≤ o.size → (length points ≤ 5) × Found pre post o f points words
+      pub points-found : (words : ℕ) → 4 + 4 * words ≤ o.size → (length points ≤ 5) × RecordsFound pre post o f points words
       points-found words h =
           let p = part-there o f c.order 1 (1 + km - 1) 5 (there o f c told) (omega (arith, km-most)) (omega (arith, room-points)) in
           (p.0, record { room = h; there = p.1; parts = parts })
 
-      pub deciles-found : (words : ℕ) → 4 + 4 * words ≤ o.size → (length deciles ≤ 48) × Found pre post o f deciles words
+      pub deciles-found : (words : ℕ) → 4 + 4 * words ≤ o.size → (length deciles ≤ 48) × RecordsFound pre post o f deciles words
       deciles-found words h =
           let p = part-there o f c.order (1 + km) (c.count - (1 + km)) 48 (there o f c told) (omega (arith, k, range)) (omega (arith, deciles-after, room-deciles)) in
           (p.0, record { room = h; there = p.1; parts = parts })

@@ -7,9 +7,9 @@ use Rattle.std.specs.Prelude.{Result, Ok, Err}
 use Rattle.refusal.specs.declared.Refusal.{Refusal}
 use Rattle.records.specs.declared.Form.{Form}
 use Rattle.records.specs.Record.{Fit}
-use Rattle.record_chain.specs.declared.Chain.{Chain}
-use Rattle.record_chain.specs.Chain.{chain_of}
-use Rattle.record_chain.proofs.Followed.{followed}
+use Rattle.records.specs.declared.record_chain.Chain.{Chain}
+use Rattle.records.specs.Chain.{chain_of}
+use Rattle.records.proofs.record_chain.Followed.{followed}
 use Rattle.circuit.specs.declared.Circuit.{Circuit}
 use Rattle.circuit.specs.Read.{read_of, circuit_of, no_circuit, circuit_in}
 

@@ -2,3 +2,4 @@
 pub mod Lists
 pub mod Along
 pub mod Answers
+pub mod circuit_laws

@@ -9,9 +9,9 @@ use lib.ListN.{length, get_or, take, drop, length-append, length-drop, replicate
 use lib.Seq.{length-take-le}
 use Rattle.std.proofs.lemmas.List.{get_or-take, get_or-drop}
 use Rattle.records.specs.declared.Form.{Form}
-use Rattle.record_chain.specs.Chain.{padded}
+use Rattle.records.specs.Chain.{padded}
 use Rattle.records.proofs.Lists.{length-after}
-use Rattle.record_chain.proofs.Members.{length-padded, placed}
+use Rattle.records.proofs.record_chain.Members.{length-padded, placed}
 use Rattle.circuit.specs.Read.{numbers_of}
 use Rattle.records.specs.Record.{record_words, record_at}
 

@@ -2,11 +2,11 @@
 use Rattle.std.specs.Prelude.{ℕ, zero, suc, ◌+◌, ◌*◌, ◌-◌, List, [], ◌++◌, get_or, drop, length, replicate, Result, Ok, Err, ◌≤◌, ◌<◌, ◌≡◌}
 use Rattle.std.specs.Borrow.{Bor}
 use Rattle.refusal.specs.declared.Refusal.{Refusal}
-use Rattle.record_chain.specs.declared.Chain.{Chain}
+use Rattle.records.specs.declared.record_chain.Chain.{Chain}
 use Rattle.circuit.specs.declared.Circuit.{Circuit}
 use Rattle.records.specs.declared.Form.{Form}
 use Rattle.records.specs.Record.{record_at, word_at, record_words}
-use Rattle.record_chain.specs.Chain.{chain_of, km_of, shape_of, padded}
+use Rattle.records.specs.Chain.{chain_of, km_of, shape_of, padded}
 
 -- of n records of the chain, from place `from` on, so many words each, those after the first `skip`
 unfoldable pub numbers_of : Form → List ℕ → List ℕ → ℕ → ℕ → ℕ → ℕ → List ℕ
@@ -23,7 +23,7 @@ Parts pre post o =
     → pre f n × ((r : Bor (List ℕ)) → post f n r → r.now ≡ record_at o f.now n)
 
 -- such a function, and a list of records that are in the file and have so many words
-pub record Found (pre : Bor (List ℕ) → ℕ → Type 0) (post : Bor (List ℕ) → ℕ → Bor (List ℕ) → Type 0) (o : Form) (f records : List ℕ) (words : ℕ) : Type 0 where
+pub record RecordsFound (pre : Bor (List ℕ) → ℕ → Type 0) (post : Bor (List ℕ) → ℕ → Bor (List ℕ) → Type 0) (o : Form) (f records : List ℕ) (words : ℕ) : Type 0 where
   pub room : 4 + 4 * words ≤ o.size
   pub there : (i : ℕ) → i < length records → o.size * get_or records i 0 + o.size ≤ length f
   pub parts : Parts pre post o

@@ -3,7 +3,10 @@
 // forms.
 #![tactic(auto)]
 
+pub mod circuit_write;
 mod numbers;
+pub mod record_put;
+pub mod wide_circuit;
 
 ghost use Rattle.std.specs.Prelude.{◌≡◌, ◌+◌, ◌*◌, ◌≤◌, ◌<◌, length, map, not};
 ghost use Rattle.std.specs.Float.Ieee.{of_bits};
@@ -13,7 +16,7 @@ ghost use Rattle.circuit.specs.Read.{read_of};
 ghost use Rattle.circuit.specs.Point.{point_number};
 
 pub use numbers::{all_zero, nothing, numbers_of, read_along};
-use record_chain::follow;
+use records::record_chain::follow;
 use refusal::Refusal;
 
 // A point is fifteen words: fi, yi, hi and Es fs, three each, hs, clat, clck. The words past the km points are no part of the

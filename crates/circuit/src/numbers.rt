@@ -2,11 +2,11 @@
 ghost use Rattle.std.specs.Prelude.{◌≡◌, Ok, ℕ, List, ◌+◌, ◌*◌, ◌≤◌, ◌<◌, length, get_or};
 ghost use Rattle.records.specs.declared.Form.{Form};
 ghost use Rattle.records.specs.Record.{Fit, all_zero};
-ghost use Rattle.record_chain.specs.Chain.{chain_of, padded};
-ghost use Rattle.circuit.specs.Read.{Parts, Found, numbers_of, circuit_by, circuit_of, no_circuit};
+ghost use Rattle.records.specs.Chain.{chain_of, padded};
+ghost use Rattle.circuit.specs.Read.{Parts, RecordsFound, numbers_of, circuit_by, circuit_of, no_circuit};
 
 use crate::Circuit;
-use record_chain::Chain;
+use records::record_chain::Chain;
 
 // Whether every word is +0.
 // Stays: this and the one for bytes (`records`) are each one call of the library's method; one over both types would have to name its
@@ -27,8 +27,8 @@ pub fn numbers_of<const N: usize, F: Fn(&[u8], usize) -> &[u8] + Copy>(
     part: F,
 ) -> [u32; N]
     requires room { width * length records.now ≤ N }
-    requires found { (o : Form) × Found (F.pre part) (F.post part) o file.now records.now (skip + width) }
-    ensures { (o : Form) → Found (F.pre part) (F.post part) o file.now records.now (skip + width) → result ≡ padded N (numbers_of o file.now records.now 0 skip width (length records.now)) }
+    requires found { (o : Form) × RecordsFound (F.pre part) (F.post part) o file.now records.now (skip + width) }
+    ensures { (o : Form) → RecordsFound (F.pre part) (F.post part) o file.now records.now (skip + width) → result ≡ padded N (numbers_of o file.now records.now 0 skip width (length records.now)) }
 {
     let mut out = [0u32; N];
     let words = &mut out[..];

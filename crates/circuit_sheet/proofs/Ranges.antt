@@ -14,35 +14,35 @@ use Rattle.scalar.specs.Literals.{f0}
 use Rattle.std.proofs.Common.{Result, Ok, Err}
 use Rattle.std.specs.Result.{result_unwrap_or}
 use Rattle.refusal.specs.declared.Refusal.{Refusal}
-use Rattle.record_chain.specs.declared.Chain.{Chain}
+use Rattle.records.specs.declared.record_chain.Chain.{Chain}
 use Rattle.records.specs.Record.{form64}
-use Rattle.record_chain.specs.Chain.{chain_of}
+use Rattle.records.specs.Chain.{chain_of}
 use Rattle.circuit.specs.Read.{read_of, circuit_of}
 use Rattle.records.proofs.Lists.{fit64}
-use Rattle.record_chain.proofs.Followed.{followed, count-range}
+use Rattle.records.proofs.record_chain.Followed.{followed, count-range}
 use Rattle.circuit.proofs.Answers.{read-answered, read-refused, small_read}
 use Rattle.circuit.proofs.Lists.{length-read}
 use Rattle.layers.specs.Owners.{disowned}
-use Rattle.layer_rules.specs.Rules.{count_taken, too_close}
-use Rattle.slots.specs.FromLayers.{point_set, points_set, empty_of, from_layers_by, from_layers_of}
-use Rattle.slots.specs.Ionset.{layer_from, two_slots, three_slots, assigned_by, assigned_of, f1_kept_by, f1_by, f1_settled, f2_settled, slot_settled, slots_settled, ionset_by, ionset_of}
+use Rattle.layers.specs.Rules.{count_taken, too_close}
+use Rattle.layers.specs.FromLayers.{point_set, points_set, empty_of, from_layers_by, from_layers_of}
+use Rattle.layers.specs.Ionset.{layer_from, two_slots, three_slots, assigned_by, assigned_of, f1_kept_by, f1_by, f1_settled, f2_settled, slot_settled, slots_settled, ionset_by, ionset_of}
 use Rattle.layers.specs.declared.IonoState.{IonoState}
 use Rattle.layers.specs.declared.LayerParams.{LayerParams}
 use Rattle.layers.specs.declared.LayerMuf.{LayerMuf}
 use Rattle.layers.specs.State.{zero_state}
-use Rattle.slots.proofs.Counts.{three-at-most}
-use Rattle.slots.proofs.OwnersLeft.{disowned-only}
-use Rattle.controlling_slot.specs.Controlling.{compare_e, controlling_of}
-use Rattle.controlling_slot.proofs.Small.{controlling-small}
-use Rattle.scan_angles.specs.Angles.{NANGX, distance_step_of, scan_by, sang_of}
+use Rattle.layers.proofs.slots.Counts.{three-at-most}
+use Rattle.layers.proofs.slots.OwnersLeft.{disowned-only}
+use Rattle.layer_mufs.specs.Controlling.{compare_e, controlling_of}
+use Rattle.layer_mufs.proofs.controlling_slot.Small.{controlling-small}
+use Rattle.reflectrix.specs.Angles.{NANGX, distance_step_of, scan_by, sang_of}
 use Rattle.reflectrix.specs.Fobby.{room_for}
-use Rattle.scan_angles.proofs.Forty.{count-most}
-use Rattle.scan_angles.proofs.Counts.{step_range, nangx-range}
+use Rattle.reflectrix.proofs.scan_angles.Forty.{count-most}
+use Rattle.reflectrix.proofs.scan_angles.Counts.{step_range, nangx-range}
 use Rattle.slot_sheet.specs.declared.SlotSheet.{SlotSheet}
 use Rattle.slot_sheet.specs.Sheet.{slot_sheet_with, slot_sheet_of}
 use Rattle.muf.specs.Curmuf.{lists_reach}
-use Rattle.circuit_numbers.specs.Numbers.{params_of, column_of, shaped_of}
-use Rattle.circuit_numbers.proofs.Sizes.{column-lent}
+use Rattle.circuit_sheet.specs.Numbers.{params_of, column_of, shaped_of}
+use Rattle.circuit_sheet.proofs.circuit_numbers.Sizes.{column-lent}
 use Rattle.circuit_sheet.specs.CircuitSheet.{Circuit, slots_of}
 
 -- ---- points

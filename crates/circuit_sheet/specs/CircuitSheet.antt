@@ -6,19 +6,19 @@ use Rattle.refusal.specs.declared.Refusal.{Refusal}
 use Rattle.records.specs.Record.{form64}
 use Rattle.circuit.specs.Read.{read_of}
 use Rattle.circuit.specs.declared.Circuit as file
-use Rattle.circuit_numbers.specs.Numbers.{params_of, es_of, column_of, shaped_of, path_of}
+use Rattle.circuit_sheet.specs.Numbers.{params_of, es_of, column_of, shaped_of, path_of}
 use Rattle.std.specs.Result.{result_unwrap_or}
 use Rattle.layers.specs.State.{zero_state}
-use Rattle.slots.specs.FromLayers.{from_layers_of}
-use Rattle.slots.specs.Ionset.{ionset_of}
+use Rattle.layers.specs.FromLayers.{from_layers_of}
+use Rattle.layers.specs.Ionset.{ionset_of}
 use Rattle.layers.specs.declared.IonoState.{IonoState}
 use Rattle.layers.specs.declared.LayerMuf.{LayerMuf}
 use Rattle.muf.specs.Curmuf.{curmuf_of}
 use Rattle.muf.specs.declared.MufHour.{MufHour}
 use Rattle.muf.specs.declared.MufAnswer.{MufAnswer}
-use Rattle.scan_angles.specs.Angles.{sang_of}
+use Rattle.reflectrix.specs.Angles.{sang_of}
 use Rattle.reflectrix.specs.Rows.{no_rows}
-use Rattle.shapes.specs.Marks.{unmarked}
+use Rattle.profile.specs.Marks.{unmarked}
 use Rattle.slot_sheet.specs.declared.SlotSheet.{SlotSheet}
 use Rattle.slot_sheet.specs.Sheet.{slot_sheet_of}
 use Rattle.circuit_sheet.specs.declared.SlotRows.{SlotRows}

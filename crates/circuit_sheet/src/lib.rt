@@ -1,14 +1,16 @@
 // The sheet of a circuit file: the hour's MUF, and the thirty rows and fifty marks of each slot.
 #![tactic(auto)]
 
+pub mod circuit_numbers;
+
 ghost use Rattle.std.specs.Prelude.{◌≡◌, ◌≤◌};
 ghost use Rattle.circuit_sheet.specs.CircuitSheet.{slots_of, muf_of, no_slot, slot_rows_of, answered_of, circuit_sheet_of, sheet_of};
 
 use layers::{IonoState, LayerMuf};
 use muf::{MufAnswer, MufHour};
+use profile::shapes::Mark;
 use reflectrix::Ionogram;
 use refusal::Refusal;
-use shapes::Mark;
 
 // What the sheet has of a slot: its ionogram, and the marks of its fifty heights.
 #[derive(Clone, Copy, Debug, PartialEq)]
@@ -33,10 +35,10 @@ pub struct Sheet {
 pub fn slots(c: circuit::Circuit) -> IonoState
     ensures { result ≡ slots_of c }
 {
-    let points = circuit_numbers::params(&c.points);
-    let made = slots::from_layers(points, c.km).unwrap_or(layers::zero_state());
-    let s = circuit_numbers::shaped(made, c.shape);
-    slots::ionset(s).unwrap_or(s)
+    let points = crate::circuit_numbers::params(&c.points);
+    let made = layers::slots::from_layers(points, c.km).unwrap_or(layers::zero_state());
+    let s = crate::circuit_numbers::shaped(made, c.shape);
+    layers::slots::ionset(s).unwrap_or(s)
 }
 
 // Stays: that km is 5 at most holds of a circuit that was read and is asked where its words are taken; a `Circuit` may hold any
@@ -46,11 +48,11 @@ fn circuit_muf(c: circuit::Circuit, s: IonoState) -> Result<MufAnswer, Refusal>
     ensures { result ≡ muf_of c s }
 {
     let words = c.points;
-    let mut es = circuit_numbers::es_rows(&words);
-    let clat = circuit_numbers::column(&words, 13);
-    let clck = circuit_numbers::column(&words, 14);
+    let mut es = crate::circuit_numbers::es_rows(&words);
+    let clat = crate::circuit_numbers::column(&words, 13);
+    let clck = crate::circuit_numbers::column(&words, 14);
     let f2d = circuit::decile_table(c);
-    let path = circuit_numbers::path(c);
+    let path = crate::circuit_numbers::path(c);
     let km = c.km;
     let numbers = 4 * km;
     muf::curmuf(s, &mut es[..numbers], &f2d, &clat[..km], &clck[..km], path)
@@ -61,7 +63,7 @@ fn no_slot() -> SlotRows
 {
     SlotRows {
         ion: reflectrix::no_rows(),
-        marks: shapes::no_marks(),
+        marks: profile::shapes::no_marks(),
     }
 }
 
@@ -100,7 +102,7 @@ fn of_circuit(c: circuit::Circuit) -> Result<Sheet, Refusal>
     requires { c.km ≤ 5 }
     ensures { result ≡ circuit_sheet_of c }
 {
-    let nang = scan_angles::sang(scalar::number(c.gcdkm), scalar::number(c.amind))?;
+    let nang = reflectrix::scan_angles::sang(scalar::number(c.gcdkm), scalar::number(c.amind))?;
     let s = slots(c);
     let m = circuit_muf(c, s)?;
     Ok(answered(s, nang, m.hour))

@@ -18,11 +18,11 @@ use Rattle.records.specs.declared.Form.{Form}
 use Rattle.records.specs.Record.{Fit}
 use Rattle.circuit.specs.Read.{read_of, circuit_of, circuit_in}
 use Rattle.std.proofs.lemmas.Bool.{and_parts}
-use Rattle.record_chain.proofs.Followed.{followed}
+use Rattle.records.proofs.record_chain.Followed.{followed}
 use Rattle.circuit.proofs.Answers.{read-answered}
-use Rattle.circuit_write.specs.Written.{records_of, file_of, good_of, write_answer_of, left_of}
-use Rattle.circuit_write.proofs.Cells.{records_most, write-good, length-file, good-is}
-use Rattle.circuit_laws.proofs.WrittenRead.{chain-answered}
+use Rattle.circuit.specs.Written.{records_of, file_of, good_of, write_answer_of, left_of}
+use Rattle.circuit.proofs.circuit_write.Cells.{records_most, write-good, length-file, good-is}
+use Rattle.circuit.proofs.circuit_laws.WrittenRead.{chain-answered}
 
 good-most : (c : Circuit) → good_of c ≡ true → c.km ≤ 5
 good-most c g =

@@ -8,17 +8,17 @@ use lib.ListN.{take, replicate, length-replicate}
 use Rattle.circuit.specs.declared.Circuit.{Circuit}
 use Rattle.records.specs.declared.Form.{Form}
 use Rattle.records.specs.Record.{Fit}
-use Rattle.record_chain.specs.Chain.{padded}
+use Rattle.records.specs.Chain.{padded}
 use Rattle.circuit.specs.Read.{read_of, circuit_in}
 use Rattle.std.specs.Prelude.{Ok, IsOk}
-use Rattle.circuit_write.specs.Written.{records_of, file_of, write_answer_of}
-use Rattle.circuit_write.proofs.Cells.{write-good}
-use Rattle.circuit_laws.specs.Forms.{Each, Beside, held_beside, InForm}
-use Rattle.circuit_laws.specs.Laws.{ReadBack}
-use Rattle.circuit_laws.proofs.ReadWritten.{written-file}
-use Rattle.circuit_laws.proofs.WrittenForm.{each-zero, file-in-form}
-use Rattle.circuit_laws.proofs.Carried.{whole-read, carried}
-use Rattle.wide_circuit.specs.Wide.{form128}
+use Rattle.circuit.specs.Written.{records_of, file_of, write_answer_of}
+use Rattle.circuit.proofs.circuit_write.Cells.{write-good}
+use Rattle.circuit.specs.Forms.{Each, Beside, held_beside, InForm}
+use Rattle.circuit.specs.Laws.{ReadBack}
+use Rattle.circuit.proofs.circuit_laws.ReadWritten.{written-file}
+use Rattle.circuit.proofs.circuit_laws.WrittenForm.{each-zero, file-in-form}
+use Rattle.circuit.proofs.circuit_laws.Carried.{whole-read, carried}
+use Rattle.circuit.specs.Wide.{form128}
 use Rattle.circuit_turn.proofs.Files.{read-range, read-good}
 
 module _ (o : Form) (fit : Fit o) (p : Form) (fits : Fit p) (f beside : List ℕ) (bytes : Each 256 f)

@@ -8,10 +8,10 @@ use Rattle.refusal.specs.declared.Refusal.{Refusal}
 use Rattle.records.specs.Record.{all_zero}
 use Rattle.circuit.specs.declared.Circuit.{Circuit}
 use Rattle.circuit.specs.Read.{read_of, circuit_in}
-use Rattle.circuit_write.specs.Written.{good_of}
-use Rattle.wide_circuit.specs.declared.WideCircuit.{WideCircuit}
-use Rattle.wide_circuit.specs.Wide.{form128, wide_by, wide_of, wide_in}
-use Rattle.wide_circuit.proofs.Fit128.{fit128, wide-in}
+use Rattle.circuit.specs.Written.{good_of}
+use Rattle.circuit.specs.declared.wide_circuit.WideCircuit.{WideCircuit}
+use Rattle.circuit.specs.Wide.{form128, wide_by, wide_of, wide_in}
+use Rattle.circuit.proofs.wide_circuit.Fit128.{fit128, wide-in}
 use Rattle.circuit_turn.specs.Turn.{back_by, back_of}
 use Rattle.circuit_turn.proofs.Files.{read-good}
 

@@ -13,20 +13,20 @@ use borrow.Author.Tests.{eq-eqb, ne_eqb, le-leb, lt-leb, ltb-true, ltb-false}
 use Rattle.std.specs.Prelude.{Result, Ok, Err, IsOk}
 use Rattle.refusal.specs.declared.Refusal.{Refusal}
 use Rattle.circuit.specs.declared.Circuit.{Circuit}
-use Rattle.record_chain.proofs.Steps.{step-astray}
+use Rattle.records.proofs.record_chain.Steps.{step-astray}
 use Rattle.circuit.proofs.Answers.{read-refused}
 use Rattle.refusal.specs.Number.{number_of, answer_number}
 use Rattle.lines.specs.Text.{refused_text}
-use Rattle.record_chain.specs.declared.Chain.{Chain}
+use Rattle.records.specs.declared.record_chain.Chain.{Chain}
 use Rattle.records.specs.declared.Form.{Form}
 use Rattle.records.specs.Record.{form64, record_at, half_at, kind_of, record_words, all_zero}
-use Rattle.record_chain.specs.Chain.{length_good, head_good, km_of, sound_by, step_of, ended, answered_chain, padded, order_in, walk, chain_of}
+use Rattle.records.specs.Chain.{length_good, head_good, km_of, sound_by, step_of, ended, answered_chain, padded, order_in, walk, chain_of}
 use Rattle.circuit.specs.Read.{numbers_of, circuit_of, read_of, read_by, beside_of}
-use Rattle.record_chain.proofs.Followed.{by-step, by-pick, followed}
-use Rattle.circuit_laws.proofs.Back.{all-zeros}
-use Rattle.circuit_laws.proofs.WrittenRead.{chain-answered}
-use Rattle.wide_circuit.specs.Wide.{form128, wide_of}
-use Rattle.wide_circuit.proofs.Fit128.{fit128, beside-answered, wide-answered, wide-refused}
+use Rattle.records.proofs.record_chain.Followed.{by-step, by-pick, followed}
+use Rattle.circuit.proofs.circuit_laws.Back.{all-zeros}
+use Rattle.circuit.proofs.circuit_laws.WrittenRead.{chain-answered}
+use Rattle.circuit.specs.Wide.{form128, wide_of}
+use Rattle.circuit.proofs.wide_circuit.Fit128.{fit128, beside-answered, wide-answered, wide-refused}
 use Rattle.circuit_turn.specs.Turn.{back_by, back_of, narrowed}
 use Rattle.circuit_turn.specs.Laws.{f2m3_at, Carries}
 use Rattle.circuit_turn.proofs.Outcomes.{ok-is, read-wide}

@@ -13,16 +13,16 @@ use Rattle.circuit.specs.Read.{read_of, circuit_in, beside_of}
 use Rattle.records.proofs.Lists.{zeros}
 use Rattle.circuit.proofs.Lists.{length-read}
 use Rattle.records.proofs.Lists.{fit64}
-use Rattle.record_chain.proofs.Followed.{followed}
-use Rattle.circuit_write.specs.Written.{file_of}
-use Rattle.circuit_laws.specs.Forms.{Beside, InForm}
-use Rattle.circuit_laws.specs.Laws.{ReadBack}
-use Rattle.circuit_laws.proofs.Paper.{paper-laws}
-use Rattle.circuit_laws.proofs.WrittenRead.{chain-answered}
-use Rattle.wide_circuit.specs.declared.WideCircuit.{WideCircuit}
-use Rattle.wide_circuit.specs.Wide.{form128, wide_of, wide_in}
-use Rattle.wide_circuit.proofs.Fit128.{fit128, beside-answered, wide-in}
-use Rattle.wide_circuit.proofs.Laws.{wide_back, wide_laws}
+use Rattle.records.proofs.record_chain.Followed.{followed}
+use Rattle.circuit.specs.Written.{file_of}
+use Rattle.circuit.specs.Forms.{Beside, InForm}
+use Rattle.circuit.specs.Laws.{ReadBack}
+use Rattle.circuit.proofs.circuit_laws.Paper.{paper-laws}
+use Rattle.circuit.proofs.circuit_laws.WrittenRead.{chain-answered}
+use Rattle.circuit.specs.declared.wide_circuit.WideCircuit.{WideCircuit}
+use Rattle.circuit.specs.Wide.{form128, wide_of, wide_in}
+use Rattle.circuit.proofs.wide_circuit.Fit128.{fit128, beside-answered, wide-in}
+use Rattle.circuit.proofs.wide_circuit.Laws.{wide_back, wide_laws}
 use Rattle.circuit_turn.specs.Turn.{back_of, written_by, widened, narrowed}
 use Rattle.circuit_turn.specs.Laws.{Widens, Narrows}
 use Rattle.circuit_turn.proofs.Outcomes.{narrow-read, back-answered, back_is, wide_read}

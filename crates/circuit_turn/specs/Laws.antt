@@ -4,11 +4,11 @@ use Rattle.refusal.specs.declared.Refusal.{Refusal}
 use Rattle.refusal.specs.Number.{number_of}
 use Rattle.lines.specs.Text.{refused_text}
 use Rattle.records.specs.Record.{form64, record_at, word_at, all_zero}
-use Rattle.record_chain.specs.Chain.{order_in, chain_of, km_of}
+use Rattle.records.specs.Chain.{order_in, chain_of, km_of}
 use Rattle.circuit.specs.Read.{read_of, circuit_in}
-use Rattle.circuit_write.specs.Written.{file_of}
-use Rattle.circuit_laws.specs.Forms.{Each, InForm}
-use Rattle.wide_circuit.specs.Wide.{form128, wide_of, wide_in}
+use Rattle.circuit.specs.Written.{file_of}
+use Rattle.circuit.specs.Forms.{Each, InForm}
+use Rattle.circuit.specs.Wide.{form128, wide_of, wide_in}
 use Rattle.circuit_turn.specs.Turn.{back_of, widened, narrowed}
 
 -- files of bytes that `widen` and `narrow` turn

@@ -5,9 +5,9 @@ use Rattle.circuit.specs.declared.Circuit.{Circuit}
 use Rattle.lines.specs.Text.{refused_text}
 use Rattle.records.specs.Record.{form64, all_zero}
 use Rattle.circuit.specs.Read.{read_of}
-use Rattle.circuit_write.specs.Written.{file_of}
-use Rattle.wide_circuit.specs.declared.WideCircuit.{WideCircuit}
-use Rattle.wide_circuit.specs.Wide.{form128, wide_of}
+use Rattle.circuit.specs.Written.{file_of}
+use Rattle.circuit.specs.declared.wide_circuit.WideCircuit.{WideCircuit}
+use Rattle.circuit.specs.Wide.{form128, wide_of}
 
 -- The circuit on the way back: the reader's refusal; then 14, where not all F2M3 are +0.
 abbrev pub back_by : Bool → Circuit → Result Circuit Refusal

@@ -6,8 +6,8 @@
 ghost use Rattle.std.specs.Prelude.{◌≡◌, true, [], replicate};
 ghost use Rattle.lines.specs.Text.{with_text};
 ghost use Rattle.records.specs.Record.{form64};
-ghost use Rattle.circuit_write.specs.Written.{file_of, good_of};
-ghost use Rattle.wide_circuit.specs.Wide.{form128, wide_of};
+ghost use Rattle.circuit.specs.Written.{file_of, good_of};
+ghost use Rattle.circuit.specs.Wide.{form128, wide_of};
 ghost use Rattle.circuit_turn.specs.Turn.{back_of, widened, narrowed};
 
 use circuit::Circuit;
@@ -31,7 +31,7 @@ fn put_wide<const N: usize>(page: &mut Page<N>, c: Circuit)
     ensures { page.new ≡ with_text N page.old (file_of form128 c (replicate 5 0)) }
 {
     let mut file = [0u8; NEW_ROOM];
-    let n = wide_circuit::write(c, [0; 5], &mut file).unwrap_or(0);
+    let n = circuit::wide_circuit::write(c, [0; 5], &mut file).unwrap_or(0);
     page.put_word(&file[..n]);
 }
 
@@ -41,7 +41,7 @@ pub fn put_old<const N: usize>(page: &mut Page<N>, c: Circuit)
     ensures { page.new ≡ with_text N page.old (file_of form64 c []) }
 {
     let mut file = [0u8; OLD_ROOM];
-    let n = circuit_write::write(c, &mut file).unwrap_or(0);
+    let n = circuit::circuit_write::write(c, &mut file).unwrap_or(0);
     page.put_word(&file[..n]);
 }
 
@@ -50,7 +50,7 @@ pub fn put_old<const N: usize>(page: &mut Page<N>, c: Circuit)
 fn old_circuit(file: &[u8]) -> Result<Circuit, Refusal>
     ensures { result ≡ back_of (wide_of file.now) }
 {
-    let a = wide_circuit::read(file)?;
+    let a = circuit::wide_circuit::read(file)?;
     if circuit::all_zero(&a.f2m3) {
         return Ok(a.circuit);
     }

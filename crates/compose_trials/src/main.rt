@@ -48,7 +48,7 @@ fn six_points() {
     for _i in 0..5 {
         page.put_word(POINT);
     }
-    aligned::put_repeated(&mut page, b' ', 512);
+    lines::aligned::put_repeated(&mut page, b' ', 512);
     print(page.text());
 }
 
@@ -57,7 +57,7 @@ fn late_point() {
     put_start(&mut page);
     put_deciles(&mut page, 1);
     page.put_word(POINT);
-    aligned::put_repeated(&mut page, b' ', 256);
+    lines::aligned::put_repeated(&mut page, b' ', 256);
     print(page.text());
 }
 
@@ -65,7 +65,7 @@ fn deciles(lines: usize) {
     let mut page: Page<2048> = Page::new();
     put_start(&mut page);
     put_deciles(&mut page, lines);
-    aligned::put_repeated(&mut page, b' ', 2048);
+    lines::aligned::put_repeated(&mut page, b' ', 2048);
     print(page.text());
 }
 

@@ -11,13 +11,13 @@ use Rattle.lines.proofs.Sizes.{AtMost, ◌then◌, word, line-feed, decimal}
 use Rattle.records.specs.Record.{form64}
 use Rattle.records.proofs.Lists.{fit64}
 use Rattle.circuit.specs.declared.Circuit.{Circuit}
-use Rattle.circuit_write.specs.Written.{size_of, good_of, write_answer_by, write_answer_of, file_of}
+use Rattle.circuit.specs.Written.{size_of, good_of, write_answer_by, write_answer_of, file_of}
 use Rattle.circuit_turn.proofs.Files.{file-most}
-use Rattle.compose_line.specs.declared.faults.Fault.{Fault}
-use Rattle.compose_line.specs.declared.faults.Wrong.{Wrong}
-use Rattle.compose_text.specs.Draft.{composed_of}
-use Rattle.compose_laws.proofs.Written.{text-written}
-use Rattle.fault_text.specs.FaultText.{fault_words, line_word, wrong_text}
+use Rattle.composing.specs.declared.compose_line.faults.Fault.{Fault}
+use Rattle.composing.specs.declared.compose_line.faults.Wrong.{Wrong}
+use Rattle.composing.specs.Draft.{composed_of}
+use Rattle.composing.proofs.compose_laws.Written.{text-written}
+use Rattle.composing.specs.FaultText.{fault_words, line_word, wrong_text}
 
 pub good_said : (text : List ℕ) (c : Circuit) → composed_of text ≡ Ok c → good_of c ≡ true
 unfolding write_answer_of

@@ -1,11 +1,11 @@
 -- What `compose` prints of a text: the file of its circuit, or the number of the first wrong line and what is wrong.
 use Rattle.std.specs.Prelude.{ℕ, cond, List, [], ◌∷◌, ltb, length, Result, Ok, Err}
-use Rattle.fault_text.specs.FaultText.{wrong_text}
+use Rattle.composing.specs.FaultText.{wrong_text}
 use Rattle.records.specs.Record.{form64}
-use Rattle.circuit_write.specs.Written.{file_of}
+use Rattle.circuit.specs.Written.{file_of}
 use Rattle.circuit.specs.declared.Circuit.{Circuit}
-use Rattle.compose_line.specs.declared.faults.Wrong.{Wrong}
-use Rattle.compose_text.specs.Draft.{composed_of}
+use Rattle.composing.specs.declared.compose_line.faults.Wrong.{Wrong}
+use Rattle.composing.specs.Draft.{composed_of}
 
 -- the longest text that is read
 abbrev pub longest : ℕ

@@ -2,11 +2,17 @@
 // Stays: functions of our own and no `Display`, for the reason in crate `lines`.
 #![tactic(auto)]
 
+pub mod compose_line;
+pub mod compose_text;
+pub mod decimals;
+pub mod fault_text;
+pub mod words;
+
 ghost use Rattle.std.specs.Prelude.{◌≡◌};
 ghost use Rattle.composing.specs.Composing.{composed_text};
 
+use crate::fault_text::put_wrong;
 use circuit_turn::put_old;
-use fault_text::put_wrong;
 use lines::Page;
 
 // One byte more than the longest text that is read.
@@ -24,7 +30,7 @@ pub fn composed_text(text: &[u8]) -> Page<ROOM>
         page.put_word(b"over 32768 bytes\n");
         return page;
     }
-    match compose_text::compose(text) {
+    match crate::compose_text::compose(text) {
         Ok(c) => put_old(&mut page, c),
         Err(wrong) => put_wrong(&mut page, wrong),
     }

@@ -1,4 +1,4 @@
--- The unit in the last place, and enclosures by fractions.
+-- The unit in the last place, nearness with a unit to each side, and enclosures by fractions.
 pub mod Unit
 pub mod Between
 pub mod Enclosure

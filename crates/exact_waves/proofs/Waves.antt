@@ -15,7 +15,7 @@ use lib.Ieee.{Float, nan, inf, fin, binary32, up, down, size, of_bits, to_bits, 
 use lib.Ieee.Fits.{down_pos}
 use lib.Ieee.Bits.{of_bits-to_bits, to_bits-lt}
 use lib.Ieee.Exact.{HasValue}
-use Rattle.series.specs.Series.{Kind, sine, cosine}
+use Rattle.series.specs.Series.{Wave, sine, cosine}
 use Rattle.series.proofs.Pairs.{sums, Limit, Ksin, Kcos, shift, start, Kat, den_pos, sin-pos, cos-pos}
 use Rattle.series.proofs.Classes.{sin-later, cos-later}
 use Rattle.waves.specs.SinCos.{ratio_of, sine_at, quarter_turn, half_turn, three_quarters, mag_of, at_small, wave_at, wave_bits, sin_of, cos_of}
@@ -42,11 +42,11 @@ use Rattle.waves.proofs.Magnitude.{mag-le, mag-ge, grain}
 use Rattle.waves.proofs.Patterns.{packed, sine-at-lt, sin-direct, sin-below, sin-above, cos-below, cos-above, cos-beyond, small-bits, large-bits, outside-bits}
 
 -- ---- one statement for both: the sign of r (t) is taken as it stands, or turned where x's sign s turns a sine
-abbrev agrees : Kind → Bool → Bool → Bool
+abbrev agrees : Wave → Bool → Bool → Bool
 agrees sine s t = beq s t
 agrees cosine s t = not t
 
-abbrev NearWave : Kind → Float → Float → Type 0
+abbrev NearWave : Wave → Float → Float → Type 0
 NearWave w nan r = r ≡ nan
 NearWave w (inf s) r = r ≡ nan
 NearWave w (fin s m e) nan = 4 * down e < m * up e
@@ -76,7 +76,7 @@ cross : (m X : ℕ) (e : ℤ) → m * up e * 2 ^ 149 ≡ X * 2 ^ 88 * down e →
 cross m X e h =
     eq_of_mul-eq-mul_right (2 ^ 88) (pow_pos 88) (m * up e * 2 ^ 61) (X * down e) (mul_assoc (m * up e) (2 ^ 61) (2 ^ 88) ∙ h ∙ mul_right_comm X (2 ^ 88) (down e))
 
-module _ (w : Kind) (s t g : Bool) (G : agrees w s t ≡ g) (X v : ℕ) where
+module _ (w : Wave) (s t g : Bool) (G : agrees w s t ≡ g) (X v : ℕ) where
   near-at : (x r : Float) → HasValue x s (X * 2 ^ 88) (2 ^ 149) → HasValue r t v (2 ^ 149) → SidedAt g (Kat (shift w)) X (2 ^ 61) (start w X) (start w (2 ^ 61)) 9 v → NearWave w x r
   near-at nan r h k L = absurd h
   near-at (inf a) r h k L = absurd h
@@ -93,7 +93,7 @@ beq-not true = refl
 beq-not false = refl
 
 -- the sine has the sign of x or the other one; the cosine does not look at it
-abbrev sign_of : Kind → ℕ → ℕ
+abbrev sign_of : Wave → ℕ → ℕ
 sign_of sine b = b / 2 ^ 31
 sign_of cosine b = 0
 
@@ -104,7 +104,7 @@ sign_at false t = 1 - t
 sign-minus : (b p : ℕ) → b < 2 ^ 32 → p < 255 * 2 ^ 23 → leb (2 ^ 31) ((1 - b / 2 ^ 31) * 2 ^ 31 + p) ≡ not (leb (2 ^ 31) b)
 sign-minus b p B h = split b (2 ^ 31) (λ l. le-leb (2 ^ 31) ((1 - b / 2 ^ 31) * 2 ^ 31 + p) (omega arith) ∙ sym (ap not (lt-leb (2 ^ 31) b l))) (λ l. lt-leb (2 ^ 31) ((1 - b / 2 ^ 31) * 2 ^ 31 + p) (omega arith) ∙ sym (ap not (le-leb (2 ^ 31) b l)))
 
-sign-agrees : (w : Kind) (g : Bool) (b p : ℕ) → b < 2 ^ 32 → p < 255 * 2 ^ 23 → agrees w (leb (2 ^ 31) b) (leb (2 ^ 31) (sign_at g (sign_of w b) * 2 ^ 31 + p)) ≡ g
+sign-agrees : (w : Wave) (g : Bool) (b p : ℕ) → b < 2 ^ 32 → p < 255 * 2 ^ 23 → agrees w (leb (2 ^ 31) b) (leb (2 ^ 31) (sign_at g (sign_of w b) * 2 ^ 31 + p)) ≡ g
 sign-agrees sine true b p B h = ap (λ (y : Bool). beq (leb (2 ^ 31) b) y) (sign-plus b p h) ∙ same_sign (leb (2 ^ 31) b)
 sign-agrees cosine true b p B h = ap not (lt-leb (2 ^ 31) (0 * 2 ^ 31 + p) (omega arith))
 sign-agrees sine false b p B h = ap (λ (y : Bool). beq (leb (2 ^ 31) b) y) (sign-minus b p B h) ∙ beq-not (leb (2 ^ 31) b)
@@ -119,7 +119,7 @@ x-value b l h =
     (value b (e + 114) m (omega arith) (omega arith) (omega arith) (omega arith))
 
 -- the angle r that |x| is folded onto, with the answer's bits, and how near the sums at |x| are
-pub record Folded (w : Kind) (b : ℕ) (g : Bool) : Type 0 where
+pub record Folded (w : Wave) (b : ℕ) (g : Bool) : Type 0 where
   pub r : ℕ
   pub least : 2 ^ 36 ≤ r
   pub most : r < 2 ^ 62
@@ -265,7 +265,7 @@ sine-value c t r e l m =
     fine : (z k : ℕ) → 133 - z - (k + 5) < 253
     fine z k = omega arith
 
-near-folded : (w : Kind) (b : ℕ) (g : Bool) → b < 2 ^ 32 → 0x3980_0000 ≤ b % 2 ^ 31 → b % 2 ^ 31 ≤ 0x4080_0000 → Folded w b g → NearWave w (of_bits binary32 b) (of_bits binary32 (wave_bits w b))
+near-folded : (w : Wave) (b : ℕ) (g : Bool) → b < 2 ^ 32 → 0x3980_0000 ≤ b % 2 ^ 31 → b % 2 ^ 31 ≤ 0x4080_0000 → Folded w b g → NearWave w (of_bits binary32 b) (of_bits binary32 (wave_bits w b))
 near-folded w b g B l h F =
     let r = F.r in
     let p = r * 2 ^ count_leading_zeros 64 r / 2 ^ 32 * ratio_of r in
@@ -274,7 +274,7 @@ near-folded w b g B l h F =
     (of_bits binary32 b) (of_bits binary32 (wave_bits w b)) (x-value b l h) (sine-value (wave_bits w b) c r (large-bits w b l h ∙ F.bits) F.least F.most)
     (rounds r F.least F.most g (Kat (shift w)) (mag_of (b % 2 ^ 31)) (2 ^ 61) (start w (mag_of (b % 2 ^ 31))) (start w (2 ^ 61)) 9 F.near)
 
-near-large : (w : Kind) (b : ℕ) → b < 2 ^ 32 → 0x3980_0000 ≤ b % 2 ^ 31 → b % 2 ^ 31 ≤ 0x4080_0000 → NearWave w (of_bits binary32 b) (of_bits binary32 (wave_bits w b))
+near-large : (w : Wave) (b : ℕ) → b < 2 ^ 32 → 0x3980_0000 ≤ b % 2 ^ 31 → b % 2 ^ 31 ≤ 0x4080_0000 → NearWave w (of_bits binary32 b) (of_bits binary32 (wave_bits w b))
 near-large sine b B l h =
     split quarter_turn (mag_of (b % 2 ^ 31))
     (λ k. split half_turn (mag_of (b % 2 ^ 31)) (λ j. near-folded sine b false B l h (sine-above b h j)) (λ j. near-folded sine b true B l h (sine-below b h k j)))
@@ -290,7 +290,7 @@ sq_small : (n d : ℕ) → n * 2 ^ 12 ≤ d → n * n * 2 ^ 24 ≤ d * d
 sq_small n d small = omega (arith, mul-le-mul small small)
 
 -- so the terms fall
-falls-small : (n d : ℕ) → n * 2 ^ 12 ≤ d → (w : Kind) (k : ℕ) → 2 * 1 ≤ k → n * n ≤ d * d * Kat (shift w) k
+falls-small : (n d : ℕ) → n * 2 ^ 12 ≤ d → (w : Wave) (k : ℕ) → 2 * 1 ≤ k → n * n ≤ d * d * Kat (shift w) k
 falls-small n d small w k l = le_trans (mul-le-mul n≤d n≤d) (le-mul_of_pos_right (d * d) (positive (shift w)))
   where
     n≤d : n ≤ d
@@ -340,7 +340,7 @@ sided_small K n d a b v L = limit-either true K n d a b 9 unity (16 * v) _ 1 v _
     high : (v l h : ℕ) → l ≤ h → (16 * v + 15 * l) * 1 ≤ 16 * v + 15 * h
     high v l h k = omega arith
 
-small_at : (w : Kind) (b : ℕ) (s : Bool) (v m : ℕ) (a : Bool) (e : ℤ) → of_bits binary32 b ≡ fin a m e → HasValue (fin a m e) s v (2 ^ 149) → m * up e * 2 ^ 12 ≤ down e → NearWave w (fin a m e) (of_bits binary32 (at_small w b))
+small_at : (w : Wave) (b : ℕ) (s : Bool) (v m : ℕ) (a : Bool) (e : ℤ) → of_bits binary32 b ≡ fin a m e → HasValue (fin a m e) s v (2 ^ 149) → m * up e * 2 ^ 12 ≤ down e → NearWave w (fin a m e) (of_bits binary32 (at_small w b))
 unfolding size
 small_at sine b s v m a e E h sm =
     let n = m * up e in
@@ -349,7 +349,7 @@ small_at sine b s v m a e E h sm =
     (subst₂ (λ (y : Bool) (z : ℕ). SidedAt y Ksin n d n d 9 z) (sym (same_sign a)) (sym (steps-is (fin a m e) s v h)) (sided_small Ksin n d n d v (limit₁ n d v (2 ^ (size (v - 1) - 24)) (2 ^ 149) (down_pos e) h.1 sm (below_ulps v))))
 small_at cosine b s v m a e E h sm = subst (λ (r : Float). NearWave cosine (fin a m e) r) (sym one_f32_is) (sided_small Kcos (m * up e) (down e) 1 1 (2 ^ 149) (cos-limit (m * up e) (down e) sm))
 
-near-small : (w : Kind) (b : ℕ) (s : Bool) (v : ℕ) (x : Float) → of_bits binary32 b ≡ x → HasValue x s v (2 ^ 149) → v ≤ 2 ^ 137 → NearWave w x (of_bits binary32 (at_small w b))
+near-small : (w : Wave) (b : ℕ) (s : Bool) (v : ℕ) (x : Float) → of_bits binary32 b ≡ x → HasValue x s v (2 ^ 149) → v ≤ 2 ^ 137 → NearWave w x (of_bits binary32 (at_small w b))
 near-small w b s v nan E h k = absurd h
 near-small w b s v (inf a) E h k = absurd h
 near-small w b s v (fin a m e) E h k =
@@ -358,7 +358,7 @@ near-small w b s v (fin a m e) E h k =
     small_at w b s v m a e E h (le_of_mul-le-mul_right {k = 2 ^ 137} (le_trans (le_of_eq (mul_assoc n (2 ^ 12) (2 ^ 137) ∙ h.1)) (le_trans (mul-le-mul_right d k) (le_of_eq (mul_comm (2 ^ 137) d)))) (pow_pos 137))
 
 -- ---- outside -4 to 4, and at NaN
-near-outside : (w : Kind) (b : ℕ) → 0x4080_0000 < b % 2 ^ 31 → NearWave w (of_bits binary32 b) nan
+near-outside : (w : Wave) (b : ℕ) → 0x4080_0000 < b % 2 ^ 31 → NearWave w (of_bits binary32 b) nan
 near-outside w b h =
     split (b % 2 ^ 31) 0x7f80_0000
     (λ l. let v = finite-value b l in far (of_bits binary32 b) (leb (2 ^ 31) b) v.0 v.1 (size-lt 0x4080_0000 (b % 2 ^ 31) (2 ^ 151) v.0 (inr (lit≤ tt, refl)) v.2 h))
@@ -382,7 +382,7 @@ near-outside w b h =
         go : (d : ℕ) → 4 * d * 2 ^ 149 ≡ 2 ^ 151 * d
         go d = times d (2 ^ 149)
 
-near-bits : (w : Kind) (b : ℕ) → b < 2 ^ 32 → NearWave w (of_bits binary32 b) (of_bits binary32 (wave_bits w b))
+near-bits : (w : Wave) (b : ℕ) → b < 2 ^ 32 → NearWave w (of_bits binary32 b) (of_bits binary32 (wave_bits w b))
 near-bits w b B =
     split (b % 2 ^ 31) 0x3980_0000
     (λ l.
@@ -390,7 +390,7 @@ near-bits w b B =
     subst (λ (c : ℕ). NearWave w (of_bits binary32 b) (of_bits binary32 c)) (sym (small-bits w b l)) (near-small w b (leb (2 ^ 31) b) v.0 (of_bits binary32 b) refl v.1 v.2))
     (λ l. split 0x4080_0000 (b % 2 ^ 31) (λ h. subst (λ (r : Float). NearWave w (of_bits binary32 b) r) (sym (ap (of_bits binary32) (outside-bits w b h) ∙ the-nan)) (near-outside w b h)) (λ h. near-large w b B l h))
 
-near-wave : (w : Kind) (x : Float) → T (fits binary32 x) → NearWave w x (of_bits binary32 (wave_bits w (to_bits binary32 x)))
+near-wave : (w : Wave) (x : Float) → T (fits binary32 x) → NearWave w x (of_bits binary32 (wave_bits w (to_bits binary32 x)))
 near-wave w x F = subst (λ (y : Float). NearWave w y (of_bits binary32 (wave_bits w (to_bits binary32 x)))) (of_bits-to_bits binary32 x F) (near-bits w (to_bits binary32 x) (to_bits-lt binary32 x F))
 
 -- the theorems, for every f32

@@ -1,4 +1,4 @@
--- Terms and powers of e for exp; the area tangent for ln.
+-- The units to the two sides of a result; terms and powers of e for exp; the area tangent for ln.
 pub mod Units
 pub mod Terms
 mod PowerOfTwo

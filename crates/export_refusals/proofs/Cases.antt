@@ -9,7 +9,7 @@ use Rattle.std.specs.Prelude.{Result, Ok, Err, IfErr}
 use Rattle.std.proofs.lemmas.Bool.{and_parts}
 use Rattle.refusal.specs.Number.{number_of, answer_number}
 use Rattle.refusal.specs.declared.Refusal.{Refusal}
-use Rattle.record_chain.specs.Chain.{member}
+use Rattle.records.specs.Chain.{member}
 use Rattle.sheet_refusals.specs.Refusals.{Among}
 use Rattle.export_refusals.specs.Exports.{OneOf}
 

@@ -10,14 +10,14 @@ use lib.Dec.{leb}
 use lib.ListN.{length}
 use Rattle.records.specs.declared.Form.{Form}
 use Rattle.records.specs.Record.{form64}
-use Rattle.record_chain.specs.Chain.{member, chain_of}
+use Rattle.records.specs.Chain.{member, chain_of}
 use Rattle.circuit.specs.Read as read
 use Rattle.circuit.specs.declared.Circuit.{Circuit}
-use Rattle.circuit_write.specs.Written as written
-use Rattle.wide_circuit.specs.Wide.{form128, wide_by, wide_of}
+use Rattle.circuit.specs.Written as written
+use Rattle.circuit.specs.Wide.{form128, wide_by, wide_of}
 use Rattle.port_circuit.specs.Words.{words_from, circuit_of_words}
 use Rattle.port_circuit.specs.Exports as narrow
-use Rattle.port_wide.specs.Exports as wide
+use Rattle.port_circuit.specs.WideExports as wide
 use Rattle.sheet_refusals.specs.Refusals.{Among}
 use Rattle.sheet_refusals.proofs.Chain.{chain-in}
 use Rattle.sheet_refusals.proofs.Sheet.{read-refused}

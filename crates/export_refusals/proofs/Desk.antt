@@ -10,15 +10,15 @@ use lib.Dec.{leb, ltb}
 use lib.IntN.{ℤ}
 use lib.ListN.{length}
 use lib.Ieee.{Float, binary32, of_bits}
-use Rattle.record_chain.specs.Chain.{member}
+use Rattle.records.specs.Chain.{member}
 use Rattle.figures.specs.Figure.{figure_of}
 use Rattle.figures.specs.declared.Printed.{Printed}
 use Rattle.tariff.specs.Price.{tariff_good, first_band, figure_price, printed_price, price_of}
 use Rattle.totals.specs.Total.{prices_good, total_of}
-use Rattle.trace_lines.specs.Lines.{trace_lines}
-use Rattle.trace_lines.specs.Trace.{rises}
-use Rattle.traces.specs.Lines.{ready, compared_by, compared_of}
-use Rattle.computed_trace.specs.Computed as computed
+use Rattle.traces.specs.Lines.{trace_lines}
+use Rattle.traces.specs.Trace.{rises}
+use Rattle.traces.specs.Compared.{ready, compared_by, compared_of}
+use Rattle.traces.specs.Computed as computed
 use Rattle.port_state.specs.Words.{floats_of}
 use Rattle.port_figures.specs.Exports.{figure_answer}
 use Rattle.answer_words.specs.Words.{short}

@@ -8,7 +8,7 @@ use lib.ListN.{length}
 use lib.Ieee.{Float, binary32, of_bits}
 use Rattle.refusal.specs.Number.{answer_number}
 use Rattle.layers.specs.declared.IonoState.{IonoState}
-use Rattle.record_chain.specs.Chain.{member}
+use Rattle.records.specs.Chain.{member}
 use Rattle.parabolas.specs.Bendy.{bendy_of, pen_of, layer_answer_by, bendy_answer, pen_answer}
 use Rattle.port_state.specs.Ports.{Ported}
 use Rattle.port_state.specs.State.{state_words, state_of}

@@ -9,12 +9,12 @@ use lib.Ieee.{binary32, of_bits}
 use Rattle.std.specs.Prelude.{Result, IfErr}
 use Rattle.refusal.specs.Number.{answer_number}
 use Rattle.refusal.specs.declared.Refusal.{Refusal}
-use Rattle.record_chain.specs.Chain.{member}
+use Rattle.records.specs.Chain.{member}
 use Rattle.layers.specs.Owners.{owned_by}
 use Rattle.layers.specs.declared.IonoState.{IonoState}
 use Rattle.layers.specs.declared.LayerMuf.{LayerMuf}
 use Rattle.heights.specs.Gethp.{gethp_of}
-use Rattle.scan_angles.specs.Angles.{distance_step_of, scan_by, sang_of}
+use Rattle.reflectrix.specs.Angles.{distance_step_of, scan_by, sang_of}
 use Rattle.reflectrix.specs.Fobby.{room_for, outcome_by, fobby_outcome}
 use Rattle.reflectrix.specs.declared.Ionogram.{Ionogram}
 use Rattle.sounding.specs.Genion.{genion_answer}
@@ -23,9 +23,9 @@ use Rattle.slot_sheet.specs.Sheet as slot
 use Rattle.port_state.specs.Ports.{Ported}
 use Rattle.port_state.specs.State.{state_words, state_of}
 use Rattle.answer_words.specs.Words.{short}
-use Rattle.ionogram_words.specs.Sang.{unless_short, sang_words}
-use Rattle.line_words.specs.Lines.{lines_of_words}
-use Rattle.port_layouts.specs.Layouts.{ionogram_of}
+use Rattle.port_ionogram.specs.Sang.{unless_short, sang_words}
+use Rattle.port_state.specs.Lines.{lines_of_words}
+use Rattle.port_ionogram.specs.Layouts.{ionogram_of}
 use Rattle.port_ionogram.specs.Exports.{port_selmod, rows_into, port_genion, port_alosfv, PortedCells, cells_unless_short, port_fobby, sheet_into, sheet_on, sheet_cells_on, sheet_unless_short, port_sheet}
 use Rattle.sheet_refusals.specs.Refusals.{Among}
 use Rattle.export_refusals.specs.Exports.{OneOf, sang_numbers, selmod_numbers, genion_numbers, alosfv_numbers, fobby_numbers, port_sheet_numbers}

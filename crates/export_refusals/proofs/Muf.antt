@@ -11,27 +11,27 @@ use lib.ListN.{length, get_or}
 use lib.Ieee.{Float, nan}
 use Rattle.scalar.specs.F32.{◌≤f◌}
 use Rattle.scalar.specs.Literals.{f0}
-use Rattle.record_chain.specs.Chain.{member}
+use Rattle.records.specs.Chain.{member}
 use Rattle.layers.specs.declared.IonoState.{IonoState}
 use Rattle.layers.specs.declared.LayerParams.{LayerParams}
 use Rattle.layers.specs.declared.EsParams.{EsParams}
 use Rattle.heights.specs.Gethp.{gethp_of}
 use Rattle.deciles.specs.F2dis.{icc_of, f2dis_of}
-use Rattle.controlling_slot.specs.Controlling.{controlling_of}
+use Rattle.layer_mufs.specs.Controlling.{controlling_of}
 use Rattle.layer_mufs.specs.declared.PathNumbers.{PathNumbers}
-use Rattle.sporadic.specs.Sporadic.{start_of, row_at, es_from}
-use Rattle.sporadic.specs.declared.EsSearch.{EsSearch}
+use Rattle.muf.specs.Sporadic.{start_of, row_at, es_from}
+use Rattle.muf.specs.declared.sporadic.EsSearch.{EsSearch}
 use Rattle.muf.specs.declared.MufHour.{MufHour}
-use Rattle.muf.specs.Curmuf.{in_domain, lists_reach, muf_from_search_by, muf_from_search_with, muf_of_rows_with, row_count_of, flat_with, flat_of}
+use Rattle.muf.specs.Curmuf.{in_domain, lists_reach, muf_from_search_by, muf_from_search_with, muf_of_rows_with, row_count_of, flat_muf_with, flat_muf_of}
 use Rattle.nominal.specs.Nommuf.{path_taken, nommuf_of}
-use Rattle.nominal_factors.specs.Factors.{counts_agree}
+use Rattle.nominal.specs.Factors.{counts_agree}
 use Rattle.port_state.specs.State.{state_words, state_of}
 use Rattle.port_state.specs.Ports.{Ported, points_of}
 use Rattle.port_state.specs.Words.{number}
-use Rattle.deviation_words.specs.Floats.{floats}
-use Rattle.deviation_words.specs.F2disWords.{f2dis_by, f2dis_left}
+use Rattle.port_muf.specs.Floats.{floats}
+use Rattle.port_muf.specs.F2disWords.{f2dis_by, f2dis_left}
 use Rattle.port_muf.specs.Exports.{leaves, path_numbers_of, done_left, curmuf_by, HourLeft, curmuf_left}
-use Rattle.port_nominal.specs.Exports.{nominal_into, nominal_words, word_rows, words_reach, five_at_most, nominal_left}
+use Rattle.port_muf.specs.NominalExports.{nominal_into, nominal_words, word_rows, words_reach, five_at_most, nominal_left}
 use Rattle.sheet_refusals.specs.Refusals.{Among}
 use Rattle.sheet_refusals.proofs.Muf.{flat-refused}
 use Rattle.sheet_refusals.proofs.Sheet.{deciles-right}
@@ -65,8 +65,8 @@ unfolding member
 unreached true s step f2d clat clck c = refl
 unreached false s step f2d clat clck c = refl
 
-reached-or-not : (b : Bool) (s : IonoState) (es f2d clat clck : List Float) (c : PathNumbers) → lists_reach (controlling_of s) (length f2d) (length clat) (length clck) ≡ b → IfErr (flat_of s es f2d clat clck c) (Among curmuf_numbers)
-unfolding flat_with muf_of_rows_with muf_from_search_with member
+reached-or-not : (b : Bool) (s : IonoState) (es f2d clat clck : List Float) (c : PathNumbers) → lists_reach (controlling_of s) (length f2d) (length clat) (length clck) ≡ b → IfErr (flat_muf_of s es f2d clat clck c) (Among curmuf_numbers)
+unfolding flat_muf_with muf_of_rows_with muf_from_search_with member
 reached-or-not true s es f2d clat clck c e =
     flat-refused (Among curmuf_numbers) refl refl refl s es f2d clat clck c (deciles-right (controlling_of s) (length f2d) (length clat) (length clck) e) e
 reached-or-not false s es f2d clat clck c e =
@@ -84,7 +84,7 @@ pub curmuf-numbers : (state es : List ℕ) (deciles : List Float) (clat clck num
 unfolding curmuf_left done_left member
 curmuf-numbers state es deciles clat clck numbers out =
     let s = state_of state in
-    let d = flat_of s (floats es) deciles (floats clat) (floats clck) (path_numbers_of numbers) in
+    let d = flat_muf_of s (floats es) deciles (floats clat) (floats clck) (path_numbers_of numbers) in
     curmuf-by (ltb (length state) state_words) (ltb (length numbers) 4) (ltb (length out) 54) state es out _
     (by-answer curmuf_numbers (λ a. (done_left a state es out).number) (λ a. refl) (λ r. refl) d
     (reached-or-not (lists_reach (controlling_of s) (length deciles) (length (floats clat)) (length (floats clck))) s (floats es) deciles (floats clat) (floats clck) (path_numbers_of numbers) refl))

@@ -8,14 +8,14 @@ use lib.ListN.{length}
 use Rattle.std.specs.Prelude.{Option, Result, Ok, Err, IfErr}
 use Rattle.refusal.specs.Number.{number_of, answer_number}
 use Rattle.refusal.specs.declared.Refusal.{Refusal}
-use Rattle.record_chain.specs.Chain.{member}
+use Rattle.records.specs.Chain.{member}
 use Rattle.circuit_sheet.specs.CircuitSheet.{sheet_of}
 use Rattle.circuit_sheet.specs.declared.Sheet.{Sheet}
 use Rattle.sheet_text.specs.SheetText.{sheet_text}
-use Rattle.marking_answer.specs.Answer.{sheet_most, sized_by, sized_of, text_marked_by, text_marked}
+use Rattle.marking.specs.Answer.{sheet_most, sized_by, sized_of, text_marked_by, text_marked}
 use Rattle.marking.specs.Marked.{length_filled, file_in, sheet_in, sheet_marked, marked_of}
 use Rattle.port_mark.specs.Exports as mark
-use Rattle.lent_text.specs.Left as lent
+use Rattle.port_text.specs.Left as lent
 use Rattle.port_text.specs.Exports.{sheet_left}
 use Rattle.sheet_refusals.specs.Refusals as programs
 use Rattle.sheet_refusals.proofs.Sheet.{sheet-refusals}

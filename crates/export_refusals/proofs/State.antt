@@ -7,9 +7,9 @@ use Rattle.refusal.specs.declared.Refusal.{Refusal}
 use Prim.Native.Nat.{ℕ, ◌/◌, ◌%◌}
 use lib.Dec.{leb, ltb, eqb}
 use lib.ListN.{length}
-use Rattle.record_chain.specs.Chain.{member}
-use Rattle.slots.specs.FromLayers as layers
-use Rattle.slots.specs.Ionset as ionset
+use Rattle.records.specs.Chain.{member}
+use Rattle.layers.specs.FromLayers as layers
+use Rattle.layers.specs.Ionset as ionset
 use Rattle.layers.specs.declared.IonoState.{IonoState}
 use Rattle.layers.specs.declared.LayerParams.{LayerParams}
 use Rattle.profile.specs.Lecden.{lecden_answer_by, lecden_answer}

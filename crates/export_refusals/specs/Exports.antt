@@ -1,14 +1,14 @@
 -- Which numbers each export can answer, and no other: 0 where it answers, else the refusal's. First the table, grouped as in include/frequency_sheet.h, then what is said of it: for all lists lent, of any length and with any numbers. An export's contract equates what it returns with the definition named here.
 use Rattle.std.specs.Prelude.{true, List, [], ◌∷◌, ◌≡◌, ℕ, ℤ, Float}
-use Rattle.record_chain.specs.Chain.{member}
+use Rattle.records.specs.Chain.{member}
 use Rattle.port_circuit.specs.Exports.{port_read, port_write}
-use Rattle.port_wide.specs.Exports.{port_read128, port_write128}
+use Rattle.port_circuit.specs.WideExports.{port_read128, port_write128}
 use Rattle.port_layers.specs.Exports.{port_from_layers, port_ionset, port_lecden, port_owner}
 use Rattle.port_heights.specs.Exports.{gethp_left, gethp_scan_left, reading_left, bendy_left, pen_left, xlin_left}
-use Rattle.deviation_words.specs.F2disWords.{f2dis_left}
+use Rattle.port_muf.specs.F2disWords.{f2dis_left}
 use Rattle.port_muf.specs.Exports.{curmuf_left}
-use Rattle.port_nominal.specs.Exports.{nominal_left}
-use Rattle.ionogram_words.specs.Sang.{sang_words}
+use Rattle.port_muf.specs.NominalExports.{nominal_left}
+use Rattle.port_ionogram.specs.Sang.{sang_words}
 use Rattle.port_ionogram.specs.Exports.{port_selmod, port_genion, port_alosfv, port_fobby, port_sheet}
 use Rattle.port_mark.specs.Exports.{mark_left}
 use Rattle.port_text.specs.Exports.{sheet_left}

@@ -14,9 +14,9 @@ use Rattle.lines.specs.Text.{space, tens_by, decimal_in, decimal_of, joined}
 use Rattle.figures.specs.Figure.{signed_tenths, figure_of}
 use Rattle.figures.specs.Nearest.{nearest}
 use Rattle.figures.specs.declared.Printed.{Printed}
-use Rattle.aligned.specs.Aligned.{repeated}
-use Rattle.figure_text.specs.FigureText.{point, tenths_text, figure_text}
-use Rattle.figure_text.proofs.Widths.{padded}
+use Rattle.lines.specs.Aligned.{repeated}
+use Rattle.figures.specs.FigureText.{point, tenths_text, figure_text}
+use Rattle.figures.proofs.figure_text.Widths.{padded}
 use Rattle.figure_laws.specs.Text.{Texts}
 
 value : ℕ → List ℕ → ℕ

@@ -2,7 +2,7 @@
 use Rattle.std.specs.Prelude.{◌≡◌, ℕ, Float}
 use Rattle.figures.specs.Figure.{figure_of}
 use Rattle.figures.specs.declared.Printed.{Printed}
-use Rattle.figure_text.specs.FigureText.{figure_text}
+use Rattle.figures.specs.FigureText.{figure_text}
 
 -- figures of two MUFs are the same five characters just where their tenths are the same
 pub record Texts : Type 0 where

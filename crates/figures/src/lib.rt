@@ -2,6 +2,9 @@
 // the even one, and the figure of a MUF in tenths.
 #![tactic(auto)]
 
+pub mod decimal_text;
+pub mod figure_text;
+
 ghost use Rattle.std.specs.Prelude.{◌≡◌, true, false, ◌<◌, min};
 ghost use Rattle.figures.specs.Nearest.{nearest as nearest_of, past, times_of};
 ghost use Rattle.figures.specs.Figure.{signed_tenths, figure_of, figure_number, figure_tenths};

@@ -19,8 +19,3 @@ verdict_from n (o ∷ os) (t ∷ ts) = cond (same_bytes o t) (verdict_from (n + 
 
 unfoldable pub verdict_of : List ℕ → List ℕ → Option ℕ
 verdict_of ours theirs = verdict_from 1 (lines_of ours) (lines_of theirs)
-
--- the number of a verdict: 0 for the same, else the line's
-abbrev pub verdict_line : Option ℕ → ℕ
-verdict_line None = 0
-verdict_line (Some n) = n

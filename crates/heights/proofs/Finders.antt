@@ -2,9 +2,9 @@
 use mathlib.Core.Path.{◌≡◌, refl, sym, ap}
 use lib.Ieee.{Float}
 use Rattle.layers.specs.declared.IonoState.{IonoState}
-use Rattle.walk.specs.Walk.{EachF32}
+use Rattle.heights.specs.Walk.{EachF32}
 use Rattle.heights.specs.Gethp.{Finder, gethp_of, gethp_scan_of}
-use Rattle.heights.specs.Walk.{gethp_walk_of}
+use Rattle.heights.specs.GethpWalk.{gethp_walk_of}
 use Rattle.heights.specs.declared.Heights.{Heights}
 use Rattle.heights.proofs.Walks.{gethp-read-so}
 use Rattle.heights.proofs.Whole.{scans-same}

@@ -6,3 +6,5 @@ pub mod Whole
 pub mod Segments
 pub mod Finders
 pub mod SameReads
+pub mod walk
+pub mod walk_apart

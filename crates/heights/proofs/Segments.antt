@@ -11,9 +11,9 @@ use Rattle.layers.specs.declared.IonoState.{IonoState}
 use Rattle.profile.specs.Rising.{rises_of}
 use Rattle.readings.specs.Scan.{profile_interpolate_of, profile_segment_of}
 use Rattle.readings.proofs.Segments.{search-within}
-use Rattle.forty_reads.specs.Densities.{ysq_of}
+use Rattle.heights.specs.Densities.{ysq_of}
 use Rattle.heights.specs.Gethp.{cursor_by, heights_by, gethp_of}
-use Rattle.xlin.specs.Xlin.{xlin_segment_of}
+use Rattle.readings.specs.Xlin.{xlin_segment_of}
 use Rattle.heights.specs.Segments.{SegmentsFound}
 
 segment-by : (r : Bool) (htr fnsq : List Float) (fr ht : Float) (segment : ℕ) (ysq : ℕ → ℕ → Float) (c : ℕ) → (heights_by r htr fnsq fr ht segment ysq c).segment ≡ segment

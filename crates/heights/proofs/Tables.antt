@@ -6,9 +6,9 @@ use Prim.Native.Nat.{ℕ, ◌/◌, ◌%◌}
 use lib.Ieee.{Float}
 use Rattle.scalar.specs.F32.{◌≥f◌}
 use Rattle.scalar.specs.Literals.{f0}
-use Rattle.forty_reads.specs.Nodes.{ig_at, ib_at}
-use Rattle.forty_reads.specs.Densities.{cut_of, ysq_of}
-use Rattle.forty_reads.specs.Walk.{read_at, turn_of, ysq_walk_of, ysq_read_by, placed, place_at, flat, walk_table, scan_table, table_by}
+use Rattle.heights.specs.Nodes.{ig_at, ib_at}
+use Rattle.heights.specs.Densities.{cut_of, ysq_of}
+use Rattle.heights.specs.ReadsByWalk.{read_at, turn_of, ysq_walk_of, ysq_read_by, placed, place_at, flat, walk_table, scan_table, table_by}
 use Rattle.heights.specs.Gethp.{hp_of}
 
 walk-sum : (up : Bool) (density : ℕ → Float) → hp_of (flat (placed (place_at up) density 40)) 20 ≡ hp_of (λ ig ib. density (turn_of up ig ib)) 20

@@ -18,15 +18,15 @@ use Rattle.readings.specs.Scan.{segment_number, reading_of, profile_interpolate_
 use Rattle.readings.specs.Cursor.{count_of}
 use Rattle.readings.specs.declared.Reading.{Reading}
 use Rattle.readings.specs.declared.Read.{Read}
-use Rattle.walk.specs.Walk.{EachF32, Rising, cursor_before, scanned_read, moves_of}
-use Rattle.walk.proofs.Walks.{reads-are-scans, segment-after, cursor-after, moves-bound}
-use Rattle.forty_reads.specs.Nodes.{xnpl, twdiv, height_of, height_at, ig_at, ib_at}
-use Rattle.forty_reads.specs.Densities.{cut_of, ysq_of}
-use Rattle.forty_reads.specs.Walk.{read_at, cursor_after, turn_of, ysq_walk_of}
-use Rattle.forty_reads.proofs.Rise.{all, all-at, height-fits, reads-orderly}
+use Rattle.heights.specs.Walk.{EachF32, Rising, cursor_before, scanned_read, moves_of}
+use Rattle.heights.proofs.walk.Walks.{reads-are-scans, segment-after, cursor-after, moves-are, moves-bound}
+use Rattle.heights.specs.Nodes.{xnpl, twdiv, height_of, height_at, ig_at, ib_at}
+use Rattle.heights.specs.Densities.{cut_of, ysq_of}
+use Rattle.heights.specs.ReadsByWalk.{read_at, cursor_after, turn_of, ysq_walk_of}
+use Rattle.heights.proofs.forty_reads.Rise.{all, all-at, height-fits, reads-orderly}
 use Rattle.heights.specs.Weights.{wt}
 use Rattle.heights.specs.Gethp.{mup_of, hp_of, heights_by, gethp_by, cursor_by, gethp_of, gethp_scan_of}
-use Rattle.heights.specs.Walk.{gethp_read_of}
+use Rattle.heights.specs.GethpWalk.{gethp_read_of}
 use Rattle.heights.specs.declared.Heights.{Heights}
 
 -- ---- the rising test at each height
@@ -75,6 +75,10 @@ module _ (htr fnsq : List Float) (ht : Float) (held : EachF32 htr) (rises : T (r
       cursor-after htr fnsq (height_at (at htr 0) ht) 40 held (rising htr rises) (height-fits (at htr 0) ht (held 0) fine) (reads-orderly (at htr 0) ht (held 0) fine) k h
 
   -- the sum over the forty reads of the cursor's distance from before to after
+  pub moves-sum : moves_of htr fnsq (height_at (at htr 0) ht) 40 ≡ cursor_after htr fnsq ht 40
+  moves-sum =
+      moves-are htr fnsq (height_at (at htr 0) ht) 40 held (rising htr rises) (height-fits (at htr 0) ht (held 0) fine) (reads-orderly (at htr 0) ht (held 0) fine) 40 (le_refl 40)
+
   pub moves : moves_of htr fnsq (height_at (at htr 0) ht) 40 ≤ 49
   moves =
       moves-bound htr fnsq (height_at (at htr 0) ht) 40 held (rising htr rises) (height-fits (at htr 0) ht (held 0) fine) (reads-orderly (at htr 0) ht (held 0) fine) 40 (le_refl 40)

@@ -15,14 +15,14 @@ use Rattle.layers.specs.State.{with_profile}
 use Rattle.profile.specs.Rising.{rises_of}
 use Rattle.readings.specs.Scan.{profile_interpolate_of, profile_segment_of}
 use Rattle.readings.specs.Cursor.{count_of}
-use Rattle.walk.specs.Walk.{EachF32}
-use Rattle.walk.proofs.Cursor.{count-bound}
-use Rattle.forty_reads.specs.Nodes.{height_at}
-use Rattle.forty_reads.specs.Densities.{ysq_of}
-use Rattle.forty_reads.proofs.Rise.{reads-rise-finite}
+use Rattle.heights.specs.Walk.{EachF32}
+use Rattle.heights.proofs.walk.Cursor.{count-bound}
+use Rattle.heights.specs.Nodes.{height_at}
+use Rattle.heights.specs.Densities.{ysq_of}
+use Rattle.heights.proofs.forty_reads.Rise.{reads-rise-finite}
 use Rattle.heights.specs.Gethp.{heights_by, gethp_by, cursor_by, gethp_of, gethp_scan_of}
 use Rattle.heights.specs.Reads.{difference_of, walks, FortyReads, ExactRule}
-use Rattle.heights.proofs.Walks.{walk-is-scan, segment-counts, cursor-starts, cursor-counts, moves}
+use Rattle.heights.proofs.Walks.{walk-is-scan, segment-counts, cursor-starts, cursor-counts, moves-sum, moves}
 
 -- the answer is the same under both values of the stored rising mark: of the state `gethp` reads the profile only
 pub mark-unread : (s : IonoState) (mark : Bool) (fxx : Float) → gethp_of (with_profile s s.htr s.fnsq mark) fxx ≡ gethp_of s fxx
@@ -102,7 +102,7 @@ forty-reads s fxx held rises =
       segments = segment-counts htr fnsq ht held rises fine;
       handed = λ e. counted s fxx e rises ∙ sym (cursor-counts htr fnsq ht held rises fine 39 (omega arith));
       unwalked = λ e. cursor-up s fxx ∙ ap (λ (w : Bool). cond w (cursor_by (rises_of htr) htr ht) 0) e;
-      moved = moves htr fnsq ht held rises fine;
+      moved = (moves-sum htr fnsq ht held rises fine, moves htr fnsq ht held rises fine);
       rising = reads-rise-finite (at htr 0) ht (held 0) fine;
     }
 

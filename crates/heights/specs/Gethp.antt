@@ -1,5 +1,5 @@
 -- `gethp`: the virtual and the true height of a vertical frequency, off the density profile, with the cursor that the paper adds and the segment of the true height: that of the search over the densities.
--- The densities are those of forty full scans. On a rising profile the code reads them by one walk; that this is the same is proved (`walk-is-scan`). Where the state's switch is on and the reflecting height is above the lowest one,
+-- The densities are those of forty full scans. On a rising profile the code reads them by one walk; that this is the same is `FortyReads.scanned`, proved of every such profile (`forty-reads`). Where the state's switch is on and the reflecting height is above the lowest one,
 -- no density is read: the virtual height is the integral evaluated.
 use Rattle.std.specs.Prelude.{Bool, true, false, ◌&&◌, List, ℕ, zero, suc, Float}
 use Rattle.scalar.specs.F32.{◌+f◌, ◌-f◌, ◌*f◌, ◌/f◌, ◌≤f◌, ◌>f◌, at}
@@ -9,9 +9,9 @@ use Rattle.layers.specs.declared.IonoState.{IonoState}
 use Rattle.profile.specs.Rising.{rises_of}
 use Rattle.readings.specs.Scan.{profile_interpolate_of, profile_segment_of, unsearched}
 use Rattle.readings.specs.Cursor.{count_of}
-use Rattle.height_integral.specs.Exact.{virtual_height_exact_of}
-use Rattle.forty_reads.specs.Nodes.{xnpl, twdiv, height_at}
-use Rattle.forty_reads.specs.Densities.{ysq_of}
+use Rattle.heights.specs.Exact.{virtual_height_exact_of}
+use Rattle.heights.specs.Nodes.{xnpl, twdiv, height_at}
+use Rattle.heights.specs.Densities.{ysq_of}
 use Rattle.heights.specs.Weights.{wt}
 use Rattle.heights.specs.declared.Heights.{Heights}
 

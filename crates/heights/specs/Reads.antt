@@ -8,10 +8,10 @@ use Rattle.layers.specs.State.{with_exact}
 use Rattle.layers.specs.declared.IonoState.{IonoState}
 use Rattle.readings.specs.Scan.{segment_number, profile_interpolate_of, profile_segment_of, reading_of}
 use Rattle.readings.specs.Cursor.{count_of}
-use Rattle.walk.specs.Walk.{moves_of}
-use Rattle.height_integral.specs.Exact.{virtual_height_exact_of}
-use Rattle.forty_reads.specs.Nodes.{height_at}
-use Rattle.forty_reads.specs.Walk.{read_at, cursor_after}
+use Rattle.heights.specs.Walk.{moves_of}
+use Rattle.heights.specs.Exact.{virtual_height_exact_of}
+use Rattle.heights.specs.Nodes.{height_at}
+use Rattle.heights.specs.ReadsByWalk.{read_at, cursor_after}
 use Rattle.heights.specs.Gethp.{gethp_of}
 
 -- the reflecting height less the lowest one
@@ -46,8 +46,8 @@ pub record FortyReads (s : IonoState) (fxx : Float) : Type 0 where
   pub handed : walks s fxx ≡ true → (gethp_of s fxx).cursor ≡ cursor_after s.htr s.fnsq (difference_of s fxx) 40
   -- and 0 where they do not, as where the exact rule is used
   pub unwalked : walks s fxx ≡ false → (gethp_of s fxx).cursor ≡ 0
-  -- its moves over the forty reads
-  pub moved : moves_of s.htr s.fnsq (read_height s fxx) 40 ≤ 49
+  -- its moves over the forty reads sum to the place where it stands after the last, so none is back, and they are 49 places at most
+  pub moved : (moves_of s.htr s.fnsq (read_height s fxx) 40 ≡ cursor_after s.htr s.fnsq (difference_of s fxx) 40) × (moves_of s.htr s.fnsq (read_height s fxx) 40 ≤ 49)
   -- no read is below the one before it, where the lowest height is finite and the difference is not a NaN
   pub rising : T (real (difference_of s fxx)) → T (finite (at s.htr 0)) → (k : ℕ) → suc k < 40 → T (read_height s fxx k ≤f read_height s fxx (suc k))
 

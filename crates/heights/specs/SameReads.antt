@@ -8,11 +8,11 @@ use Rattle.layers.specs.declared.IonoState.{IonoState}
 use Rattle.profile.specs.Rising.{rises_of}
 use Rattle.readings.specs.Scan.{reading_kind, value_of, segment_number, reading_of}
 use Rattle.readings.specs.declared.Reading.{Reading}
-use Rattle.walk.specs.Walk.{EachF32}
-use Rattle.forty_reads.specs.Nodes.{height_at}
-use Rattle.forty_reads.specs.Walk.{read_at}
+use Rattle.heights.specs.Walk.{EachF32}
+use Rattle.heights.specs.Nodes.{height_at}
+use Rattle.heights.specs.ReadsByWalk.{read_at}
 use Rattle.heights.specs.Gethp.{gethp_of, gethp_scan_of}
-use Rattle.heights.specs.Walk.{gethp_walk_of}
+use Rattle.heights.specs.GethpWalk.{gethp_walk_of}
 use Rattle.heights.specs.Reads.{difference_of, read_height}
 use Rattle.heights.specs.declared.Heights.{Heights}
 

@@ -5,7 +5,7 @@ use Rattle.scalar.specs.Literals.{f0}
 use Rattle.layers.specs.declared.IonoState.{IonoState}
 use Rattle.readings.specs.Scan.{profile_segment_of}
 use Rattle.heights.specs.Gethp.{gethp_of}
-use Rattle.xlin.specs.Xlin.{xlin_segment_of}
+use Rattle.readings.specs.Xlin.{xlin_segment_of}
 
 pub record SegmentsFound : Type 0 where
   pub gethp-sought : (s : IonoState) (fxx : Float) → (fxx *f fxx -f at s.fnsq 0 ≤f f0) ≡ false → ((gethp_of s fxx).segment ≡ profile_segment_of s.fnsq s.htr (fxx *f fxx)) × ((gethp_of s fxx).segment ≤ 49)

@@ -1,16 +1,21 @@
 // Heights of a vertical frequency off the profile, by a Gauss rule or the exact one: `gethp`.
 #![tactic(auto)]
 
+pub mod forty_reads;
+pub mod height_integral;
+pub mod integrands;
+pub mod roots;
+
 ghost use Rattle.std.specs.Prelude.{false, ◌&&◌, ◌≡◌, ℕ, ◌<◌, T};
 ghost use Rattle.scalar.specs.F32.{◌≤f◌, ◌>f◌, at};
 ghost use Rattle.scalar.specs.Literals.{f0, f0_9999};
-ghost use Rattle.walk.specs.Walk.{EachF32};
-ghost use Rattle.forty_reads.specs.Walk.{flat, ysq_read_by, cursor_read_by};
+ghost use Rattle.heights.specs.Walk.{EachF32};
+ghost use Rattle.heights.specs.ReadsByWalk.{flat, ysq_read_by, cursor_read_by};
 ghost use Rattle.heights.specs.Gethp.{hp_of, heights_by, gethp_of, gethp_scan_of};
-ghost use Rattle.heights.specs.Walk.{gethp_read_of};
+ghost use Rattle.heights.specs.GethpWalk.{gethp_read_of};
 
-use forty_reads::gethp_densities;
-use height_integral::virtual_height_exact;
+use crate::forty_reads::gethp_densities;
+use crate::height_integral::virtual_height_exact;
 use layers::IonoState;
 use profile::rises_throughout;
 use readings::{Profile, profile_interpolate};
@@ -57,7 +62,7 @@ fn quadrature(ysq: [f32; 40]) -> f32
     requires { (k : ℕ) → k < 40 → T (at ysq k ≤f f0_9999) }
     ensures { result ≡ hp_of (flat ysq) 20 }
 {
-    let mup = integrands::integrands(ysq);
+    let mup = crate::integrands::integrands(ysq);
     let mut hp = 0.0;
     // Stays: the loop is the Rust's, over `ig`. `WT.iter().zip(mup.chunks_exact(2))` keeps the order too, and is no plainer: the two
     // integrands would be a list of two, of which it has to be shown that it is of two; the library has no lemma on chunks in a zip.

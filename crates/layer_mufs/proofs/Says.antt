@@ -19,14 +19,14 @@ use Rattle.hops.specs.declared.Round.{Round}
 use Rattle.heights.specs.Gethp.{gethp_of}
 use Rattle.layers.specs.declared.IonoState.{IonoState}
 use Rattle.layers.specs.declared.LayerMuf.{LayerMuf}
-use Rattle.slot_curves.specs.declared.Slot.{Slot}
-use Rattle.e_lines.specs.Lines.{layer_line_of, read_with}
+use Rattle.profile.specs.declared.slot_curves.Slot.{Slot}
+use Rattle.layer_mufs.specs.LayerLine.{layer_line_of, read_with}
 use Rattle.layer_mufs.specs.Lines.{f2_heights_with, bent_of, both_by, deviations_of, lower_value, upper_value, f2_bent_by, f2_bent_of, f2_line_by, f2_line_with, f2_line_of, f1_found_of, f1_own_by, f1_own_with, f1_line_by, f1_line_with, f1_line_of}
-use Rattle.e_lines.specs.Says.{LineIs}
+use Rattle.layer_mufs.specs.LineSays.{LineIs}
 use Rattle.layer_mufs.specs.Says.{first_refusal_number, DeviationsSay, F2Says, F1Says}
 use Rattle.layer_mufs.specs.declared.PathNumbers.{PathNumbers}
-use Rattle.tangents.specs.declared.F2Tangent.{F2Tangent}
-use Rattle.e_lines.specs.declared.HeightPair.{HeightPair}
+use Rattle.layer_mufs.specs.declared.tangents.F2Tangent.{F2Tangent}
+use Rattle.layer_mufs.specs.declared.e_lines.HeightPair.{HeightPair}
 use Rattle.layer_mufs.specs.declared.Deviations.{Deviations}
 
 both_by_lem : (low high : Result Float Refusal) → let r = both_by low high in let number = first_refusal_number (answer_number low) (answer_number high) in (answer_number r ≡ number) × (lower_value r ≡ cond (eqb number 0) (max_of (result_unwrap_or low f0) f0_01) f0) × (upper_value r ≡ cond (eqb number 0) (max_of (result_unwrap_or high f0) f0_01) f0)

@@ -15,11 +15,11 @@ use Rattle.heights.specs.Gethp.{Finder, gethp_of}
 use Rattle.layers.specs.State.{profile_only}
 use Rattle.layers.specs.declared.IonoState.{IonoState}
 use Rattle.layers.specs.declared.LayerMuf.{LayerMuf}
-use Rattle.slot_curves.specs.declared.Slot.{Slot}
-use Rattle.e_lines.specs.Lines.{tenth_of, layer_line_of, read_with}
+use Rattle.profile.specs.declared.slot_curves.Slot.{Slot}
+use Rattle.layer_mufs.specs.LayerLine.{tenth_of, layer_line_of, read_with}
 use Rattle.layer_mufs.specs.declared.PathNumbers.{PathNumbers}
-use Rattle.tangents.specs.declared.F2Tangent.{F2Tangent}
-use Rattle.e_lines.specs.declared.HeightPair.{HeightPair}
+use Rattle.layer_mufs.specs.declared.tangents.F2Tangent.{F2Tangent}
+use Rattle.layer_mufs.specs.declared.e_lines.HeightPair.{HeightPair}
 use Rattle.layer_mufs.specs.declared.Deviations.{Deviations}
 
 -- the F2 layer

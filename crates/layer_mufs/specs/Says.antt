@@ -11,12 +11,12 @@ use Rattle.hops.specs.Geometry.{geometry_of, geometry_value}
 use Rattle.heights.specs.Gethp.{gethp_of}
 use Rattle.layers.specs.declared.IonoState.{IonoState}
 use Rattle.layers.specs.declared.LayerMuf.{LayerMuf}
-use Rattle.slot_curves.specs.declared.Slot.{Slot}
-use Rattle.e_lines.specs.Lines.{layer_line_of, read_with}
-use Rattle.e_lines.specs.Says.{LineIs}
+use Rattle.profile.specs.declared.slot_curves.Slot.{Slot}
+use Rattle.layer_mufs.specs.LayerLine.{layer_line_of, read_with}
+use Rattle.layer_mufs.specs.LineSays.{LineIs}
 use Rattle.layer_mufs.specs.Lines.{f2_heights_with, bent_of, deviations_of, lower_value, upper_value, f1_found_of}
 use Rattle.layer_mufs.specs.declared.PathNumbers.{PathNumbers}
-use Rattle.tangents.specs.declared.F2Tangent.{F2Tangent}
+use Rattle.layer_mufs.specs.declared.tangents.F2Tangent.{F2Tangent}
 use Rattle.layer_mufs.specs.declared.Deviations.{Deviations}
 
 -- the number of two steps of which the second is taken where the first answers

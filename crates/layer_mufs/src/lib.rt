@@ -1,17 +1,21 @@
 // The F2 and F1 lines of a MUF hour.
 #![tactic(auto)]
 
+pub mod controlling_slot;
+pub mod e_lines;
+pub mod tangents;
+
 ghost use Rattle.std.specs.Prelude.{◌≡◌};
 ghost use Rattle.heights.specs.Gethp.{gethp_of};
 ghost use Rattle.layer_mufs.specs.Lines.{parabolic_of, f2_heights_with, bent_of, deviations_of, f2_bent_of, f2_line_of, f1_found_of, f1_own_with, f1_line_of};
 ghost use Rattle.layer_mufs.specs.Says.{DeviationsSay, F2Says, F1Says};
 
-use e_lines::HeightPair;
+use crate::e_lines::HeightPair;
+use crate::tangents::F2Tangent;
 use hops::{HopGeometry, Ray, Round};
 use layers::{IonoState, LayerMuf};
+use profile::slot_curves::Slot;
 use refusal::Refusal;
-use slot_curves::Slot;
-use tangents::F2Tangent;
 
 // The numbers of a circuit: path length in radians and in kilometres, least takeoff angle in
 // degrees, sunspot number.
@@ -109,7 +113,7 @@ fn f2_bent(
 {
     let f2muf = b.fob;
     let sig = both_deviations(f2d, f2muf, ssn, clat, clck)?;
-    Ok(e_lines::line(sig.lower, sig.upper, b.del, b.hp, ht2, fx2, xhops, f2muf))
+    Ok(crate::e_lines::line(sig.lower, sig.upper, b.del, b.hp, ht2, fx2, xhops, f2muf))
 }
 
 // Stays: t, l, x, f2d, clat, clck and c are no one thing: the profile, its slot, the tangents worked
@@ -136,8 +140,8 @@ fn f1_found(g: HopGeometry, h: HeightPair, fc: f32, fx1: f32) -> LayerMuf
     ensures { result ≡ f1_found_of g h fc fx1 }
 {
     let b = bent(fc, fx1, h, g);
-    let sig = e_lines::tenth(b.fob);
-    e_lines::line(sig, sig, b.del, b.hp, h.ht, fx1, g.xhops, b.fob)
+    let sig = crate::e_lines::tenth(b.fob);
+    crate::e_lines::line(sig, sig, b.del, b.hp, h.ht, fx1, g.xhops, b.fob)
 }
 
 // Where there is an F1 layer.

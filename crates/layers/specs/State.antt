@@ -1,15 +1,25 @@
 -- Reading and changing an `IonoState`. States are built here alone, as whole records, so that of all definitions a further field changes only these and the layout of a state as words.
-use Rattle.std.specs.Prelude.{Bool, false, List, [], ℕ, ℤ, pos, replicate, Float, Result, Ok, Err}
+use Rattle.std.specs.Prelude.{Bool, false, List, [], ℕ, ℤ, pos, replicate, get_or, Float, Result, Ok, Err}
+use Rattle.std.specs.Float.{nan}
 use Rattle.std.specs.Int.Signed.{lt_z}
 use Rattle.scalar.specs.Literals.{f0}
 use Rattle.refusal.specs.declared.Refusal.{Refusal}
 use Rattle.layers.specs.declared.IonoState.{IonoState}
 use Rattle.layers.specs.declared.LayerParams.{LayerParams}
+use Rattle.layers.specs.declared.LayerMuf.{LayerMuf}
 use Rattle.layers.specs.declared.Owner.{Owner}
 
 -- a point past the end of a list, where no code reads
 abbrev pub no_layers : LayerParams
 no_layers = record { fi = []; yi = []; hi = [] }
+
+-- a line past the end of a layer table, where no code reads
+abbrev pub line_past_end : LayerMuf
+line_past_end = record { sigl = nan; sigu = nan; delmuf = nan; hpmuf = nan; htmuf = nan; fvmuf = nan; afmuf = nan; nhopmf = pos 0; yfot = nan; ymuf = nan; yhpf = nan }
+
+-- line i of a layer table
+abbrev pub layer_line_at : List LayerMuf → ℕ → LayerMuf
+layer_line_at layers i = get_or layers i line_past_end
 
 -- `iedp < 0`: the profile alone gives heights
 unfoldable pub profile_only : IonoState → Bool

@@ -1,7 +1,10 @@
 // A control point's layers, a layer's MUF line, and the state over all slots: by value where the
 // Fortran shares COMMON blocks, made by `from_layers` and divided
-// into slots by `ionset` (crate `slots`).
+// into slots by `ionset` (module `slots`).
 #![tactic(auto)]
+
+pub mod layer_rules;
+pub mod slots;
 
 ghost use Rattle.std.specs.Prelude.{◌≡◌, ◌<◌, IfOk};
 ghost use Rattle.layers.specs.Slots.{slot_number_of};

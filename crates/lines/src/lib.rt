@@ -5,6 +5,8 @@
 // a text that is put here can't be refused.
 #![tactic(auto)]
 
+pub mod aligned;
+
 ghost use Rattle.std.specs.Prelude.{List, ℕ, ◌≡◌, [], ◌∷◌};
 ghost use Rattle.lines.specs.Text.{with_text, decimal_of, hex_of, field_of, refused_text};
 

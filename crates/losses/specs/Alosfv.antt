@@ -1,11 +1,11 @@
 -- `alosfv`: a factor of deviative loss for each of slot k's thirty rows. A layer's own rows have zero up to the true height at its MUF; the two rows of a cusp between layers have one at any height.
-use Rattle.std.specs.Prelude.{Bool, true, false, Result, Ok, Err, List, ℕ, zero, suc, ◌+◌, ◌*◌, leb, get_or, set, pos, Float}
-use Rattle.std.specs.Float.{nan}
+use Rattle.std.specs.Prelude.{Bool, true, false, Result, Ok, Err, List, ℕ, zero, suc, ◌+◌, ◌*◌, leb, set, Float}
 use Rattle.scalar.specs.F32.{◌-f◌, ◌*f◌, ◌/f◌, ◌<f◌, ◌≤f◌, negf, at}
 use Rattle.scalar.specs.Literals.{f0, f0_05, f0_1, f0_2, f0_5, f2, f10}
 use Rattle.scalar.specs.Scalar.{max_of}
 use Rattle.exponential.specs.Exp.{exp_of}
 use Rattle.refusal.specs.declared.Refusal.{Refusal}
+use Rattle.layers.specs.State.{layer_line_at}
 use Rattle.layers.specs.declared.IonoState.{IonoState}
 use Rattle.layers.specs.declared.LayerMuf.{LayerMuf}
 use Rattle.reflectrix.specs.declared.Ionogram.{Ionogram}
@@ -100,13 +100,6 @@ with_f1 f ion f1l f2l y1 y2 =
     tail_rows (cusp_of g ion d2 20) ion f2l d2 f0_05 23 7
 
 -- ---- the whole
-
--- past the end, where no code reads
-abbrev pub no_line : LayerMuf
-no_line = record { sigl = nan; sigu = nan; delmuf = nan; hpmuf = nan; htmuf = nan; fvmuf = nan; afmuf = nan; nhopmf = pos 0; yfot = nan; ymuf = nan; yhpf = nan }
-
-abbrev pub layer_line_at : List LayerMuf → ℕ → LayerMuf
-layer_line_at layers i = get_or layers i no_line
 
 abbrev pub above_by : Bool → Factors → IonoState → ℕ → Ionogram → List LayerMuf → Factors
 above_by true f s k ion layers = without_f1 f ion (layer_line_at layers 2) (at s.yi (3 * k + 2))

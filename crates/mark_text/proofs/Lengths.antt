@@ -5,8 +5,8 @@ use native.Mathlib.Omega.{arith}
 use lib.ListN.{get_or}
 use Rattle.lines.specs.Text.{space}
 use Rattle.lines.proofs.Sizes.{AtMost, ◌then◌, word, line-feed, digits-below, times}
-use Rattle.shapes.specs.Mark.{name_of}
-use Rattle.shapes.specs.declared.Mark.{Mark}
+use Rattle.profile.specs.Mark.{name_of}
+use Rattle.profile.specs.declared.shapes.Mark.{Mark}
 use Rattle.mark_text.specs.MarkText.{mark_line, no_mark, mark_line_at, marks_text}
 
 pub name : (m : Mark) → AtMost (name_of m) 11

@@ -1,8 +1,8 @@
 -- The lines of a slot's marks: the height's number, from 1, and the name of the shape that made its density, as in `7 E parabola`.
 use Rattle.std.specs.Prelude.{List, [], ◌∷◌, ◌++◌, ℕ, ◌+◌, get_or}
 use Rattle.lines.specs.Text.{space, line_feed, decimal_of, joined}
-use Rattle.shapes.specs.Mark.{name_of}
-use Rattle.shapes.specs.declared.Mark.{Mark}
+use Rattle.profile.specs.Mark.{name_of}
+use Rattle.profile.specs.declared.shapes.Mark.{Mark}
 
 unfoldable pub mark_line : ℕ → Mark → List ℕ
 mark_line i m = decimal_of (i + 1) ++ ((space ∷ []) ++ (name_of m ++ (line_feed ∷ [])))

@@ -4,15 +4,15 @@
 
 ghost use Rattle.std.specs.Prelude.{◌≡◌, ◌<◌};
 ghost use Rattle.lines.specs.Text.{with_text};
-ghost use Rattle.shapes.specs.Mark.{name_of};
+ghost use Rattle.profile.specs.Mark.{name_of};
 ghost use Rattle.mark_text.specs.MarkText.{mark_line, marks_text};
 
 use lines::Page;
-use shapes::Mark;
+use profile::shapes::Mark;
 
-// Stays: a mark has two words, its name here and another in pictures (`svg_text`); a `From`, which would have to stand in `shapes`,
+// Stays: a mark has two words, its name here and another in pictures (`svg::text`); a `From`, which would have to stand in `shapes`,
 // would not say which of them it gives.
-#[tactic(auto, unfolding(shapes::specs::Mark::name_of))]
+#[tactic(auto, unfolding(profile::specs::Mark::name_of))]
 fn name(m: Mark) -> &'static [u8]
     ensures { result.now ≡ name_of m }
 {

@@ -113,7 +113,7 @@ fn sized(name: &[u8], file: [u8; 128], n: usize) {
     let ours = sheet_text::sheet_text(&FILE);
     let mut sheet: Page<MOST> = Page::new();
     sheet.put_word(ours.text());
-    aligned::put_repeated(&mut sheet, 0, n.saturating_sub(ours.text().len()));
+    lines::aligned::put_repeated(&mut sheet, 0, n.saturating_sub(ours.text().len()));
     trial(name, file, sheet.text());
 }
 

@@ -12,12 +12,12 @@ use lib.Seq.{take_all, length-take-le, get_or-take}
 use Rattle.refusal.specs.declared.Refusal.{Refusal}
 use Rattle.std.specs.Prelude.{Result, Ok, Err}
 use Rattle.records.specs.Record.{form64, word_at}
-use Rattle.record_chain.specs.Chain.{length_good, chain_of}
+use Rattle.records.specs.Chain.{length_good, chain_of}
 use Rattle.circuit.specs.Read.{read_of}
 use Rattle.circuit_sheet.specs.CircuitSheet.{sheet_of}
 use Rattle.sheet_text.specs.SheetText.{sheet_text}
-use Rattle.marking_answer.specs.Answer.{sheet_most, text_marked}
-use Rattle.marking_answer.proofs.Laws.{text-laws}
+use Rattle.marking.specs.Answer.{sheet_most, text_marked}
+use Rattle.marking.proofs.marking_answer.Laws.{text-laws}
 use Rattle.marking.specs.Marked.{size_in, file_in, sheet_in, length_filled, sheet_marked, marked_of}
 use Rattle.marking.specs.Laws.{Filled, input_most}
 use Rattle.marking.proofs.Parts.{part_of}

@@ -14,8 +14,8 @@ use Rattle.circuit_sheet.specs.CircuitSheet.{sheet_of}
 use Rattle.first_difference.specs.Difference.{verdict_of}
 use Rattle.first_difference.specs.Laws.{FirstOther, Ended, carriage_return}
 use Rattle.first_difference.proofs.Laws.{difference-laws}
-use Rattle.marking_answer.specs.Answer.{sheet_most, marking_of, text_marked}
-use Rattle.marking_answer.proofs.Laws.{text-laws, compared}
+use Rattle.marking.specs.Answer.{sheet_most, marking_of, text_marked}
+use Rattle.marking.proofs.marking_answer.Laws.{text-laws, compared}
 use Rattle.marking.specs.Marked.{file_in, sheet_in, length_filled, sheet_marked, marked_of}
 use Rattle.marking.specs.Laws.{Filled, Answers, ours_in, MarkingLaws, MarkingCases}
 use Rattle.marking.proofs.OurText.{sheet-most, sheet-ends}

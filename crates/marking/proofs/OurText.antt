@@ -9,15 +9,15 @@ use Rattle.refusal.specs.declared.Refusal.{Refusal}
 use Rattle.lines.specs.Text.{space, line_feed, decimal_of, joined}
 use Rattle.lines.proofs.Sizes.{refused}
 use Rattle.figures.specs.Figure.{figure_of}
-use Rattle.figure_text.specs.FigureText.{figure_text}
-use Rattle.shapes.specs.Mark.{name_of}
-use Rattle.shapes.specs.declared.Mark.{Mark}
+use Rattle.figures.specs.FigureText.{figure_text}
+use Rattle.profile.specs.Mark.{name_of}
+use Rattle.profile.specs.declared.shapes.Mark.{Mark}
 use Rattle.mark_text.specs.MarkText.{mark_line, no_mark, mark_line_at, marks_text}
 use Rattle.circuit_sheet.specs.declared.Sheet.{Sheet}
 use Rattle.circuit_sheet.specs.declared.SlotRows.{SlotRows}
 use Rattle.circuit_sheet.specs.CircuitSheet.{no_slot_rows, sheet_of}
 use Rattle.sheet_text.specs.SheetText.{call_word, muf_line, call_line, row_line, slot_line, slot_text, slot_text_at, answered_text, sheet_text_by, sheet_text, SlotsFew}
-use Rattle.sheet_lines.proofs.Lengths.{answered-most}
+use Rattle.sheet_text.proofs.sheet_lines.Lengths.{answered-most}
 use Rattle.sheet_text.proofs.SlotCount.{three-slots}
 
 pub sheet-most : (f : List ℕ) → length (sheet_text f) ≤ 8192

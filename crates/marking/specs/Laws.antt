@@ -8,7 +8,7 @@ use Rattle.sheet_text.specs.SheetText.{sheet_text}
 use Rattle.first_difference.specs.Lines.{lines_of}
 use Rattle.first_difference.specs.Closed.{feeds_of, common_of}
 use Rattle.first_difference.specs.Laws.{FirstOther, Ended, carriage_return}
-use Rattle.marking_answer.specs.Answer.{sheet_most}
+use Rattle.marking.specs.Answer.{sheet_most}
 use Rattle.marking.specs.Marked.{size_in, file_in, sheet_in, marked_of}
 
 -- the input has four bytes, and after them as many as they say

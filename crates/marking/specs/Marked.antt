@@ -6,8 +6,8 @@ use Rattle.refusal.specs.declared.Refusal.{Refusal}
 use Rattle.records.specs.Record.{word_at}
 use Rattle.circuit_sheet.specs.CircuitSheet.{sheet_of}
 use Rattle.sheet_text.specs.SheetText.{sheet_text}
-use Rattle.marking_answer.specs.Answer.{text_marked}
-use Rattle.marking_answer.specs.Text.{marking_text}
+use Rattle.marking.specs.Answer.{text_marked}
+use Rattle.marking.specs.Text.{marking_text}
 
 -- the parts of an input: the length of the file, the file, the sheet
 abbrev pub size_in : List ℕ → ℕ

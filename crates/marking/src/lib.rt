@@ -2,6 +2,8 @@
 // such a sheet. The sheet is what `sheet` prints of that file, or differs from some line on.
 #![tactic(auto)]
 
+pub mod marking_answer;
+
 ghost use Rattle.std.specs.Prelude.{◌≡◌};
 ghost use Rattle.marking.specs.Marked.{sheet_marked, marked_of, marked_text};
 
@@ -21,7 +23,7 @@ pub fn mark_sheet(file: &[u8], sheet: &[u8]) -> Result<Option<u64>, Refusal>
     ensures { result ≡ sheet_marked file.now sheet.now }
 {
     let ours = sheet_text::sheet_page(file)?;
-    marking_answer::marked(ours.text(), sheet)
+    crate::marking_answer::marked(ours.text(), sheet)
 }
 
 // The whole input.
@@ -44,6 +46,6 @@ pub fn marking_text(input: &[u8]) -> Page<ROOM>
     ensures { result ≡ marked_text input.now }
 {
     let mut page = Page::new();
-    marking_answer::put_marking(&mut page, mark(input));
+    crate::marking_answer::put_marking(&mut page, mark(input));
     page
 }

@@ -1,5 +1,5 @@
 -- The row that is rewritten is one of those that were worked: a search that holds no row still has the MUF of its start, and then nothing is rewritten.
-use Rattle.sporadic.specs.declared.Rewrite.{Rewrite}
+use Rattle.muf.specs.declared.sporadic.Rewrite.{Rewrite}
 use Rattle.refusal.specs.declared.Refusal.{Refusal}
 use Rattle.std.specs.Prelude.{Option, Some, None, Result, Ok, Err}
 use mathlib.Core.Path.{◌≡◌, refl, ap, sym, ◌∙◌}
@@ -8,26 +8,24 @@ use mathlib.Core.Logic.{◌⊎◌, inl, inr}
 use mathlib.Core.List.{List}
 use Prim.Native.Nat.{ℕ, zero, suc, ◌+◌, ◌*◌, ◌/◌, ◌<◌, ◌≤◌}
 use native.Mathlib.Omega.{arith}
-use native.Mathlib.Nat.{div-add-mod'}
-use lib.Dec.{ltb}
+use native.Mathlib.Nat.{div-add-mod', min-le_left}
 use lib.ListN.{length}
 use lib.Ieee.{Float, of_bits, sub, add, neg, le, round}
-use borrow.Author.Tests.{ltb-false}
 use Rattle.scalar.specs.F32.{◌-f◌, ◌*f◌, ◌>f◌, ◌≥f◌, ◌≤f◌, at}
 use Rattle.scalar.specs.Literals.{f0, f1000}
 use Rattle.hops.specs.Geometry.{hops_of}
 use Rattle.layers.specs.declared.IonoState.{IonoState}
-use Rattle.controlling_slot.specs.Controlling.{controlling_of}
+use Rattle.layer_mufs.specs.Controlling.{controlling_of}
 use Rattle.profile.specs.Lecden.{slot_at, lecden_of}
-use Rattle.slot_curves.specs.declared.Slot.{Slot}
+use Rattle.profile.specs.declared.slot_curves.Slot.{Slot}
 use Rattle.heights.specs.Gethp.{gethp_of}
 use Rattle.layer_mufs.specs.declared.PathNumbers.{PathNumbers}
-use Rattle.sporadic.specs.Sporadic.{ray_of, taken_by, taken_of, hop_by, row_by, es_row_of, start_of, next_by, es_from, es_line_by, es_line_of, row_at, es_found_of}
-use Rattle.muf_domain.specs.Domain.{in_domain, lists_reach, taken_rows_by, taken_rows, row_count_of}
-use Rattle.muf.specs.Curmuf.{es_by, regular_by, regular_with, muf_at_slot_with, muf_from_search_by, muf_from_search_with, muf_of_rows_with, flat_with, flat_of, rewrite_by, found_muf_of, RowBelow}
+use Rattle.muf.specs.Sporadic.{ray_of, taken_by, taken_of, hop_by, row_by, es_row_of, start_of, next_by, es_from, es_line_by, es_line_of, row_at, es_found_of}
+use Rattle.muf.specs.Domain.{in_domain, lists_reach, taken_rows, row_count_of}
+use Rattle.muf.specs.Curmuf.{es_by, regular_by, regular_with, muf_at_slot_with, muf_from_search_by, muf_from_search_with, muf_of_rows_with, flat_muf_with, flat_muf_of, rewrite_by, found_muf_of, RowBelow}
 use Rattle.layers.specs.declared.EsParams.{EsParams}
-use Rattle.sporadic.specs.declared.EsRay.{EsRay}
-use Rattle.sporadic.specs.declared.EsSearch.{EsSearch}
+use Rattle.muf.specs.declared.sporadic.EsRay.{EsRay}
+use Rattle.muf.specs.declared.sporadic.EsSearch.{EsSearch}
 use Rattle.muf.specs.declared.RegularLines.{RegularLines}
 use Rattle.muf.specs.declared.AnswerAndRow.{AnswerAndRow}
 
@@ -93,30 +91,26 @@ unfolding es_line_of found_muf_of
 es-below (Ok a) m t fe x ks w = line-below (a.esmuf -f f1000 ≥f f0) m a fe refl w
 es-below (Err r) m t fe x ks w = tt
 
-three-below : (q : Result RegularLines Refusal) (m : ℕ) (t : IonoState) (l : Slot) (ks : ℕ) (step : Result EsSearch Refusal) → HeldStep m step → Below m (regular_by q t l ks step)
-three-below (Ok x) m t l ks step w = es-below step m t l.fi0 x ks w
-three-below (Err r) m t l ks step w = tt
+three-below : (q : Result RegularLines Refusal) (m : ℕ) (t : IonoState) (l : Slot) (ks : ℕ) (found : Result EsSearch Refusal) → HeldStep m found → Below m (regular_by q t l ks found)
+three-below (Ok x) m t l ks found w = es-below found m t l.fi0 x ks w
+three-below (Err r) m t l ks found w = tt
 
-done-by-below : (a b : Bool) (m : ℕ) (s : IonoState) (step : Result EsSearch Refusal) (f2d clat clck : List Float) (c : PathNumbers) → HeldStep m step → Below m (muf_from_search_by a b gethp_of s step f2d clat clck c)
+done-by-below : (a b : Bool) (m : ℕ) (s : IonoState) (found : Result EsSearch Refusal) (f2d clat clck : List Float) (c : PathNumbers) → HeldStep m found → Below m (muf_from_search_by a b gethp_of s found f2d clat clck c)
 unfolding muf_at_slot_with
-done-by-below true true m s step f2d clat clck c w =
+done-by-below true true m s found f2d clat clck c w =
     let ks = controlling_of s in
     let t = lecden_of s ks in
-    three-below (regular_with gethp_of t (slot_at t ks) f2d (at clat ks) (at clck ks) c) m t (slot_at t ks) ks step w
-done-by-below true false m s step f2d clat clck c w = tt
-done-by-below false b m s step f2d clat clck c w = tt
+    three-below (regular_with gethp_of t (slot_at t ks) f2d (at clat ks) (at clck ks) c) m t (slot_at t ks) ks found w
+done-by-below true false m s found f2d clat clck c w = tt
+done-by-below false b m s found f2d clat clck c w = tt
 
 pub done_below : (s : IonoState) (n : ℕ) (row : ℕ → EsParams) (f2d clat clck : List Float) (c : PathNumbers) → RowBelow n (rewrite_by (muf_of_rows_with gethp_of s n row f2d clat clck c))
 unfolding muf_of_rows_with muf_from_search_with
 done_below s n row f2d clat clck c = done-by-below (in_domain c) (lists_reach (controlling_of s) (length f2d) (length clat) (length clck)) n s (es_from row c n 0 start_of) f2d clat clck c (all_held row c n)
 
-rows-by : (b : Bool) (there km : ℕ) → ltb there km ≡ b → taken_rows_by b there km ≤ there
-rows-by true there km h = omega arith
-rows-by false there km h = ltb-false there km h
-
 -- the rows that are worked are there
 pub taken-there : (there km : ℕ) → taken_rows there km ≤ there
-taken-there there km = rows-by (ltb there km) there km refl
+taken-there there km = min-le_left there km
 
 pub rows-there : (numbers km : ℕ) → 4 * row_count_of numbers km ≤ numbers
 unfolding row_count_of
@@ -127,6 +121,6 @@ pub row-within : (m n : ℕ) (w : Option Rewrite) → m ≤ n → RowBelow m w �
 row-within m n (Some w) h b = omega arith
 row-within m n None h b = tt
 
-pub flat-below : (s : IonoState) (es f2d clat clck : List Float) (c : PathNumbers) → RowBelow (row_count_of (length es) s.km) (rewrite_by (flat_of s es f2d clat clck c))
-unfolding flat_with
+pub flat-below : (s : IonoState) (es f2d clat clck : List Float) (c : PathNumbers) → RowBelow (row_count_of (length es) s.km) (rewrite_by (flat_muf_of s es f2d clat clck c))
+unfolding flat_muf_with
 flat-below s es f2d clat clck c = done_below s (row_count_of (length es) s.km) (row_at es) f2d clat clck c

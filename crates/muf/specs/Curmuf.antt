@@ -1,28 +1,28 @@
 -- `curmuf` whole: what is refused and in which order, the hour, the state and the Es rows after. The Es rows enter by their number and what each holds, so that one definition serves flat rows and rows of records; `find` is the way of finding heights off the profile.
--- Where the parts of the Rust's `curmuf` stand: the controlling slot in controlling_slot/specs; `lecden` in profile/specs; the tangent frequencies in tangents/specs; the E layer MUF in e_lines/specs, the F2 and F1 ones in layer_mufs/specs, with `gethp` in heights/specs, `bendy` and `pen` in parabolas/specs, `hop_geometry` and the rounds of the loop in hops/specs (Geometry, Rounds), and `f2dis` in deciles/specs; the sporadic E MUF in sporadic/specs; the circuit MUF in Hour, beside this file. What is refused by the arguments alone, and how many Es rows are read, is in muf_domain/specs; here the order of all these, and what is refused on the way.
-use Rattle.sporadic.specs.declared.Rewrite.{Rewrite}
-use Rattle.sporadic.specs.declared.EsSearch.{EsSearch}
+-- Where the parts of the Rust's `curmuf` stand: the controlling slot in layer_mufs/specs (Controlling); `lecden` in profile/specs; the tangent frequencies in layer_mufs/specs (Tangents), and there the E layer MUF (LayerLine) and the F2 and F1 ones (Lines), with `gethp` in heights/specs, `bendy` and `pen` in parabolas/specs, `hop_geometry` and the rounds of the loop in hops/specs (Geometry, Rounds), and `f2dis` in deciles/specs; the sporadic E MUF in Sporadic and the circuit MUF in Hour, beside this file. What is refused by the arguments alone, and how many Es rows are read, is in Domain; here the order of all these, and what is refused on the way.
+use Rattle.muf.specs.declared.sporadic.Rewrite.{Rewrite}
+use Rattle.muf.specs.declared.sporadic.EsSearch.{EsSearch}
 use Rattle.std.specs.Prelude.{Bool, true, false, List, ℕ, ◌*◌, length, set, Float, Option, Some, None, Result, Ok, Err, ◌<◌, ⊤}
 use Rattle.scalar.specs.F32.{at}
 use Rattle.refusal.specs.declared.Refusal.{Refusal}
 use Rattle.layers.specs.declared.IonoState.{IonoState}
 use Rattle.layers.specs.declared.LayerMuf.{LayerMuf}
 use Rattle.profile.specs.Lecden.{slot_at, lecden_of}
-use Rattle.slot_curves.specs.declared.Slot.{Slot}
+use Rattle.profile.specs.declared.slot_curves.Slot.{Slot}
 use Rattle.heights.specs.Gethp.{Finder, gethp_of}
-use Rattle.controlling_slot.specs.Controlling.{controlling_of}
-use Rattle.tangents.specs.Tangents.{tangents_of}
-use Rattle.e_lines.specs.Lines.{zero_line, e_line_with}
+use Rattle.layer_mufs.specs.Controlling.{controlling_of}
+use Rattle.layer_mufs.specs.Tangents.{tangents_of}
+use Rattle.layer_mufs.specs.LayerLine.{zero_line, e_line_with}
 use Rattle.layer_mufs.specs.Lines.{f2_line_with, f1_line_with}
 use Rattle.layer_mufs.specs.declared.PathNumbers.{PathNumbers}
-use Rattle.sporadic.specs.Sporadic.{start_of, row_at, es_from, es_line_of}
+use Rattle.muf.specs.Sporadic.{start_of, row_at, es_from, es_line_of}
 use Rattle.muf.specs.Hour.{hour_of}
 use Rattle.layers.specs.declared.EsParams.{EsParams}
 use Rattle.muf.specs.declared.RegularLines.{RegularLines}
 use Rattle.muf.specs.declared.MufAnswer.{MufAnswer}
 use Rattle.muf.specs.declared.AnswerAndRow.{AnswerAndRow}
-unfoldable pub use Rattle.muf_domain.specs.Domain.{in_domain, lists_reach, row_count_of}
-pub use Rattle.muf_domain.specs.Domain.{within_of, amin_by, taken_rows_by, taken_rows}
+unfoldable pub use Rattle.muf.specs.Domain.{in_domain, lists_reach, row_count_of}
+pub use Rattle.muf.specs.Domain.{within_of, taken_rows}
 
 -- E, then F2, then F1
 
@@ -57,27 +57,27 @@ es_by (Ok a) t fe m ks = Ok (found_muf_of a t fe m ks)
 es_by (Err r) t fe m ks = Err r
 
 abbrev pub regular_by : Result RegularLines Refusal → IonoState → Slot → ℕ → Result EsSearch Refusal → Result AnswerAndRow Refusal
-regular_by (Ok m) t l ks step = es_by step t l.fi0 m ks
-regular_by (Err r) t l ks step = Err r
+regular_by (Ok m) t l ks found = es_by found t l.fi0 m ks
+regular_by (Err r) t l ks found = Err r
 
 unfoldable pub muf_at_slot_with : Finder → IonoState → ℕ → Result EsSearch Refusal → List Float → Float → Float → PathNumbers → Result AnswerAndRow Refusal
-muf_at_slot_with find s ks step f2d clat clck c =
+muf_at_slot_with find s ks found f2d clat clck c =
     let t = lecden_of s ks in
     let l = slot_at t ks in
-    regular_by (regular_with find t l f2d clat clck c) t l ks step
+    regular_by (regular_with find t l f2d clat clck c) t l ks found
 
 abbrev pub muf_at_slot_of : IonoState → ℕ → Result EsSearch Refusal → List Float → Float → Float → PathNumbers → Result AnswerAndRow Refusal
 muf_at_slot_of = muf_at_slot_with gethp_of
 
 -- is the input in its domain, do the lists reach
 abbrev pub muf_from_search_by : Bool → Bool → Finder → IonoState → Result EsSearch Refusal → List Float → List Float → List Float → PathNumbers → Result AnswerAndRow Refusal
-muf_from_search_by true true find s step f2d clat clck c = let ks = controlling_of s in muf_at_slot_with find s ks step f2d (at clat ks) (at clck ks) c
-muf_from_search_by true false find s step f2d clat clck c = Err Refusal.MufLists
-muf_from_search_by false reach find s step f2d clat clck c = Err Refusal.MufInput
+muf_from_search_by true true find s found f2d clat clck c = let ks = controlling_of s in muf_at_slot_with find s ks found f2d (at clat ks) (at clck ks) c
+muf_from_search_by true false find s found f2d clat clck c = Err Refusal.MufLists
+muf_from_search_by false reach find s found f2d clat clck c = Err Refusal.MufInput
 
--- the whole call, the search of the Es rows given as its step
+-- the whole call, the search of the Es rows given by what it found
 unfoldable pub muf_from_search_with : Finder → IonoState → Result EsSearch Refusal → List Float → List Float → List Float → PathNumbers → Result AnswerAndRow Refusal
-muf_from_search_with find s step f2d clat clck c = muf_from_search_by (in_domain c) (lists_reach (controlling_of s) (length f2d) (length clat) (length clck)) find s step f2d clat clck c
+muf_from_search_with find s found f2d clat clck c = muf_from_search_by (in_domain c) (lists_reach (controlling_of s) (length f2d) (length clat) (length clck)) find s found f2d clat clck c
 
 abbrev pub muf_from_search_of : IonoState → Result EsSearch Refusal → List Float → List Float → List Float → PathNumbers → Result AnswerAndRow Refusal
 muf_from_search_of = muf_from_search_with gethp_of
@@ -86,18 +86,18 @@ muf_from_search_of = muf_from_search_with gethp_of
 unfoldable pub muf_of_rows_with : Finder → IonoState → ℕ → (ℕ → EsParams) → List Float → List Float → List Float → PathNumbers → Result AnswerAndRow Refusal
 muf_of_rows_with find s n row f2d clat clck c = muf_from_search_with find s (es_from row c n 0 start_of) f2d clat clck c
 
-unfoldable pub flat_with : Finder → IonoState → List Float → List Float → List Float → List Float → PathNumbers → Result AnswerAndRow Refusal
-flat_with find s es f2d clat clck c = muf_of_rows_with find s (row_count_of (length es) s.km) (row_at es) f2d clat clck c
+unfoldable pub flat_muf_with : Finder → IonoState → List Float → List Float → List Float → List Float → PathNumbers → Result AnswerAndRow Refusal
+flat_muf_with find s es f2d clat clck c = muf_of_rows_with find s (row_count_of (length es) s.km) (row_at es) f2d clat clck c
 
-abbrev pub flat_of : IonoState → List Float → List Float → List Float → List Float → PathNumbers → Result AnswerAndRow Refusal
-flat_of = flat_with gethp_of
+abbrev pub flat_muf_of : IonoState → List Float → List Float → List Float → List Float → PathNumbers → Result AnswerAndRow Refusal
+flat_muf_of = flat_muf_with gethp_of
 
 abbrev pub answer_by : Result AnswerAndRow Refusal → Result MufAnswer Refusal
 answer_by (Ok d) = Ok d.answer
 answer_by (Err r) = Err r
 
 abbrev pub curmuf_of : IonoState → List Float → List Float → List Float → List Float → PathNumbers → Result MufAnswer Refusal
-curmuf_of s es f2d clat clck c = answer_by (flat_of s es f2d clat clck c)
+curmuf_of s es f2d clat clck c = answer_by (flat_muf_of s es f2d clat clck c)
 
 -- only the controlling row's lower decile is rewritten, and a refused call rewrites none
 abbrev pub rewrite_by : Result AnswerAndRow Refusal → Option Rewrite
@@ -114,4 +114,4 @@ rewritten_by (Some w) es = set es (4 * w.ksx) w.lower
 rewritten_by None es = es
 
 abbrev pub es_after_of : IonoState → List Float → List Float → List Float → List Float → PathNumbers → List Float
-es_after_of s es f2d clat clck c = rewritten_by (rewrite_by (flat_of s es f2d clat clck c)) es
+es_after_of s es f2d clat clck c = rewritten_by (rewrite_by (flat_muf_of s es f2d clat clck c)) es

@@ -6,7 +6,7 @@ use Rattle.scalar.specs.Scalar.{max_of}
 use Rattle.refusal.specs.declared.Refusal.{Refusal}
 use Rattle.layers.specs.declared.IonoState.{IonoState}
 use Rattle.layers.specs.declared.LayerMuf.{LayerMuf}
-use Rattle.e_lines.specs.Lines.{zero_line}
+use Rattle.layer_mufs.specs.LayerLine.{zero_line}
 use Rattle.muf.specs.declared.RegularLines.{RegularLines}
 use Rattle.muf.specs.declared.Mode.{Mode}
 use Rattle.muf.specs.declared.MufHour.{MufHour}

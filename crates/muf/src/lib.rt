@@ -2,21 +2,26 @@
 // with the Es line.
 #![tactic(auto)]
 
+pub mod es_records;
+pub mod muf_domain;
+pub mod muf_records;
+pub mod sporadic;
+
 ghost use Rattle.std.specs.Prelude.{◌≡◌, ◌+◌, ◌*◌, ◌^◌, ◌<◌, length};
 ghost use Rattle.heights.specs.Gethp.{gethp_of};
-ghost use Rattle.sporadic.specs.Sporadic.{row_at};
+ghost use Rattle.muf.specs.Sporadic.{start_of, row_at, es_from};
 ghost use Rattle.muf.specs.Hour.{mode_of, hour_of, zero_hour};
-ghost use Rattle.muf.specs.Curmuf.{regular_with, found_muf_of, muf_at_slot_of, muf_from_search_of, flat_of, es_after_of, curmuf_of};
-ghost use Rattle.muf.specs.Says.{RegularSays, SlotSays};
+ghost use Rattle.muf.specs.Curmuf.{regular_with, found_muf_of, muf_at_slot_of, muf_from_search_of, flat_muf_of, es_after_of, curmuf_of, row_count_of};
+ghost use Rattle.muf.specs.Says.{RegularSays, SlotSays, MufSays};
 
 pub mod lent;
 
 use crate::lent::Numbers;
+use crate::sporadic::{EsSearch, Rewrite};
 use layer_mufs::PathNumbers;
 use layers::{EsParams, IonoState, LayerMuf};
+use profile::slot_curves::Slot;
 use refusal::Refusal;
-use slot_curves::Slot;
-use sporadic::{EsSearch, Rewrite};
 
 // The lines of the regular layers.
 #[derive(Clone, Copy, Debug, PartialEq)]
@@ -115,7 +120,7 @@ fn hour(m: RegularLines, es: LayerMuf, ks: usize) -> MufHour
 pub fn zero_hour() -> MufHour
     ensures { result ≡ zero_hour }
 {
-    let z = e_lines::zero_line();
+    let z = layer_mufs::e_lines::zero_line();
     let layers = [z, z, z, z];
     MufHour {
         emuf: 0.0,
@@ -144,8 +149,8 @@ fn regular_lines(
     ensures value { result ≡ regular_with gethp_of t l f2d.now clat clck c }
     ensures regular_says { RegularSays result t l f2d.now clat clck c }
 {
-    let x = tangents::tangent_frequencies(l, c.gcdkm);
-    let e = e_lines::e_line(&t, x.fxe, c.gcdkm, c.amind)?;
+    let x = layer_mufs::tangents::tangent_frequencies(l, c.gcdkm);
+    let e = layer_mufs::e_lines::e_line(&t, x.fxe, c.gcdkm, c.amind)?;
     let f2 = layer_mufs::f2_line(&t, l, x.f2, f2d, clat, clck, c)?;
     let f1 = layer_mufs::f1_line(&t, l, x.fx1, e, c)?;
     Ok(RegularLines { e, f1, f2 })
@@ -162,7 +167,7 @@ pub struct AnswerAndRow {
 fn finish(t: IonoState, fe: f32, m: RegularLines, ks: usize, a: EsSearch) -> AnswerAndRow
     ensures { result ≡ found_muf_of a t fe m ks }
 {
-    let x = sporadic::es_line(a, fe);
+    let x = crate::sporadic::es_line(a, fe);
     let hour = hour(m, x.line, ks);
     AnswerAndRow {
         answer: MufAnswer { hour, state: t },
@@ -174,20 +179,20 @@ fn finish(t: IonoState, fe: f32, m: RegularLines, ks: usize, a: EsSearch) -> Ans
 pub fn muf_at_slot(
     s: IonoState,
     ks: usize,
-    step: Result<EsSearch, Refusal>,
+    found: Result<EsSearch, Refusal>,
     f2d: &[f32],
     clat: f32,
     clck: f32,
     c: PathNumbers,
 ) -> Result<AnswerAndRow, Refusal>
     requires { ks < 3 }
-    ensures value { result ≡ muf_at_slot_of s ks step f2d.now clat clck c }
-    ensures slot_says { SlotSays result s ks step f2d.now clat clck c }
+    ensures value { result ≡ muf_at_slot_of s ks found f2d.now clat clck c }
+    ensures slot_says { SlotSays result s ks found f2d.now clat clck c }
 {
     let t = profile::lecden_slot(s, ks);
     let l = profile::slot_at(t, ks);
     let m = regular_lines(t, l, f2d, clat, clck, c)?;
-    let a = step?;
+    let a = found?;
     Ok(finish(t, l.fi0, m, ks, a))
 }
 
@@ -195,22 +200,22 @@ pub fn muf_at_slot(
 // is, and the row to be rewritten is named. Where the call is refused before them it is not used.
 pub fn muf_from_search<L: Numbers>(
     s: IonoState,
-    step: Result<EsSearch, Refusal>,
+    found: Result<EsSearch, Refusal>,
     f2d: &[f32],
     clat: L,
     clck: L,
     c: PathNumbers,
 ) -> Result<AnswerAndRow, Refusal>
-    ensures { result ≡ muf_from_search_of s step f2d.now (L.floats clat) (L.floats clck) c }
+    ensures { result ≡ muf_from_search_of s found f2d.now (L.floats clat) (L.floats clck) c }
 {
-    if !muf_domain::in_domain(c) {
+    if !crate::muf_domain::in_domain(c) {
         return Err(Refusal::MufInput);
     }
-    let ks = controlling_slot::controlling(s);
-    if !muf_domain::lists_reach(ks, f2d.len(), clat.count(), clck.count()) {
+    let ks = layer_mufs::controlling_slot::controlling(s);
+    if !crate::muf_domain::lists_reach(ks, f2d.len(), clat.count(), clck.count()) {
         return Err(Refusal::MufLists);
     }
-    muf_at_slot(s, ks, step, f2d, clat.number(ks), clck.number(ks), c)
+    muf_at_slot(s, ks, found, f2d, clat.number(ks), clck.number(ks), c)
 }
 
 // Row k of numbers that stand four a row.
@@ -234,17 +239,17 @@ pub fn flat<L: Numbers>(
     clck: L,
     c: PathNumbers,
 ) -> Result<AnswerAndRow, Refusal>
-    ensures { result ≡ flat_of s (L.floats es) f2d.now (L.floats clat) (L.floats clck) c }
+    ensures { result ≡ flat_muf_of s (L.floats es) f2d.now (L.floats clat) (L.floats clck) c }
 {
-    let n = muf_domain::row_count(es.count(), s.km);
-    let step = sporadic::search(|k| flat_row(es, k), n, c);
-    muf_from_search(s, step, f2d, clat, clck, c)
+    let n = crate::muf_domain::row_count(es.count(), s.km);
+    let found = crate::sporadic::search(|k| flat_row(es, k), n, c);
+    muf_from_search(s, found, f2d, clat, clck, c)
 }
 
 // The MUF hour; `es` holds four numbers a row: three of `fs`, then `hs`. Only the controlling row's
 // lower decile is rewritten.
 // Stays: s, es, f2d, clat and clck are the Rust's own parameters, in its order; es is flat, four numbers a row, as words are, and the
-// Rust's records are crate `muf_records`; c is its last four.
+// Rust's records are module `muf_records`; c is its last four.
 pub fn curmuf(
     s: IonoState,
     es: &mut [f32],
@@ -255,6 +260,7 @@ pub fn curmuf(
 ) -> Result<MufAnswer, Refusal>
     ensures value { result ≡ curmuf_of s es.old f2d.now clat.now clck.now c }
     ensures es_after { es.new ≡ es_after_of s es.old f2d.now clat.now clck.now c }
+    ensures muf_says { MufSays result s (es_from (row_at es.old) c (row_count_of (length es.old) s.km) 0 start_of) f2d.now clat.now clck.now c }
 {
     let d = flat(s, &*es, f2d, clat, clck, c)?;
     if let Some(w) = d.rewrite {

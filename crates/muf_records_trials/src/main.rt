@@ -51,7 +51,7 @@ fn lend(
     clck: &[f32],
     c: PathNumbers,
 ) {
-    let answer = muf_records::curmuf_records(s, &mut es, f2d, clat, clck, c);
+    let answer = muf::muf_records::curmuf_records(s, &mut es, f2d, clat, clck, c);
     print(answer);
     say_rows(es);
 }

@@ -21,11 +21,11 @@ use Rattle.same.specs.Same.{F32}
 use Rattle.order.specs.Units.{mag, key, total}
 use Rattle.order.proofs.Keys.{mag-val, mag-inf, overflow-pos}
 use Rattle.order.proofs.Sums.{add-key, total_mono}
-use Rattle.muf_domain.specs.Domain.{within_of}
+use Rattle.muf.specs.Domain.{within_of}
 use Rattle.angles.proofs.Keys.{UpTo, Above, key-size, none-size, div-key, mul-key}
 use Rattle.angles.specs.Angles.{Small}
 use Rattle.angles.proofs.Angles.{sin-answers, cos-answers, zero-key, f0-fits, f0-finite, hop-constants, half-path, over-hops, gcd-up-to, gcdkm-up-to}
-use Rattle.nominal_factors.specs.Coefficients.{f225}
+use Rattle.nominal.specs.FactorLiterals.{f225}
 use Rattle.nominal.specs.Nommuf.{hop_of, path_taken}
 use Rattle.nominal.specs.Angles.{nominal_psi, NominalNeverRefused13}
 use Rattle.std.proofs.lemmas.Bool.{and_parts}

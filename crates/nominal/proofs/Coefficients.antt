@@ -1,2 +1,2 @@
 -- Each literal is the f32 nearest to its decimal.
-pub use Rattle.nominal_factors.proofs.Coefficients.{coefficients-nearest}
+pub use Rattle.nominal.proofs.nominal_factors.Coefficients.{coefficients-nearest}

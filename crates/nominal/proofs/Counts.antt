@@ -5,10 +5,10 @@ use Prim.Native.Nat.{ℕ, ◌≤◌}
 use native.Mathlib.Omega.{arith}
 use lib.Dec.{eqb}
 use borrow.Author.Tests.{eqb-true}
-use Rattle.layer_rules.specs.Rules.{count_taken}
-use Rattle.layer_rules.proofs.Counts.{taken-five}
+use Rattle.layers.specs.Rules.{count_taken}
+use Rattle.layers.proofs.layer_rules.Counts.{taken-five}
 use Rattle.std.proofs.lemmas.Bool.{and_parts}
-use Rattle.nominal_factors.specs.Factors.{counts_agree}
+use Rattle.nominal.specs.Factors.{counts_agree}
 
 pub agreed : (km f2m3s : ℕ) → counts_agree km f2m3s ≡ true → (km ≤ 5) × (km ≤ f2m3s)
 unfolding counts_agree

@@ -1,6 +1,6 @@
 -- Each of the three searches by induction over the points, then the whole.
 use Rattle.muf.specs.Curmuf.{rewrite_by}
-use Rattle.sporadic.specs.declared.Rewrite.{Rewrite}
+use Rattle.muf.specs.declared.sporadic.Rewrite.{Rewrite}
 use Rattle.std.specs.Prelude.{Option, Some, None}
 use mathlib.Core.List.{List, [], ◌∷◌}
 use mathlib.Core.Path.{◌≡◌, refl, ap, ap₂, ◌∙◌}
@@ -13,8 +13,8 @@ use lib.Ieee.{Float}
 use Rattle.scalar.specs.F32.{at}
 use Rattle.layers.specs.declared.LayerParams.{LayerParams}
 use Rattle.layers.specs.declared.EsParams.{EsParams}
-use Rattle.muf_records.specs.Records.{no_es, lower_rewritten, records_by, records_answer_of, records_after_of}
-use Rattle.nominal_factors.specs.Factors.{ec_step, fmuf_of, f2_step}
+use Rattle.muf.specs.LentRecords.{no_es, lower_rewritten, records_by, records_answer_of, records_after_of}
+use Rattle.nominal.specs.Factors.{ec_step, fmuf_of, f2_step}
 use Rattle.nominal.specs.Nommuf.{ec_of, f2muf_of, es_step, esmuf_of, nominal_of, nommuf_of}
 use Rattle.nominal.specs.Inputs.{PointsAgree, RowAgrees, EsAgree, ReadsOnly, EsRewritten}
 

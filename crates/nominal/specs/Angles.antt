@@ -3,14 +3,13 @@
 use Rattle.std.specs.Prelude.{true, ◌≡◌, T, Float, Ok}
 use Rattle.std.specs.Float.{binary32}
 use Rattle.std.specs.Float.Ieee.{fits}
-use Rattle.scalar.specs.F32.{◌*f◌, ◌/f◌}
-use Rattle.scalar.specs.Literals.{f0_5}
 use Rattle.waves.specs.SinCos.{sin_of, cos_of}
-use Rattle.wave_answers.specs.Answers.{sin_answer, cos_answer}
+use Rattle.waves.specs.Answers.{sin_answer, cos_answer}
+use Rattle.muf.specs.Sporadic.{es_psi}
 use Rattle.nominal.specs.Nommuf.{hop_of, path_taken}
 
 abbrev pub nominal_psi : Float → Float → Float → Float
-nominal_psi gcd gcdkm hs = f0_5 *f gcd /f hop_of gcdkm hs
+nominal_psi gcd gcdkm hs = es_psi gcd (hop_of gcdkm hs)
 
 abbrev pub NominalNeverRefused13 : Type 0
 NominalNeverRefused13 =

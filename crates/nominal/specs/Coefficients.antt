@@ -1,2 +1,2 @@
 -- The literals of `nommuf`, which stand with its factors.
-pub use Rattle.nominal_factors.specs.Coefficients.{CoefficientsNearest}
+pub use Rattle.nominal.specs.FactorLiterals.{CoefficientsNearest}

@@ -6,7 +6,7 @@ use Rattle.layers.specs.declared.IonoState.{IonoState}
 use Rattle.layers.specs.declared.LayerParams.{LayerParams}
 use Rattle.layers.specs.declared.EsParams.{EsParams}
 use Rattle.layer_mufs.specs.declared.PathNumbers.{PathNumbers}
-use Rattle.muf_records.specs.Records.{no_es, records_after_of}
+use Rattle.muf.specs.LentRecords.{no_es, records_after_of}
 use Rattle.nominal.specs.Nommuf.{fi_at, nommuf_of}
 
 abbrev pub PointsAgree : ℕ → List LayerParams → List LayerParams → Type 0

@@ -3,3 +3,6 @@ pub mod Coefficients
 pub mod Nommuf
 pub mod Angles
 pub mod Inputs
+-- The numbers of `nommuf`: its literals, and its parts that need no list.
+pub mod FactorLiterals
+pub mod Factors

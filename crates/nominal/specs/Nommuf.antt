@@ -10,13 +10,13 @@ use Rattle.refusal.specs.declared.Refusal.{Refusal}
 use Rattle.layers.specs.State.{no_layers}
 use Rattle.layers.specs.declared.LayerParams.{LayerParams}
 use Rattle.layers.specs.declared.EsParams.{EsParams}
-use Rattle.e_lines.specs.Lines.{zero_line}
-use Rattle.sporadic.specs.Sporadic.{ray_of}
-use Rattle.muf_domain.specs.Domain.{within_of}
+use Rattle.layer_mufs.specs.LayerLine.{zero_line}
+use Rattle.muf.specs.Sporadic.{ray_of}
+use Rattle.muf.specs.Domain.{within_of}
 use Rattle.muf.specs.declared.MufHour.{MufHour}
-use Rattle.muf_records.specs.Records.{no_es}
-use Rattle.nominal_factors.specs.Coefficients.{f0_0062137, f1_15, f4_871, f225}
-use Rattle.nominal_factors.specs.Factors.{elfc_of, flfc_of, ec_step, fmuf_of, f2_step, allmuf_of, counts_agree}
+use Rattle.muf.specs.LentRecords.{no_es}
+use Rattle.nominal.specs.FactorLiterals.{f0_0062137, f1_15, f4_871, f225}
+use Rattle.nominal.specs.Factors.{elfc_of, flfc_of, ec_step, fmuf_of, f2_step, allmuf_of, counts_agree}
 
 -- fi[k][i] of the Rust
 abbrev pub fi_at : List LayerParams → ℕ → ℕ → Float

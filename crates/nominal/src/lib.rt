@@ -2,6 +2,8 @@
 // takes the control points and their Es rows, no state and no slot.
 #![tactic(auto)]
 
+pub mod nominal_factors;
+
 ghost use Rattle.std.specs.Prelude.{◌≡◌, ◌≤◌, length};
 ghost use Rattle.nominal.specs.Nommuf.{ec_of, f2muf_of, hop_of, es_step, esmuf_of, nominal_of, path_taken, nommuf_of};
 
@@ -16,7 +18,7 @@ fn lowest_e(points: &[LayerParams]) -> f32
 {
     let mut ec = 1000.0;
     for p in points {
-        ec = nominal_factors::lower(ec, p.fi[0]);
+        ec = crate::nominal_factors::lower(ec, p.fi[0]);
     }
     ec
 }
@@ -28,8 +30,8 @@ fn lowest_f2(points: &[LayerParams], f2m3: &[f32], flfc: f32) -> f32
 {
     let mut f2muf = 1000.0;
     for (p, x) in points.iter().zip(f2m3) {
-        let fmuf = nominal_factors::f2_at(p.fi[2], *x, flfc);
-        f2muf = nominal_factors::lower(f2muf, fmuf);
+        let fmuf = crate::nominal_factors::f2_at(p.fi[2], *x, flfc);
+        f2muf = crate::nominal_factors::lower(f2muf, fmuf);
     }
     f2muf
 }
@@ -53,8 +55,8 @@ fn lower_es(esmuf: f32, row: EsParams, gcd: f32, gcdkm: f32) -> f32
         return esmuf;
     }
     let hs = row.hs;
-    let ray = sporadic::es_ray(hs, hop(gcdkm, hs), gcd);
-    nominal_factors::lower(esmuf, fs1 * ray.secp)
+    let ray = muf::sporadic::es_ray(hs, hop(gcdkm, hs), gcd);
+    crate::nominal_factors::lower(esmuf, fs1 * ray.secp)
 }
 
 // The lowest MUF of Es over the rows, 1000 where none reflects.
@@ -75,12 +77,12 @@ fn nominal(points: &[LayerParams], f2m3: &[f32], es: &[EsParams], gcd: f32, gcdk
     ensures { result ≡ nominal_of points.now f2m3.now es.now (length points.now) gcd gcdkm }
 {
     let arc = gcdkm * 0.0062137;
-    let elfc = nominal_factors::e_factor(arc);
-    let flfc = nominal_factors::f2_factor(arc);
+    let elfc = crate::nominal_factors::e_factor(arc);
+    let flfc = crate::nominal_factors::f2_factor(arc);
     let ec = lowest_e(points);
     let emuf = 4.871 * ec * elfc;
     let f2muf = lowest_f2(points, f2m3, flfc);
-    let allmuf = nominal_factors::greater(emuf, f2muf);
+    let allmuf = crate::nominal_factors::greater(emuf, f2muf);
     let fot = scalar::max(0.85 * f2muf, emuf);
     let hpf = scalar::max(1.15 * f2muf, emuf);
     let esmuf = lowest_es(es, gcd, gcdkm);
@@ -107,7 +109,7 @@ fn path_taken(gcd: f32, gcdkm: f32) -> bool
         amind: 0.0,
         ssn: 0.0,
     };
-    muf_domain::in_domain(c)
+    muf::muf_domain::in_domain(c)
 }
 
 // The nominal hour of the first `count` points, their F2M3s and their Es rows; what stands past the
@@ -123,7 +125,7 @@ pub fn nommuf(
 ) -> Result<MufHour, Refusal>
     ensures { result ≡ nommuf_of points f2m3.now es count gcd gcdkm }
 {
-    if !nominal_factors::counts_agree(count, f2m3.len()) {
+    if !crate::nominal_factors::counts_agree(count, f2m3.len()) {
         return Err(Refusal::PointCount);
     }
     if !path_taken(gcd, gcdkm) {

@@ -1,2 +1,3 @@
--- The place of a layer in the tables.
+-- The place of a layer in the tables; number and value of an answer.
 pub mod Places
+mod Says

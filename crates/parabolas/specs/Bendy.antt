@@ -1,9 +1,10 @@
 -- `bendy` and `pen`: how much a parabolic layer i of slot k raises the virtual height of a frequency that it reflects, and of one that passes through it.
-use Rattle.std.specs.Prelude.{Bool, true, false, List, [], ◌∷◌, ℕ, ◌+◌, ◌*◌, ltb, Float, Result, Ok, Err}
+use Rattle.std.specs.Prelude.{Bool, true, false, cond, ◌||◌, List, [], ◌∷◌, ◌≡◌, ℕ, ◌+◌, ◌*◌, ltb, Float, Result, Ok, Err}
 use Rattle.scalar.specs.F32.{◌+f◌, ◌-f◌, ◌*f◌, ◌/f◌, at}
 use Rattle.scalar.specs.Literals.{f0_5, f0_999, f1, f1_001, f2}
 use Rattle.scalar.specs.Scalar.{min_of, max_of}
 use Rattle.logarithm.specs.Ln.{ln_of}
+use Rattle.refusal.specs.Number.{answer_number}
 use Rattle.refusal.specs.declared.Refusal.{Refusal}
 use Rattle.layers.specs.declared.IonoState.{IonoState}
 
@@ -36,7 +37,13 @@ bendy_answer s i k f = layer_answer_by (ltb 2 i) (ltb 2 k) (bendy_of s i k f)
 unfoldable pub pen_answer : IonoState → ℕ → ℕ → Float → Result Float Refusal
 pen_answer s i k f = layer_answer_by (ltb 2 i) (ltb 2 k) (pen_of s i k f)
 
--- ---- the values of each case; its number is `answer_number`'s
-unfoldable pub layer_values_of : Result Float Refusal → List Float
+-- the value that an answer gives, none beside a refusal
+abbrev pub layer_values_of : Result Float Refusal → List Float
 layer_values_of (Ok v) = v ∷ []
 layer_values_of (Err r) = []
+
+-- by these an answer says: 6, and no value, where a layer or a slot number is above 2; else 0, and the layer's value
+unfoldable pub LayerSays : Result Float Refusal → ℕ → ℕ → Float → Type 0
+LayerSays r i k v =
+    let above = ltb 2 i || ltb 2 k in
+    (answer_number r ≡ cond above 6 0) × (layer_values_of r ≡ cond above [] (v ∷ []))

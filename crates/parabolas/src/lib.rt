@@ -2,7 +2,7 @@
 #![tactic(auto)]
 
 ghost use Rattle.std.specs.Prelude.{◌≡◌, ℕ, ◌+◌, ◌*◌, ◌<◌, ltb, IfOk};
-ghost use Rattle.parabolas.specs.Bendy.{bendy_at, pen_at, height_over_e, layer_answer_by, bendy_answer, pen_answer};
+ghost use Rattle.parabolas.specs.Bendy.{bendy_at, pen_at, height_over_e, bendy_of, pen_of, layer_answer_by, bendy_answer, pen_answer, LayerSays};
 
 use layers::IonoState;
 use refusal::Refusal;
@@ -53,7 +53,8 @@ fn place(i: usize, k: usize) -> Result<usize, Refusal>
 // Stays: `bendy` and `pen` are two entries of the Rust, each with a formula of its own behind the same test,
 // and `s`, `i`, `k` and `f` are their parameters there.
 pub fn bendy(s: IonoState, i: usize, k: usize, f: f32) -> Result<f32, Refusal>
-    ensures { result ≡ bendy_answer s i k f }
+    ensures value { result ≡ bendy_answer s i k f }
+    ensures layer_says { LayerSays result i k (bendy_of s i k f) }
 {
     let n = place(i, k)?;
     Ok(bendy_at(s.fi[n], s.yi[n], f))
@@ -61,7 +62,8 @@ pub fn bendy(s: IonoState, i: usize, k: usize, f: f32) -> Result<f32, Refusal>
 
 // The same for a frequency that the layer lets through, delayed, to a higher one.
 pub fn pen(s: IonoState, i: usize, k: usize, f: f32) -> Result<f32, Refusal>
-    ensures { result ≡ pen_answer s i k f }
+    ensures value { result ≡ pen_answer s i k f }
+    ensures layer_says { LayerSays result i k (pen_of s i k f) }
 {
     let n = place(i, k)?;
     Ok(pen_at(s.fi[n], s.yi[n], f))

@@ -2,9 +2,9 @@
 use Rattle.std.specs.Prelude.{List, ℕ, Result, Ok, Err}
 use Rattle.refusal.specs.declared.Refusal.{Refusal}
 use Rattle.lines.specs.Text.{refused_text}
-use Rattle.circuit_plot.specs.declared.Plot.{Plot}
-use Rattle.circuit_plot.specs.CircuitPlot.{plot_of}
-use Rattle.plot_panels.specs.Panels.{picture_text}
+use Rattle.plot_text.specs.declared.circuit_plot.Plot.{Plot}
+use Rattle.plot_text.specs.CircuitPlot.{plot_of}
+use Rattle.plot_text.specs.Panels.{picture_text}
 
 abbrev pub plot_text_by : Result Plot Refusal → List ℕ
 plot_text_by (Ok p) = picture_text p

@@ -12,8 +12,8 @@ use lib.Dec.{leb}
 use lib.ListN.{length}
 use Rattle.records.specs.declared.Form.{Form}
 use Rattle.circuit.specs.declared.Circuit.{Circuit}
-use Rattle.circuit_write.specs.Written.{records_of, size_of, good_of, write_answer_by, write_answer_of}
-use Rattle.circuit_write.proofs.Cells.{records_most}
+use Rattle.circuit.specs.Written.{records_of, size_of, good_of, write_answer_by, write_answer_of}
+use Rattle.circuit.proofs.circuit_write.Cells.{records_most}
 
 sized : (size n : ℕ) → size ≤ 128 → n ≤ 54 → size * n ≤ 6912
 sized size n s h = let m = mul-le-mul_right n s in omega arith

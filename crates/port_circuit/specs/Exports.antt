@@ -5,7 +5,7 @@ use Rattle.refusal.specs.declared.Refusal.{Refusal}
 use Rattle.records.specs.Record.{form64}
 use Rattle.circuit.specs.Read.{read_of}
 use Rattle.circuit.specs.declared.Circuit.{Circuit}
-use Rattle.circuit_write.specs.Written as written
+use Rattle.circuit.specs.Written as written
 use Rattle.answer_words.specs.Words.{number_left}
 use Rattle.port_circuit.specs.Words.{circuit_of_words, circuit_into}
 

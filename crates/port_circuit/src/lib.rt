@@ -4,6 +4,8 @@
 // `port_state`, whose words are converted to floats one by one where these are copied.
 #![tactic(auto)]
 
+pub mod port_wide;
+
 ghost use Rattle.std.specs.Prelude.{◌≡◌, ◌+◌, ◌≤◌, length};
 ghost use Rattle.port_circuit.specs.Words.{words_from, words_into, circuit_of_words, circuit_into};
 ghost use Rattle.refusal.specs.Number.{answer_number};
@@ -85,7 +87,7 @@ fn write_into(words: &[u32], file: &mut [u8], out: &mut [u32]) -> Result<(), Ref
         return Err(Refusal::Length);
     }
     let c = circuit_of(words);
-    let a = circuit_write::write(c, file);
+    let a = circuit::circuit_write::write(c, file);
     answer_words::count_into(a, out)
 }
 

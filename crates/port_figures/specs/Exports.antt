@@ -6,7 +6,7 @@ use Rattle.std.specs.Float.Ieee.{of_bits}
 use Rattle.refusal.specs.Number.{number_of}
 use Rattle.refusal.specs.declared.Refusal.{Refusal}
 use Rattle.figures.specs.Figure.{figure_of}
-use Rattle.figure_text.specs.FigureText.{figure_text}
+use Rattle.figures.specs.FigureText.{figure_text}
 
 unfoldable pub figure_answer : List ℕ → ℕ
 figure_answer out = cond (ltb (length out) 5) (number_of Refusal.Length) 0

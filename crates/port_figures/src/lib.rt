@@ -19,7 +19,7 @@ fn figure_into(muf: u32, out: &mut [u8]) -> Result<(), Refusal>
     }
     let v = scalar::number(muf);
     let mut page: Page<5> = Page::new();
-    figure_text::put_figure(&mut page, v);
+    figures::figure_text::put_figure(&mut page, v);
     out[..5].copy_from_slice(page.text());
     Ok(())
 }

@@ -9,12 +9,12 @@ use Rattle.readings.specs.Scan.{reading_of}
 use Rattle.heights.specs.Gethp.{gethp_of, gethp_scan_of}
 use Rattle.heights.specs.declared.Heights.{Heights}
 use Rattle.parabolas.specs.Bendy.{bendy_answer, pen_answer}
-use Rattle.xlin.specs.Xlin.{xlin_found}
+use Rattle.readings.specs.Xlin.{xlin_found}
 use Rattle.layers.specs.declared.IonoState.{IonoState}
 use Rattle.refusal.specs.declared.Refusal.{Refusal}
 use Rattle.refusal.specs.Number.{answer_number}
 use Rattle.answer_words.specs.Words.{float_left}
-use Rattle.height_words.specs.Words.{heights_into, found_into, reading_into}
+use Rattle.port_heights.specs.Words.{heights_into, found_into, reading_into}
 
 -- a state's words are there, and n words to write: the state that they are read as
 abbrev pub state_by : Bool → Bool → List ℕ → Result IonoState Refusal

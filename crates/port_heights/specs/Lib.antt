@@ -1,2 +1,4 @@
 -- The exports of the heights.
 pub mod Exports
+-- Answers about heights as words.
+pub mod Words

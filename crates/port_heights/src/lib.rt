@@ -2,6 +2,8 @@
 // Stays: lists of words lent side by side, as callers in C have them.
 #![tactic(auto)]
 
+pub mod height_words;
+
 ghost use Rattle.std.specs.Prelude.{◌≡◌, ℕ, ◌≤◌, length, Float, IfOk, Result};
 ghost use Rattle.std.specs.Borrow.{Bor};
 ghost use Rattle.refusal.specs.Number.{answer_number};
@@ -40,7 +42,7 @@ fn heights_by<F: FnOnce(&IonoState, f32) -> Heights>(
         → (answer_number result ≡ (heights_left of state.now fxx out.old).number) × (out.new ≡ (heights_left of state.now fxx out.old).words) }
 {
     let s = state_with_room(state, out, 4)?;
-    height_words::heights_into(rule(&s, scalar::number(fxx)), out);
+    crate::height_words::heights_into(rule(&s, scalar::number(fxx)), out);
     Ok(())
 }
 
@@ -64,7 +66,7 @@ fn reading(state: &[u32], zi: u32, out: &mut [u32]) -> Result<(), Refusal>
 {
     let s = state_with_room(state, out, 3)?;
     let p = heights::lent(&s, s.htr_rises);
-    height_words::reading_into(p.read_by_scan(scalar::number(zi)), out);
+    crate::height_words::reading_into(p.read_by_scan(scalar::number(zi)), out);
     Ok(())
 }
 
@@ -117,8 +119,8 @@ fn xlin(x: u32, xn: &[u32], yn: &[u32], out: &mut [u32]) -> Result<(), Refusal>
     let at = scalar::number(x);
     let xs = port_state::floats::<50>(xn, 0);
     let ys = port_state::floats::<50>(yn, 0);
-    let f = xlin::xlin(at, &xs, &ys);
-    height_words::found_into(f, out);
+    let f = readings::xlin::xlin(at, &xs, &ys);
+    crate::height_words::found_into(f, out);
     Ok(())
 }
 

@@ -12,9 +12,9 @@ use Rattle.losses.specs.Alosfv.{alosfv_answer}
 use Rattle.slot_sheet.specs.Sheet.{slot_sheet_of, sheet_cells_of}
 use Rattle.slot_sheet.specs.declared.SlotSheet.{SlotSheet}
 use Rattle.answer_words.specs.Words.{short}
-use Rattle.ionogram_words.specs.Sang.{unless_short}
-use Rattle.line_words.specs.Lines.{lines_of_words}
-use Rattle.port_layouts.specs.Layouts.{ionogram_of, ionogram_into, marks_into}
+use Rattle.port_ionogram.specs.Sang.{unless_short}
+use Rattle.port_state.specs.Lines.{lines_of_words}
+use Rattle.port_ionogram.specs.Layouts.{ionogram_of, ionogram_into, marks_into}
 
 -- ---- the controlling slot
 

@@ -3,7 +3,7 @@
 // of the layout.
 ghost use Rattle.std.specs.Prelude.{◌≡◌};
 ghost use Rattle.refusal.specs.Number.{answer_number};
-ghost use Rattle.ionogram_words.specs.Sang.{sang_words};
+ghost use Rattle.port_ionogram.specs.Sang.{sang_words};
 ghost use Rattle.port_ionogram.specs.Exports.{port_selmod, port_genion, port_fobby, port_alosfv, port_sheet};
 
 use port_state::STATE_WORDS;
@@ -13,7 +13,7 @@ use refusal::Refusal;
 pub fn port_sang(gcdkm: u32, amind: u32, out: &mut [u32]) -> u32
     ensures { (result ≡ (sang_words gcdkm amind out.old).number) × (out.new ≡ (sang_words gcdkm amind out.old).words) }
 {
-    refusal::answer_number(&ionogram_words::sang_into(gcdkm, amind, out))
+    refusal::answer_number(&crate::ionogram_words::sang_into(gcdkm, amind, out))
 }
 
 #[tactic(auto, unfolding(crate::specs::Exports::port_selmod))]
@@ -44,7 +44,7 @@ fn genion_into(state: &[u32], k: u32, out: &mut [u32]) -> Result<(), Refusal>
     }
     let s = port_state::state_of(state);
     let ion = sounding::genion(s, k as usize)?;
-    port_layouts::ionogram_into(ion, out);
+    crate::port_layouts::ionogram_into(ion, out);
     Ok(())
 }
 
@@ -63,10 +63,10 @@ fn alosfv_into(state: &[u32], k: u32, ion: &mut [u32], layers: &[u32]) -> Result
         return Err(Refusal::Length);
     }
     let s = port_state::state_of(state);
-    let rows = port_layouts::ionogram_of(ion);
-    let lines = line_words::lines_of(layers);
+    let rows = crate::port_layouts::ionogram_of(ion);
+    let lines = port_state::line_words::lines_of(layers);
     let rows = losses::alosfv(s, k as usize, rows, lines)?;
-    port_layouts::ionogram_into(rows, ion);
+    crate::port_layouts::ionogram_into(rows, ion);
     Ok(())
 }
 
@@ -84,7 +84,7 @@ fn fobby_into(ion: &[u32], nang: u32, cells: &mut [i32]) -> Result<(), Refusal>
     if ion.len() < 150 {
         return Err(Refusal::Length);
     }
-    reflectrix::fobby(port_layouts::ionogram_of(ion), nang as usize, cells)
+    reflectrix::fobby(crate::port_layouts::ionogram_of(ion), nang as usize, cells)
 }
 
 // ion 150 words; cells: thirty an angle
@@ -112,10 +112,10 @@ fn sheet_into(
         return Err(Refusal::Length);
     }
     let s = port_state::state_of(state);
-    let lines = line_words::lines_of(layers);
+    let lines = port_state::line_words::lines_of(layers);
     let a = slot_sheet::slot_sheet(s, k as usize, nang as usize, lines, cells)?;
     port_state::state_into(a.state, state);
-    ionogram_words::marked_into(a.ion, a.marks, out);
+    crate::ionogram_words::marked_into(a.ion, a.marks, out);
     Ok(())
 }
 

@@ -3,3 +3,5 @@
 #![tactic(auto)]
 
 pub mod exports;
+pub mod ionogram_words;
+pub mod port_layouts;

@@ -3,7 +3,7 @@
 #![tactic(auto)]
 
 ghost use Rattle.std.specs.Prelude.{◌≡◌};
-ghost use Rattle.ionogram_words.specs.Sang.{sang_words};
+ghost use Rattle.port_ionogram.specs.Sang.{sang_words};
 ghost use Rattle.port_ionogram.specs.Exports.{port_selmod, port_genion, port_fobby, port_alosfv, port_sheet};
 
 // out: the angle count

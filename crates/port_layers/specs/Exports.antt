@@ -2,8 +2,8 @@
 use Rattle.std.specs.Prelude.{Bool, true, false, ◌&&◌, List, ℕ, ◌/◌, ◌%◌, leb, eqb, length, set, Result, Ok, Err}
 use Rattle.refusal.specs.declared.Refusal.{Refusal}
 use Rattle.layers.specs.Owners.{owner_number, owner_slot, owner_of}
-use Rattle.slots.specs.FromLayers.{from_layers_of}
-use Rattle.slots.specs.Ionset.{ionset_of}
+use Rattle.layers.specs.FromLayers.{from_layers_of}
+use Rattle.layers.specs.Ionset.{ionset_of}
 use Rattle.layers.specs.declared.IonoState.{IonoState}
 use Rattle.layers.specs.declared.Owner.{Owner}
 use Rattle.profile.specs.Lecden.{lecden_answer}

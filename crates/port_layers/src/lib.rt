@@ -20,7 +20,7 @@ fn ionset_into(state: &mut [u32]) -> Result<(), Refusal>
     if state.len() < STATE_WORDS {
         return Err(Refusal::Length);
     }
-    let s = slots::ionset(state_of(state))?;
+    let s = layers::slots::ionset(state_of(state))?;
     state_into(s, state);
     Ok(())
 }
@@ -65,7 +65,7 @@ fn from_layers_into(points: &[u32], state: &mut [u32]) -> Result<(), Refusal>
         return Err(Refusal::PointCount);
     }
     let n = len / 9;
-    let s = slots::from_layers(points_of(points, n), n)?;
+    let s = layers::slots::from_layers(points_of(points, n), n)?;
     state_into(s, state);
     Ok(())
 }

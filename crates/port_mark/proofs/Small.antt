@@ -7,7 +7,7 @@ use Rattle.std.specs.Prelude.{Option, None, Some, Result, Ok, Err}
 use Rattle.refusal.specs.declared.Refusal.{Refusal}
 use Rattle.marking.specs.Marked.{marked_of}
 use Rattle.marking.proofs.Laws.{marking-laws}
-use Rattle.marking_words.specs.Words.{SmallLine}
+use Rattle.port_mark.specs.Words.{SmallLine}
 
 pub small : (input : List ℕ) → SmallLine (marked_of input)
 small input = by (marked_of input) refl

@@ -1,7 +1,7 @@
 -- What the export answers, and the words that it leaves. Room for no word is refused with 1, before all else.
 use Rattle.std.specs.Prelude.{cond, List, ℕ, ltb, length}
 use Rattle.refusal.specs.Number.{answer_number}
-use Rattle.marking_words.specs.Words.{marking_into}
+use Rattle.port_mark.specs.Words.{marking_into}
 use Rattle.marking.specs.Marked.{marked_of}
 
 pub record Ported : Type 0 where

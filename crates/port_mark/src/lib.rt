@@ -2,6 +2,8 @@
 // Stays: words lent and a number answered, as callers in C have them.
 #![tactic(auto)]
 
+pub mod marking_words;
+
 ghost use Rattle.std.specs.Prelude.{◌≡◌};
 ghost use Rattle.refusal.specs.Number.{answer_number};
 ghost use Rattle.port_mark.specs.Exports.{mark_left};
@@ -16,7 +18,7 @@ fn mark_into(input: &[u8], out: &mut [u32]) -> Result<(), Refusal>
         return Err(Refusal::Length);
     }
     let m = marking::mark(input);
-    marking_words::marking_into(m, out)
+    crate::marking_words::marking_into(m, out)
 }
 
 // input: the file's length in four bytes, the file, the sheet; out: the number of the first line that is not ours, 0 where the sheet is the same

@@ -3,12 +3,12 @@ use Rattle.std.specs.Prelude.{Bool, true, false, List, ℕ, ltb, length, Float, 
 use Rattle.refusal.specs.Number.{number_of}
 use Rattle.refusal.specs.declared.Refusal.{Refusal}
 use Rattle.layer_mufs.specs.declared.PathNumbers.{PathNumbers}
-use Rattle.muf.specs.Curmuf.{flat_of}
+use Rattle.muf.specs.Curmuf.{flat_muf_of}
 use Rattle.muf.specs.declared.AnswerAndRow.{AnswerAndRow}
 use Rattle.port_state.specs.State.{state_words, state_of, state_into}
 use Rattle.port_state.specs.Words.{number}
-use Rattle.deviation_words.specs.Floats.{floats}
-use Rattle.hour_words.specs.HourWords.{hour_into, words_by}
+use Rattle.port_muf.specs.Floats.{floats}
+use Rattle.port_muf.specs.HourWords.{hour_into, words_by}
 
 -- the circuit MUF: its number, and the state's, the Es rows' and the hour's words afterwards
 pub record HourLeft : Type 0 where
@@ -35,9 +35,9 @@ curmuf_by false true c short a = short
 curmuf_by false false true short a = short
 curmuf_by false false false short a = a
 
--- `flat_of` is all of `curmuf`: its hour and state, and the row that it rewrites; here on what the words stand for and on the deciles, lists of any length
+-- `flat_muf_of` is all of `curmuf`: its hour and state, and the row that it rewrites; here on what the words stand for and on the deciles, lists of any length
 unfoldable pub curmuf_left : List ℕ → List ℕ → List Float → List ℕ → List ℕ → List ℕ → List ℕ → HourLeft
 curmuf_left state es deciles clat clck numbers out =
     curmuf_by (ltb (length state) state_words) (ltb (length numbers) 4) (ltb (length out) 54)
     (leaves (number_of Refusal.Length) state es out)
-    (done_left (flat_of (state_of state) (floats es) deciles (floats clat) (floats clck) (path_numbers_of numbers)) state es out)
+    (done_left (flat_muf_of (state_of state) (floats es) deciles (floats clat) (floats clck) (path_numbers_of numbers)) state es out)

@@ -4,7 +4,7 @@ ghost use Rattle.std.specs.Prelude.{◌≡◌, ◌≤◌, length};
 ghost use Rattle.refusal.specs.Number.{answer_number};
 ghost use Rattle.port_muf.specs.Exports.{leaves, path_numbers_of, curmuf_left};
 
-use hour_words::Words;
+use crate::hour_words::Words;
 use layer_mufs::PathNumbers;
 use port_state::STATE_WORDS;
 use refusal::Refusal;
@@ -42,8 +42,8 @@ fn curmuf_into(
     let d = muf::flat(s, Words(es), deciles, Words(clat), Words(clck), c)?;
     let a = d.answer;
     port_state::state_into(a.state, state);
-    hour_words::es_into(d.rewrite, es);
-    hour_words::hour_into(a.hour, out);
+    crate::hour_words::es_into(d.rewrite, es);
+    crate::hour_words::hour_into(a.hour, out);
     Ok(())
 }
 

@@ -4,8 +4,12 @@
 // Stays: deciles, numbers and out are what callers in C lend, side by side.
 #![tactic(auto)]
 
+pub mod deviation_words;
+pub mod hour_words;
+pub mod port_nominal;
+
 ghost use Rattle.std.specs.Prelude.{◌≡◌};
-ghost use Rattle.deviation_words.specs.F2disWords.{f2dis_left};
+ghost use Rattle.port_muf.specs.F2disWords.{f2dis_left};
 
 pub mod hour;
 
@@ -13,5 +17,5 @@ pub mod hour;
 pub fn port_f2dis(deciles: &[f32], numbers: &[u32], out: &mut [u32]) -> u32
     ensures { (result ≡ (f2dis_left deciles.now numbers.now out.old).number) × (out.new ≡ (f2dis_left deciles.now numbers.now out.old).words) }
 {
-    refusal::answer_number(&deviation_words::f2dis_into(deciles, numbers, out))
+    refusal::answer_number(&crate::deviation_words::f2dis_into(deciles, numbers, out))
 }

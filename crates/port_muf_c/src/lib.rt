@@ -3,7 +3,7 @@
 #![tactic(auto)]
 
 ghost use Rattle.std.specs.Prelude.{◌≡◌};
-ghost use Rattle.deviation_words.specs.F2disWords.{f2dis_left};
+ghost use Rattle.port_muf.specs.F2disWords.{f2dis_left};
 ghost use Rattle.port_muf.specs.Exports.{leaves, curmuf_left};
 
 // deciles 576; numbers: fmuf, ssn, clat, freq, abb; out: the deviation

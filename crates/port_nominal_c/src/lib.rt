@@ -3,7 +3,7 @@
 #![tactic(auto)]
 
 ghost use Rattle.std.specs.Prelude.{◌≡◌};
-ghost use Rattle.port_nominal.specs.Exports.{nominal_left};
+ghost use Rattle.port_muf.specs.NominalExports.{nominal_left};
 
 // points 9 words each: fi, yi, hi; f2m3 a word a point; es 4 words a row: fs 3, hs; numbers: gcd,
 // gcdkm; out 54: the hour, as `port_curmuf` writes it
@@ -17,5 +17,5 @@ pub extern "C" fn port_nommuf(
 ) -> u32
     ensures { (result ≡ (nominal_left points.now f2m3.now es.now numbers.now out.old).number) × (out.new ≡ (nominal_left points.now f2m3.now es.now numbers.now out.old).words) }
 {
-    port_nominal::port_nommuf(points, f2m3, es, numbers, out)
+    port_muf::port_nominal::port_nommuf(points, f2m3, es, numbers, out)
 }

@@ -1,3 +1,4 @@
 -- Signs as words, and words copied.
 pub mod Signs
 mod Copies
+pub mod state_laws

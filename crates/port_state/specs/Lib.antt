@@ -3,3 +3,7 @@ pub mod Words
 pub mod Owners
 pub mod State
 pub mod Ports
+-- A state is read back from its words.
+pub mod ReadBack
+-- Layer lines as words.
+pub mod Lines

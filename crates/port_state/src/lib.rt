@@ -2,6 +2,8 @@
 // Stays: words `w` of any length are lent, as callers in C have them, so a function asks that a state's words are there, and takes the state `s` beside them; and the place `from`, so that what is written is one equation over the whole list.
 #![tactic(auto)]
 
+pub mod line_words;
+
 ghost use Rattle.std.specs.Prelude.{◌≡◌, ℕ, ◌+◌, ◌*◌, ◌≤◌, ◌<◌, length};
 ghost use Rattle.port_state.specs.Words.{floats_of, floats_into, signed_of, word_of, count_word};
 ghost use Rattle.port_state.specs.State.{state_words, state_of, state_into};

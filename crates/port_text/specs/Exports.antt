@@ -1,6 +1,6 @@
 -- What the export answers, and the bytes and words that it leaves. Room for fewer than 8,192 bytes, or for no word, is refused with 1, before all else.
 use Rattle.std.specs.Prelude.{cond, List, ℕ, ltb, length}
-use Rattle.lent_text.specs.Left.{PortedText, refused_lent, left_by}
+use Rattle.port_text.specs.Left.{PortedText, refused_lent, left_by}
 use Rattle.circuit_sheet.specs.CircuitSheet.{sheet_of}
 use Rattle.sheet_text.specs.SheetText.{sheet_text}
 

@@ -2,6 +2,8 @@
 // Stays: bytes lent for the text and a word for its length, for callers in C.
 #![tactic(auto)]
 
+pub mod lent_text;
+
 ghost use Rattle.std.specs.Prelude.{◌≡◌};
 ghost use Rattle.refusal.specs.Number.{answer_number};
 ghost use Rattle.port_text.specs.Exports.{sheet_left};
@@ -16,7 +18,7 @@ fn sheet_text_into(file: &[u8], out: &mut [u8], length: &mut [u32]) -> Result<()
         return Err(Refusal::Length);
     }
     let page = sheet_text::sheet_page(file)?;
-    lent_text::text_into(Ok(page.text()), out, length)
+    crate::lent_text::text_into(Ok(page.text()), out, length)
 }
 
 // file: a circuit file; out: room for 8,192 bytes, into which the text is put; length: a word for the text's length

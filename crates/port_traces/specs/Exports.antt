@@ -4,10 +4,10 @@ use Rattle.std.specs.Prelude.{Bool, true, false, ◌||◌, List, ◌++◌, ℕ, 
 use Rattle.refusal.specs.Number.{number_of, answer_number}
 use Rattle.refusal.specs.declared.Refusal.{Refusal}
 use Rattle.port_state.specs.Words.{floats_of}
-use Rattle.traces.specs.Lines.{Compared, compared_of}
+use Rattle.traces.specs.Compared.{Compared, compared_of}
 use Rattle.answer_words.specs.Words.{short, number_left}
-use Rattle.computed_trace.specs.Computed.{trace_of}
-use Rattle.computed_trace.specs.declared.ComputedTrace.{ComputedTrace}
+use Rattle.traces.specs.Computed.{trace_of}
+use Rattle.traces.specs.declared.computed_trace.ComputedTrace.{ComputedTrace}
 
 -- ---- the lines of two traces
 

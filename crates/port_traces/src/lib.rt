@@ -64,7 +64,7 @@ fn trace_into(rows: &[u32], khz: &mut [u32], height: &mut [u32]) -> Result<(), R
     }
     let fvert = port_state::floats(rows, 0);
     let hprim = port_state::floats(rows, 30);
-    let trace = computed_trace::trace_of(fvert, hprim)?;
+    let trace = traces::computed_trace::trace_of(fvert, hprim)?;
     khz[..30].copy_from_slice(&trace.khz);
     height[..30].copy_from_slice(&trace.height);
     Ok(())

@@ -3,7 +3,7 @@
 #![tactic(auto)]
 
 ghost use Rattle.std.specs.Prelude.{◌≡◌};
-ghost use Rattle.port_wide.specs.Exports.{port_read128, port_write128};
+ghost use Rattle.port_circuit.specs.WideExports.{port_read128, port_write128};
 
 // The circuit of a file into 657 words, and its F2M3 into five more.
 #[unsafe(no_mangle)]
@@ -11,7 +11,7 @@ pub extern "C" fn port_read128(file: &[u8], out: &mut [u32]) -> u32
     ensures value { result ≡ (port_read128 file.now out.old).number }
     ensures out_after { out.new ≡ (port_read128 file.now out.old).cells }
 {
-    port_wide::port_read128(file, out)
+    port_circuit::port_wide::port_read128(file, out)
 }
 
 // The file of the circuit and the F2M3 that 662 words hold, and into `out` how many bytes it has.
@@ -21,5 +21,5 @@ pub extern "C" fn port_write128(words: &[u32], file: &mut [u8], out: &mut [u32])
     ensures file_after { file.new ≡ (port_write128 words.now file.old out.old).cells }
     ensures out_after { out.new ≡ (port_write128 words.now file.old out.old).words }
 {
-    port_wide::port_write128(words, file, out)
+    port_circuit::port_wide::port_write128(words, file, out)
 }

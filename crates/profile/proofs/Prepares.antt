@@ -7,12 +7,12 @@ use native.Mathlib.Omega.{arith}
 use lib.Seq.{get_or-set_same, get_or-set_other}
 use lib.Ieee.{nan}
 use Rattle.layers.specs.declared.IonoState.{IonoState}
-use Rattle.slot_curves.specs.F1.{reshaped_of}
+use Rattle.profile.specs.F1.{reshaped_of}
 use Rattle.profile.specs.Lecden.{slot_at, slot_written, supplied_of, lecden_by, lecden_of}
 use Rattle.profile.specs.Prepared.{Shaped, Prepared}
 use Rattle.profile.proofs.Keeps.{lecden-keeps}
-use Rattle.slot_curves.specs.declared.Slot.{Slot}
-use Rattle.slot_curves.specs.declared.F1Shape.{F1Shape}
+use Rattle.profile.specs.declared.slot_curves.Slot.{Slot}
+use Rattle.profile.specs.declared.slot_curves.F1Shape.{F1Shape}
 
 module _ (k j : ℕ) (h : j ≢ k) where
   e-other : 3 * j ≢ 3 * k + 1

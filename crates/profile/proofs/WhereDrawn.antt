@@ -5,9 +5,9 @@ use Prim.Native.Nat.{ℕ}
 use Rattle.std.specs.Prelude.{None, Some}
 use Rattle.std.proofs.lemmas.Option.{none-some, same_Some}
 use Rattle.layers.specs.declared.IonoState.{IonoState}
-use Rattle.slot_curves.specs.Draw.{drawn_of}
-use Rattle.slot_curves.specs.declared.Slot.{Slot}
-use Rattle.slot_curves.specs.declared.Drawn.{Drawn}
+use Rattle.profile.specs.Draw.{drawn_of}
+use Rattle.profile.specs.declared.slot_curves.Slot.{Slot}
+use Rattle.profile.specs.declared.slot_curves.Drawn.{Drawn}
 use Rattle.profile.specs.Lecden.{slot_at, supplied_of, drawn_by, slot_drawn}
 
 none-by : (b : Bool) (p : Slot) → None ≡ drawn_by b p → b ≡ true

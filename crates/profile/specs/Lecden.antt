@@ -6,12 +6,12 @@ use Rattle.layers.specs.State.{with_tables, with_fsecv, with_profile, with_owner
 use Rattle.layers.specs.declared.IonoState.{IonoState}
 use Rattle.layers.specs.declared.Owner.{Owner}
 use Rattle.profile.specs.Rising.{rises_of}
-use Rattle.slot_curves.specs.F1.{valley_of, f1_of, reshaped_of}
-use Rattle.slot_curves.specs.Grid.{heights_of}
-use Rattle.shape_densities.specs.Density.{density_of}
-use Rattle.slot_curves.specs.Draw.{tail_of, curves_of, drawn_of}
-use Rattle.slot_curves.specs.declared.Slot.{Slot}
-use Rattle.slot_curves.specs.declared.Drawn.{Drawn}
+use Rattle.profile.specs.F1.{valley_of, f1_of, reshaped_of}
+use Rattle.profile.specs.Grid.{heights_of}
+use Rattle.profile.specs.Density.{density_of}
+use Rattle.profile.specs.Draw.{tail_of, curves_of, drawn_of}
+use Rattle.profile.specs.declared.slot_curves.Slot.{Slot}
+use Rattle.profile.specs.declared.slot_curves.Drawn.{Drawn}
 
 unfoldable pub slot_at : IonoState → ℕ → Slot
 slot_at s k =

@@ -3,7 +3,7 @@ use Rattle.std.specs.Prelude.{◌≡◌, ◌≢◌, ℕ, length}
 use Rattle.layers.specs.declared.IonoState.{IonoState}
 use Rattle.layers.specs.declared.Owner.{Owner}
 use Rattle.profile.specs.Rising.{rises_of}
-use Rattle.slot_curves.specs.Draw.{prepared_of, htr_of, fnsq_of}
+use Rattle.profile.specs.Draw.{prepared_of, htr_of, fnsq_of}
 use Rattle.profile.specs.Lecden.{slot_at}
 
 -- the tables' lengths, as every state of the code has them

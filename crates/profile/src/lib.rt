@@ -1,13 +1,17 @@
 // A slot's density profile, made of its layers: a squared plasma frequency at each of fifty heights.
 #![tactic(auto)]
 
+pub mod shape_densities;
+pub mod shapes;
+pub mod slot_curves;
+
 ghost use Rattle.std.specs.Prelude.{◌≡◌, ◌<◌};
 ghost use Rattle.profile.specs.Rising.{rises_of};
 ghost use Rattle.profile.specs.Lecden.{slot_at, slot_written, slot_drawn, lecden_of, lecden_answer};
 
+use crate::slot_curves::{Drawn, Slot};
 use layers::{IonoState, Owner, owners};
 use refusal::Refusal;
-use slot_curves::{Drawn, Slot};
 
 // The rising test: is each height below the next. A NaN fails it.
 pub fn rises_throughout(htr: &[f32; 50]) -> bool
@@ -58,7 +62,7 @@ pub fn drawn(s: IonoState, k: usize) -> Option<Drawn>
     if s.ielect {
         return None;
     }
-    Some(slot_curves::draw(slot_at(s, k)))
+    Some(crate::slot_curves::draw(slot_at(s, k)))
 }
 
 // Slot k's profile; nothing where the profile is supplied.

@@ -2,3 +2,5 @@
 pub mod Scan
 pub mod Cursor
 pub mod Segments
+-- Interpolation.
+pub mod Xlin

@@ -19,7 +19,7 @@ reading_kind (Floor v) = 0
 reading_kind (Segment v n) = 1
 reading_kind (Top v) = 2
 
--- and its segment, 0 to 48: floor 0, top 49
+-- its segment: 0 to 48 on a segment, 0 on the floor, 49 at the top
 unfoldable pub segment_number : Reading → ℕ
 segment_number (Floor v) = 0
 segment_number (Segment v n) = n
@@ -30,7 +30,7 @@ segment_number (Top v) = 49
 abbrev pub interpolated : Float → Float → Float → Float → Float → Float
 interpolated from0 from1 to0 to1 probe = to0 +f (probe -f from0) *f (to1 -f to0) /f (from1 -f from0)
 
--- does it hold the probe: test by test as in the Rust, with d = from0 - from1; a segment that is not held is passed over
+-- does it hold the probe: test by test as in the Rust, with d = from0 - from1; a segment that does not hold it is passed over
 unfoldable pub segment_of : Float → Float → Float → Float → Float → Option Float
 segment_of from0 from1 to0 to1 probe =
     let d = from0 -f from1 in
@@ -41,22 +41,10 @@ segment_of from0 from1 to0 to1 probe =
     (cond (probe -f from0 ==f f0) (Some to0) None)
     (cond ((from0 -f probe ≥f f0) && (probe -f from1 >f f0)) (Some y) None))
 
--- does the segment hold the probe, and with which number, +0 where it does not
-abbrev pub held_of : Option Float → Bool
-held_of (Some v) = true
-held_of None = false
-
-abbrev pub hit_value : Option Float → Float
-hit_value (Some v) = v
-hit_value None = f0
-
 -- ---- the scan: a segment has the number of its lower node, also where its two nodes are equal and met exactly
-abbrev pub or_on_by : Bool → Float → ℕ → Reading → Reading
-or_on_by true v ih r = Segment v ih
-or_on_by false v ih r = r
-
 abbrev pub or_on : Option Float → ℕ → Reading → Reading
-or_on h ih r = or_on_by (held_of h) (hit_value h) ih r
+or_on (Some v) ih r = Segment v ih
+or_on None ih r = r
 
 -- the n segments from ih on: the first that holds the probe, or the last number
 unfoldable pub scan_from : List Float → List Float → Float → ℕ → ℕ → Reading

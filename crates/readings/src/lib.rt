@@ -2,6 +2,8 @@
 // heights rise, on from the segment at which the last read stopped.
 #![tactic(auto)]
 
+pub mod xlin;
+
 ghost use Rattle.std.specs.Prelude.{◌≡◌};
 ghost use Rattle.readings.specs.Scan.{interpolated, segment_of, scan_of, value_of, reading_kind, segment_number, found_of, reading_of};
 ghost use Rattle.readings.specs.Cursor.{climb_of, read_on_of};
@@ -166,7 +168,7 @@ impl Profile<'_> {
     }
 
     // The density at the height `zi` where the heights rise, read on from the cursor `ih`. Where `ih`
-    // is not above the count of `zi` it is the scan's (crate `walk`).
+    // is not above the count of `zi` it is the scan's (`walk` of crate `heights`).
     // Stays: the floor's test stands here as in `read_by_scan`, whose answer has no cursor.
     pub fn read_on(self, zi: f32, ih: usize) -> Read
         ensures { result ≡ read_on_of self.entry.htr.now self.entry.fnsq.now zi ih }

@@ -2,6 +2,9 @@
 // Stays: the record r is the part of the file itself, so its readers take it with a place `at`, or with the words `out` that they fill.
 #![tactic(auto)]
 
+pub mod record_chain;
+pub mod wide_form;
+
 ghost use Rattle.std.specs.Prelude.{◌≡◌, ◌+◌, ◌*◌, ◌≤◌, ◌<◌, length, get_or, drop};
 ghost use Rattle.records.specs.Record.{half_at, word_at, record_words, all_zero, fits};
 

@@ -11,9 +11,9 @@ use lib.Seq.{get_or-take}
 use Rattle.scalar.specs.F32.{◌+f◌, ◌*f◌, ◌/f◌, at}
 use Rattle.constants.specs.Constants.{D2R, RZ}
 use Rattle.waves.specs.SinCos.{cos_of, wave_bits}
-use Rattle.cell_test.specs.Cell.{khz_of, sqcos_of}
-use Rattle.cell_rows.specs.Row.{angle_cells_of, cell_scan_of}
-use Rattle.scan_angles.specs.Angles.{ANG}
+use Rattle.reflectrix.specs.Cell.{khz_of, sqcos_of}
+use Rattle.reflectrix.specs.Row.{angle_cells_of, cell_scan_of}
+use Rattle.reflectrix.specs.Angles.{ANG}
 use Rattle.reflectrix.specs.Fobby.{rcosd_of, oblique_of, cell_of, row_into, angles_into}
 use Rattle.reflectrix.specs.declared.Ionogram.{Ionogram}
 

@@ -7,7 +7,7 @@ use Rattle.scalar.specs.Root.{sqrt_of}
 use Rattle.constants.specs.Constants.{D2R, RZ}
 use Rattle.waves.specs.SinCos.{cos_of}
 use Rattle.refusal.specs.declared.Refusal.{Refusal}
-use Rattle.scan_angles.specs.Angles.{ANG}
+use Rattle.reflectrix.specs.Angles.{ANG}
 use Rattle.reflectrix.specs.declared.Ionogram.{Ionogram}
 
 unfoldable pub rcosd_of : ℕ → Float

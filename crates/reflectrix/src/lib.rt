@@ -1,7 +1,10 @@
 // The ionogram of a slot: its thirty rows, and the reflectrix.
 #![tactic(auto)]
 
+pub mod cell_rows;
+pub mod cell_test;
 mod reflectrix;
+pub mod scan_angles;
 
 ghost use Rattle.std.specs.Prelude.{◌≡◌};
 ghost use Rattle.reflectrix.specs.Rows.{no_rows};

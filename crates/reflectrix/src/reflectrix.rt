@@ -6,7 +6,7 @@ ghost use Rattle.std.specs.Prelude.{◌≡◌, ◌*◌, ◌≤◌, length};
 ghost use Rattle.reflectrix.specs.Fobby.{angles_into, cells_after, fobby_outcome};
 
 use crate::Ionogram;
-use cell_rows::Rows;
+use crate::cell_rows::Rows;
 use constants::RZ;
 use refusal::Refusal;
 use std::array::from_fn;
@@ -25,9 +25,9 @@ fn angles(ion: Ionogram, nang: usize, cells: &mut [i32])
     requires { (nang ≤ 40) × (30 * nang ≤ length cells.old) }
     ensures { cells.new ≡ angles_into ion cells.old nang }
 {
-    let htrue = cell_rows::padded(ion.htrue);
+    let htrue = crate::cell_rows::padded(ion.htrue);
     let radii = from_fn(|i| RZ + htrue[i]);
-    let rows = Rows::new(cell_rows::padded(ion.fvert), radii);
+    let rows = Rows::new(crate::cell_rows::padded(ion.fvert), radii);
     rows.scan(&RCOSD, nang, cells);
 }
 

@@ -1,5 +1,5 @@
 // `selmod`: the slot by which ray paths are worked out.
-// Stays: beside crate `controlling_slot`, whose tests answer otherwise at a NaN and at 0.01.
+// Stays: beside `controlling_slot` of crate `layer_mufs`, whose tests answer otherwise at a NaN and at 0.01.
 #![tactic(auto)]
 
 ghost use Rattle.std.specs.Prelude.{◌≡◌};

@@ -4,7 +4,7 @@ use mathlib.Core.Path.{◌≡◌}
 use Prim.Native.Nat.{ℕ, zero, suc, ◌+◌, ◌*◌, ◌^◌, ◌≤◌, ◌<◌}
 use native.Mathlib.Nat.{mul-pos}
 use native.Mathlib.Omega.{arith}
-use Rattle.series.specs.Series.{Close, Kind, sine, cosine, full, num, class}
+use Rattle.series.specs.Series.{Close, Wave, sine, cosine, full, num, class}
 
 -- what j pairs of terms come to, over the one denominator `den`: the terms 0, 2, .., 2 j - 2 are added (`plus`), the terms 1, 3, .., 2 j - 1 are taken off (`minus`).
 -- next / den is the term 2 j, the first that is left out.
@@ -45,12 +45,12 @@ abbrev pub Kat : ℕ → ℕ → ℕ
 Kat o k = (2 * k + (o + 1)) * (2 * k + (o + 2))
 
 -- the exponent of the first term
-abbrev pub shift : Kind → ℕ
+abbrev pub shift : Wave → ℕ
 shift sine = 1
 shift cosine = 0
 
 -- the first term at n / d is start n / start d
-abbrev pub start : Kind → ℕ → ℕ
+abbrev pub start : Wave → ℕ → ℕ
 start sine n = n
 start cosine n = 1
 

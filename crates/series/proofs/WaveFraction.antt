@@ -4,7 +4,7 @@ use Prim.Native.Nat.{ℕ, zero, suc, ◌+◌, ◌*◌, ◌≤◌, ◌<◌}
 use native.Mathlib.Nat.{le_trans, mul_assoc, mul_comm, mul_left_comm, mul-le-mul_right, mul-pos, le_of_mul-le-mul_right, add-mul}
 use native.Mathlib.Omega.{arith}
 use lib.Dec.{lit<}
-use Rattle.series.specs.Series.{Close, Kind, sine, cosine}
+use Rattle.series.specs.Series.{Close, Wave, sine, cosine}
 use Rattle.series.proofs.Pairs.{Sums, grow, sums, Limit, start}
 
 pub record Times (w : ℕ) (s s' : Sums) : Type 0 where
@@ -48,20 +48,20 @@ module _ (K : ℕ → ℕ) (n d c : ℕ) where
         minus = ap₂ (λ (x y : ℕ). x * (g' * h') + y * (n * c * (n * c)) * h') t.minus t.next ∙ minus-go s.minus s.next w g h g' h' e f;
       }
 
-  weight : Kind → ℕ → ℕ
+  weight : Wave → ℕ → ℕ
   weight w zero = start w c
   weight w (suc j) = weight w j * (c * c * (c * c))
 
-  start-pos : 0 < c → (w : Kind) → 0 < start w c
+  start-pos : 0 < c → (w : Wave) → 0 < start w c
   start-pos p sine = p
   start-pos p cosine = lit< tt
 
-  weight-pos : 0 < c → (w : Kind) (j : ℕ) → 0 < weight w j
+  weight-pos : 0 < c → (w : Wave) (j : ℕ) → 0 < weight w j
   unfolding weight
   weight-pos p w zero = start-pos p w
   weight-pos p w (suc j) = mul-pos (weight-pos p w j) (mul-pos (mul-pos p p) (mul-pos p p))
 
-  times : (w : Kind) (j : ℕ) → Times (weight w j) (sums K n d (start w n) (start w d) j) (sums K (n * c) (d * c) (start w (n * c)) (start w (d * c)) j)
+  times : (w : Wave) (j : ℕ) → Times (weight w j) (sums K n d (start w n) (start w d) j) (sums K (n * c) (d * c) (start w (n * c)) (start w (d * c)) j)
   unfolding sums weight
   times sine zero = record { den = refl; next = refl; plus = omega arith; minus = omega arith }
   times cosine zero = record { den = refl; next = refl; plus = refl; minus = refl }
@@ -83,7 +83,7 @@ close_down m r t u p q c p' q' c' w P e f g k =
     }
 
 -- from n / d to an equal fraction n' / d'
-module _ (w : Kind) (K : ℕ → ℕ) (n d n' d' : ℕ) (D : 0 < d) (e : n' * d ≡ n * d') where
+module _ (w : Wave) (K : ℕ → ℕ) (n d n' d' : ℕ) (D : 0 < d) (e : n' * d ≡ n * d') where
   join : (i : ℕ) → Times (weight K n' d' d w i) (sums K n' d' (start w n') (start w d') i) (sums K (n * d') (d * d') (start w (n * d')) (start w (d * d')) i)
   join i = subst₂ (λ (x y : ℕ). Times (weight K n' d' d w i) (sums K n' d' (start w n') (start w d') i) (sums K x y (start w x) (start w y) i)) e (mul_comm d' d) (times K n' d' d w i)
 

@@ -60,6 +60,6 @@ pub record Close (m r t u p q c : ℕ) : Type 0 where
   pub high : m * p + t * c ≤ m * q + (r + u) * c
 
 -- ---- which of the two
-pub data Kind : Type 0 where
-  sine : Kind
-  cosine : Kind
+pub data Wave : Type 0 where
+  sine : Wave
+  cosine : Wave

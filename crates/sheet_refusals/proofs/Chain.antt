@@ -3,8 +3,8 @@ use Rattle.std.specs.Prelude.{Bool, true, false, cond, ◌||◌, List, [], ◌�
 use Rattle.refusal.specs.declared.Refusal.{Refusal}
 use Rattle.records.specs.declared.Form.{Form}
 use Rattle.records.specs.Record.{record_at, next_of}
-use Rattle.record_chain.specs.declared.Chain.{Chain}
-use Rattle.record_chain.specs.Chain.{record_count, length_good, head_good, km_of, member, step_by, step_of, ended, answered_chain, by_step, sound_by, walk, chain_of}
+use Rattle.records.specs.declared.record_chain.Chain.{Chain}
+use Rattle.records.specs.Chain.{record_count, length_good, head_good, km_of, member, step_by, step_of, ended, answered_chain, by_step, sound_by, walk, chain_of}
 
 -- of what is refused P holds
 module _ (P : Refusal → Type 0) (long : P Refusal.Length) (head : P Refusal.RecordZero) (step : P Refusal.ChainStep) (rec : P Refusal.ChainRecord) where

@@ -11,26 +11,26 @@ use Rattle.refusal.specs.declared.Refusal.{Refusal}
 use Rattle.layers.specs.declared.IonoState.{IonoState}
 use Rattle.layers.specs.declared.LayerMuf.{LayerMuf}
 use Rattle.profile.specs.Lecden.{slot_at, lecden_of}
-use Rattle.slot_curves.specs.declared.Slot.{Slot}
+use Rattle.profile.specs.declared.slot_curves.Slot.{Slot}
 use Rattle.heights.specs.Gethp.{Finder, gethp_of}
 use Rattle.deciles.specs.F2dis.{icc_of, f2dis_of}
 use Rattle.hops.specs.Geometry.{hop_ratio_of, hops_by, hops_of, geometry_by, geometry_of}
 use Rattle.hops.specs.declared.HopGeometry.{HopGeometry}
 use Rattle.hops.specs.declared.Round.{Round}
-use Rattle.controlling_slot.specs.Controlling.{controlling_of}
-use Rattle.tangents.specs.Tangents.{tangents_of}
-use Rattle.e_lines.specs.Lines.{read_with, e_heights_with, e_line_by, e_line_with}
+use Rattle.layer_mufs.specs.Controlling.{controlling_of}
+use Rattle.layer_mufs.specs.Tangents.{tangents_of}
+use Rattle.layer_mufs.specs.LayerLine.{read_with, e_heights_with, e_line_by, e_line_with}
 use Rattle.layer_mufs.specs.Lines.{f2_heights_with, bent_of, both_by, deviations_of, f2_bent_by, f2_bent_of, f2_line_by, f2_line_with, f1_own_by, f1_own_with, f1_line_by, f1_line_with}
 use Rattle.layer_mufs.specs.declared.PathNumbers.{PathNumbers}
-use Rattle.tangents.specs.declared.F2Tangent.{F2Tangent}
-use Rattle.e_lines.specs.declared.HeightPair.{HeightPair}
+use Rattle.layer_mufs.specs.declared.tangents.F2Tangent.{F2Tangent}
+use Rattle.layer_mufs.specs.declared.e_lines.HeightPair.{HeightPair}
 use Rattle.layer_mufs.specs.declared.Deviations.{Deviations}
-use Rattle.controlling_slot.proofs.Small.{controlling-small}
-use Rattle.sporadic.specs.Sporadic.{hop_by, row_by, es_row_of, start_of, row_at, next_by, es_from}
+use Rattle.layer_mufs.proofs.controlling_slot.Small.{controlling-small}
+use Rattle.muf.specs.Sporadic.{hop_by, row_by, es_row_of, start_of, row_at, next_by, es_from}
 use Rattle.layers.specs.declared.EsParams.{EsParams}
-use Rattle.sporadic.specs.declared.EsSearch.{EsSearch}
+use Rattle.muf.specs.declared.sporadic.EsSearch.{EsSearch}
 use Rattle.muf.specs.Hour.{mode_by, mode_of, hour_of}
-use Rattle.muf.specs.Curmuf.{in_domain, lists_reach, found_then, regular_with, found_muf_of, es_by, regular_by, muf_at_slot_with, muf_from_search_by, muf_from_search_with, muf_of_rows_with, row_count_of, flat_with, flat_of, answer_by, curmuf_of}
+use Rattle.muf.specs.Curmuf.{in_domain, lists_reach, found_then, regular_with, found_muf_of, es_by, regular_by, muf_at_slot_with, muf_from_search_by, muf_from_search_with, muf_of_rows_with, row_count_of, flat_muf_with, flat_muf_of, answer_by, curmuf_of}
 use Rattle.muf.specs.declared.RegularLines.{RegularLines}
 use Rattle.muf.specs.declared.MufHour.{MufHour}
 use Rattle.muf.specs.declared.AnswerAndRow.{AnswerAndRow}
@@ -173,8 +173,8 @@ module _ (P : Refusal → Type 0) (input : P Refusal.MufInput) (hops : P Refusal
       regular-by (regular_with gethp_of t (slot_at t ks) f2d (at clat ks) (at clck ks) c) t (slot_at t ks) ks step (controlling-small s) (regular-in gethp_of t (slot_at t ks) f2d (at clat ks) (at clck ks) c e) q
   search-by false s step f2d clat clck c e q = input
 
-  flat-in : (s : IonoState) (es f2d clat clck : List Float) (c : PathNumbers) → eqb (length f2d) 576 ≡ true → lists_reach (controlling_of s) (length f2d) (length clat) (length clck) ≡ true → Good (flat_of s es f2d clat clck c)
-  unfolding flat_with muf_of_rows_with muf_from_search_with
+  flat-in : (s : IonoState) (es f2d clat clck : List Float) (c : PathNumbers) → eqb (length f2d) 576 ≡ true → lists_reach (controlling_of s) (length f2d) (length clat) (length clck) ≡ true → Good (flat_muf_of s es f2d clat clck c)
+  unfolding flat_muf_with muf_of_rows_with muf_from_search_with
   flat-in s es f2d clat clck c e reach =
       let n = row_count_of (length es) s.km in
       let step = es_from (row_at es) c n 0 start_of in
@@ -184,12 +184,12 @@ module _ (P : Refusal → Type 0) (input : P Refusal.MufInput) (hops : P Refusal
   refused-in (Ok d) h = tt
   refused-in (Err r) h = h
 
-  pub flat-refused : (s : IonoState) (es f2d clat clck : List Float) (c : PathNumbers) → eqb (length f2d) 576 ≡ true → lists_reach (controlling_of s) (length f2d) (length clat) (length clck) ≡ true → IfErr (flat_of s es f2d clat clck c) P
-  flat-refused s es f2d clat clck c e reach = refused-in (flat_of s es f2d clat clck c) (flat-in s es f2d clat clck c e reach)
+  pub flat-refused : (s : IonoState) (es f2d clat clck : List Float) (c : PathNumbers) → eqb (length f2d) 576 ≡ true → lists_reach (controlling_of s) (length f2d) (length clat) (length clck) ≡ true → IfErr (flat_muf_of s es f2d clat clck c) P
+  flat-refused s es f2d clat clck c e reach = refused-in (flat_muf_of s es f2d clat clck c) (flat-in s es f2d clat clck c e reach)
 
   answer-in : (x : Result AnswerAndRow Refusal) → Good x → MatchResult (answer_by x) (λ a. HourGood a.hour) P
   answer-in (Ok d) h = h
   answer-in (Err r) h = h
 
   pub muf-in : (s : IonoState) (es f2d clat clck : List Float) (c : PathNumbers) → eqb (length f2d) 576 ≡ true → lists_reach (controlling_of s) (length f2d) (length clat) (length clck) ≡ true → MatchResult (curmuf_of s es f2d clat clck c) (λ a. HourGood a.hour) P
-  muf-in s es f2d clat clck c e reach = answer-in (flat_of s es f2d clat clck c) (flat-in s es f2d clat clck c e reach)
+  muf-in s es f2d clat clck c e reach = answer-in (flat_muf_of s es f2d clat clck c) (flat-in s es f2d clat clck c e reach)

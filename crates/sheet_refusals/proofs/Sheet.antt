@@ -6,16 +6,16 @@ use mathlib.Core.Path.{refl, subst}
 use Rattle.std.proofs.lemmas.Bool.{and_parts}
 use Rattle.refusal.specs.declared.Refusal.{Refusal}
 use Rattle.records.specs.Record.{form64}
-use Rattle.record_chain.specs.declared.Chain.{Chain}
-use Rattle.record_chain.specs.Chain.{member, chain_of}
+use Rattle.records.specs.declared.record_chain.Chain.{Chain}
+use Rattle.records.specs.Chain.{member, chain_of}
 use Rattle.circuit.specs.Read.{read_by, circuit_of, read_of}
 use Rattle.layers.specs.declared.IonoState.{IonoState}
-use Rattle.controlling_slot.specs.Controlling.{controlling_of}
+use Rattle.layer_mufs.specs.Controlling.{controlling_of}
 use Rattle.muf.specs.declared.MufAnswer.{MufAnswer}
 use Rattle.muf.specs.Curmuf.{lists_reach}
-use Rattle.scan_angles.specs.Angles.{NANGX, distance_step_of, angle_count_of, scan_by, sang_of}
+use Rattle.reflectrix.specs.Angles.{NANGX, distance_step_of, angle_count_of, scan_by, sang_of}
 use Rattle.circuit_sheet.specs.declared.Sheet.{Sheet}
-use Rattle.circuit_numbers.specs.Numbers.{es_of, column_of, path_of}
+use Rattle.circuit_sheet.specs.Numbers.{es_of, column_of, path_of}
 use Rattle.circuit_sheet.specs.CircuitSheet.{Circuit, slots_of, muf_of, answered_of, muf_then, scanned_of, scan_then, circuit_sheet_of, read_then, sheet_of}
 use Rattle.circuit_sheet.proofs.Ranges.{slots-most, lists-reach}
 use Rattle.sheet_refusals.specs.Refusals.{Among, chain_numbers, sheet_numbers, ChainRefusals, SheetRefusals, SheetPrinted}

@@ -3,7 +3,7 @@ use Rattle.std.specs.Prelude.{true, List, [], ◌∷◌, ◌⊎◌, ◌≡◌, �
 use Rattle.refusal.specs.Number.{number_of}
 use Rattle.refusal.specs.declared.Refusal.{Refusal}
 use Rattle.records.specs.declared.Form.{Form}
-use Rattle.record_chain.specs.Chain.{member, chain_of}
+use Rattle.records.specs.Chain.{member, chain_of}
 use Rattle.circuit_sheet.specs.CircuitSheet.{sheet_of}
 use Rattle.circuit_sheet.specs.declared.Sheet.{Sheet}
 

@@ -7,7 +7,7 @@ use Rattle.refusal.specs.declared.Refusal.{Refusal}
 use Rattle.records.specs.Record.{form64}
 use Rattle.circuit.specs.Read.{read_of}
 use Rattle.muf.specs.declared.MufAnswer.{MufAnswer}
-use Rattle.scan_angles.specs.Angles.{sang_of}
+use Rattle.reflectrix.specs.Angles.{sang_of}
 use Rattle.circuit_sheet.specs.CircuitSheet.{Circuit, slots_of, muf_of, answered_of, muf_then, scanned_of, scan_then, circuit_sheet_of, read_then, sheet_of}
 use Rattle.circuit_sheet.proofs.Ranges.{slots-most}
 use Rattle.sheet_text.specs.SheetText.{SlotsFew}

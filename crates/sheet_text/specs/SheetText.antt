@@ -4,9 +4,9 @@ use Rattle.refusal.specs.declared.Refusal.{Refusal}
 use Rattle.lines.specs.Text.{refused_text}
 use Rattle.circuit_sheet.specs.declared.Sheet.{Sheet}
 use Rattle.circuit_sheet.specs.CircuitSheet.{sheet_of}
-unfoldable pub use Rattle.sheet_rows.specs.SheetRows.{row_line}
-unfoldable pub use Rattle.sheet_lines.specs.SheetLines.{muf_line, call_line, slot_line, slot_text, answered_text}
-pub use Rattle.sheet_lines.specs.SheetLines.{call_word, slot_text_at}
+unfoldable pub use Rattle.sheet_text.specs.SheetRows.{row_line}
+unfoldable pub use Rattle.sheet_text.specs.SheetLines.{muf_line, call_line, slot_line, slot_text, answered_text}
+pub use Rattle.sheet_text.specs.SheetLines.{call_word, slot_text_at}
 
 abbrev pub sheet_text_by : Result Sheet Refusal → List ℕ
 sheet_text_by (Ok s) = answered_text s

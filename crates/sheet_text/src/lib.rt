@@ -1,6 +1,9 @@
 // What `sheet` prints of a circuit file, as a page.
 #![tactic(auto)]
 
+pub mod sheet_lines;
+pub mod sheet_rows;
+
 ghost use Rattle.std.specs.Prelude.{◌≡◌, ◌≤◌};
 ghost use Rattle.lines.specs.Text.{refused_text};
 ghost use Rattle.circuit_sheet.specs.CircuitSheet.{sheet_of};
@@ -19,7 +22,7 @@ fn answered(sheet: &Sheet) -> Page<ROOM>
     ensures { result ≡ answered_text sheet.now }
 {
     let mut page = Page::new();
-    sheet_lines::put_sheet(&mut page, sheet);
+    crate::sheet_lines::put_sheet(&mut page, sheet);
     page
 }
 

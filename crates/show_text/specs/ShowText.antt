@@ -3,7 +3,7 @@ use Rattle.std.specs.Prelude.{List, ℕ, Result, Ok, Err}
 use Rattle.refusal.specs.declared.Refusal.{Refusal}
 use Rattle.circuit_sheet.specs.declared.Sheet.{Sheet}
 use Rattle.circuit_sheet.specs.CircuitSheet.{sheet_of}
-use Rattle.show_page.specs.Page.{page_text, refusal_text}
+use Rattle.show_text.specs.Page.{page_text, refusal_text}
 
 abbrev pub show_text_by : Result Sheet Refusal → List ℕ
 show_text_by (Ok s) = page_text s

@@ -1,6 +1,12 @@
 // What `show` prints of a circuit file: the sheet for the eye, in decimals and words.
 #![tactic(auto)]
 
+pub mod muf_table;
+pub mod reason_text;
+pub mod row_table;
+pub mod run_text;
+pub mod show_page;
+
 ghost use Rattle.std.specs.Prelude.{◌≡◌};
 ghost use Rattle.show_text.specs.ShowText.{show_text};
 
@@ -17,8 +23,8 @@ pub fn show_text(file: &[u8]) -> Page<ROOM>
 {
     let mut page = Page::new();
     match circuit_sheet::of_file(file) {
-        Ok(s) => show_page::put_page(&mut page, &s),
-        Err(r) => show_page::put_refusal(&mut page, r),
+        Ok(s) => crate::show_page::put_page(&mut page, &s),
+        Err(r) => crate::show_page::put_refusal(&mut page, r),
     }
     page
 }

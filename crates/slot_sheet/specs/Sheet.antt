@@ -4,7 +4,7 @@ use Rattle.refusal.specs.declared.Refusal.{Refusal}
 use Rattle.layers.specs.declared.IonoState.{IonoState}
 use Rattle.layers.specs.declared.LayerMuf.{LayerMuf}
 use Rattle.profile.specs.Lecden.{lecden_of}
-use Rattle.shapes.specs.Marks.{marks_of}
+use Rattle.profile.specs.Marks.{marks_of}
 use Rattle.heights.specs.Gethp.{Finder, gethp_of}
 use Rattle.reflectrix.specs.Fobby.{angles_into, room_for}
 use Rattle.losses.specs.Alosfv.{alosfv_of}

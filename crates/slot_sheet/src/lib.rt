@@ -7,9 +7,9 @@ ghost use Rattle.std.specs.Prelude.{◌≡◌};
 ghost use Rattle.slot_sheet.specs.Sheet.{slot_sheet_of, sheet_cells_of};
 
 use layers::{IonoState, LayerMuf};
+use profile::shapes::Mark;
 use reflectrix::Ionogram;
 use refusal::Refusal;
-use shapes::Mark;
 
 // The ionogram of a slot, the marks of its fifty heights, and the state as `lecden` of the slot left
 // it.
@@ -33,7 +33,7 @@ pub fn slot_sheet(
     ensures cells_after { cells.new ≡ sheet_cells_of s k nang cells.old }
 {
     layers::slot_number(k)?;
-    let marks = shapes::marks_slot(s, k);
+    let marks = profile::shapes::marks_slot(s, k);
     let t = profile::lecden_slot(s, k);
     let ion = sounding::genion_slot(t, k);
     reflectrix::fobby(ion, nang, cells)?;

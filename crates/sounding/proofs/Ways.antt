@@ -10,7 +10,7 @@ use Rattle.layers.specs.State.{profile_only}
 use Rattle.layers.specs.declared.IonoState.{IonoState}
 use Rattle.heights.specs.Gethp.{Finder, gethp_of, gethp_scan_of}
 use Rattle.heights.proofs.Finders.{Agree, scans-agree}
-use Rattle.sounding_rows.specs.Rows.{rows_of, virtual_by, rows_by, rows_with}
+use Rattle.sounding.specs.Rows.{rows_of, virtual_by, rows_by, rows_with}
 use Rattle.sounding.specs.Genion.{fvert_at, genion_with, genion_of}
 
 -- rows by two functions that agree at every frequency

@@ -6,8 +6,8 @@ use Rattle.layers.specs.declared.IonoState.{IonoState}
 use Rattle.heights.specs.Gethp.{Finder, gethp_of}
 use Rattle.refusal.specs.declared.Refusal.{Refusal}
 use Rattle.reflectrix.specs.declared.Ionogram.{Ionogram}
-use Rattle.sounding_grid.specs.Grid.{fvert_of}
-use Rattle.sounding_rows.specs.Rows.{rows_with}
+use Rattle.sounding.specs.Grid.{fvert_of}
+use Rattle.sounding.specs.Rows.{rows_with}
 
 unfoldable pub fvert_at : IonoState → ℕ → List Float
 fvert_at s k = fvert_of (at s.fi (3 * k)) (at s.fi (3 * k + 1)) (at s.fi (3 * k + 2))

@@ -1,6 +1,9 @@
 // `genion`: a slot's thirty sounding frequencies, and the virtual and the true height of each.
 #![tactic(auto)]
 
+pub mod sounding_grid;
+pub mod sounding_rows;
+
 ghost use Rattle.std.specs.Prelude.{◌≡◌, ◌<◌};
 ghost use Rattle.sounding.specs.Genion.{fvert_at, genion_of, genion_answer};
 
@@ -13,7 +16,7 @@ fn fvert_at(s: IonoState, k: usize) -> [f32; 30]
     ensures { result ≡ fvert_at s k }
 {
     let l = profile::slot_at(s, k);
-    sounding_grid::fvert(l.fi0, l.fi1, l.fi2)
+    crate::sounding_grid::fvert(l.fi0, l.fi1, l.fi2)
 }
 
 // The ionogram of slot k, whose number is at most 2.
@@ -22,7 +25,7 @@ pub fn genion_slot(s: IonoState, k: usize) -> Ionogram
     ensures { result ≡ genion_of s k }
 {
     let fv = fvert_at(s, k);
-    sounding_rows::rows(s, k, fv)
+    crate::sounding_rows::rows(s, k, fv)
 }
 
 // The ionogram of a slot that the profile was made for, or of any slot off a supplied profile.

@@ -5,11 +5,11 @@ use Rattle.scalar.specs.Literals.{decimal}
 use Rattle.scalar.specs.Scalar.{trunc_of, min_of}
 use Rattle.scalar.specs.Root.{sqrt_of}
 use Rattle.layers.specs.Owners.{disowned}
-use Rattle.layer_rules.specs.Rules.{count_taken, row_set, too_close}
-use Rattle.slots.specs.FromLayers.{from_layers_of, empty_of, points_set, point_set}
-use Rattle.slots.specs.Ionset.{ionset_of, assigned_of, slots_settled, slot_settled, f1_settled, f2_settled}
+use Rattle.layers.specs.Rules.{count_taken, row_set, too_close}
+use Rattle.layers.specs.FromLayers.{from_layers_of, empty_of, points_set, point_set}
+use Rattle.layers.specs.Ionset.{ionset_of, assigned_of, slots_settled, slot_settled, f1_settled, f2_settled}
 use Rattle.deciles.specs.F2dis.{f2dis_of, icc_of, time_block_of}
-use Rattle.scan_angles.specs.Angles.{sang_of, distance_step_of, angle_count_of, raised_from, ANG, NANGX}
+use Rattle.reflectrix.specs.Angles.{sang_of, distance_step_of, angle_count_of, raised_from, ANG, NANGX}
 use Rattle.starred.specs.Starred.{Holds, starred, result_of}
 
 pub starred-trials : Holds starred

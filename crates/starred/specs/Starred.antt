@@ -8,10 +8,10 @@ use Rattle.scalar.specs.Literals.{f0, f1, f10, f50, decimal}
 use Rattle.scalar.specs.Scalar.{trunc_of}
 use Rattle.scalar.specs.Root.{sqrt_of}
 use Rattle.layers.specs.declared.LayerParams.{LayerParams}
-use Rattle.slots.specs.FromLayers.{from_layers_of}
-use Rattle.slots.specs.Ionset.{ionset_of}
+use Rattle.layers.specs.FromLayers.{from_layers_of}
+use Rattle.layers.specs.Ionset.{ionset_of}
 use Rattle.deciles.specs.F2dis.{icc_of, f2dis_of}
-use Rattle.scan_angles.specs.Angles.{sang_of}
+use Rattle.reflectrix.specs.Angles.{sang_of}
 
 pub data Trial : Type 0 where
   -- `sang` at gcdkm and amind

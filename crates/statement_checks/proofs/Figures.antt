@@ -13,8 +13,8 @@ use lib.Ieee.Scale.{finite}
 use Rattle.figures.specs.declared.Printed.{Printed}
 use Rattle.figures.specs.Nearest.{nearest}
 use Rattle.figures.specs.Figure.{signed_tenths, figure_of}
-use Rattle.figure_text.specs.FigureText.{dash, tenths_text}
-use Rattle.figure_text.proofs.Widths.{five-characters}
+use Rattle.figures.specs.FigureText.{dash, tenths_text}
+use Rattle.figures.proofs.figure_text.Widths.{five-characters}
 use Rattle.figure_laws.specs.Jump.{NotAbove, not_above, distance_by_signs}
 use Rattle.statement_checks.specs.Figures.{in_full, FiguresAsRead}
 

@@ -3,8 +3,8 @@ use mathlib.Core.Path.{refl, sym}
 use Prim.Native.Nat.{◌+◌, ◌*◌}
 use native.Mathlib.Nat.{le_of_eq, le_refl}
 use native.Mathlib.Omega.{arith}
-use Rattle.compose_laws.proofs.Written.{text-written}
-use Rattle.compose_laws.proofs.ReadBack.{text-read-back}
+use Rattle.composing.proofs.compose_laws.Written.{text-written}
+use Rattle.composing.proofs.compose_laws.ReadBack.{text-read-back}
 use Rattle.marking.proofs.Laws.{marking-laws}
 use Rattle.statement_checks.specs.Files.{FilesAsRead}
 

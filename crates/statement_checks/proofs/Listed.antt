@@ -2,7 +2,7 @@
 use mathlib.Core.Path.{refl}
 use lib.Ieee.{lt, neg, of_bits}
 use Rattle.scalar.specs.Literals.{literals}
-use Rattle.nominal_factors.specs.Coefficients.{coefficients}
+use Rattle.nominal.specs.FactorLiterals.{coefficients}
 use Rattle.statement_checks.specs.Listed.{LiteralsListed, TrialsListed}
 
 pub literals-listed : LiteralsListed

@@ -6,7 +6,7 @@ use lib.ListN.{length, get_or, get_or-append}
 use Rattle.scalar.specs.F32.{at}
 use Rattle.layers.specs.declared.LayerParams.{LayerParams}
 use Rattle.layers.specs.declared.EsParams.{EsParams}
-use Rattle.muf_records.specs.Records.{no_es}
+use Rattle.muf.specs.LentRecords.{no_es}
 use Rattle.layers.specs.State.{no_layers}
 use Rattle.statement_checks.specs.Points.{CountIsAll}
 

@@ -6,7 +6,7 @@ use Rattle.std.specs.Float.Ieee.Scale.{finite}
 use Rattle.figures.specs.declared.Printed.{Printed}
 use Rattle.figures.specs.Nearest.{nearest}
 use Rattle.figures.specs.Figure.{figure_of}
-use Rattle.figure_text.specs.FigureText.{dash, tenths_text}
+use Rattle.figures.specs.FigureText.{dash, tenths_text}
 use Rattle.figure_laws.specs.Jump.{NotAbove, distance_by_signs}
 
 -- all tenths, with the minus

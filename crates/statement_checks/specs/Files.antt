@@ -3,8 +3,8 @@ use Rattle.std.specs.Prelude.{List, [], ◌≡◌, ℕ, ◌+◌, ◌*◌, ◌≤
 use Rattle.records.specs.Record.{form64, Fit}
 use Rattle.circuit.specs.declared.Circuit.{Circuit}
 use Rattle.circuit.specs.Read.{read_of}
-use Rattle.circuit_write.specs.Written.{size_of, write_answer_of, left_of}
-use Rattle.compose_text.specs.Draft.{composed_of}
+use Rattle.circuit.specs.Written.{size_of, write_answer_of, left_of}
+use Rattle.composing.specs.Draft.{composed_of}
 use Rattle.first_difference.specs.Laws.{carriage_return}
 use Rattle.marking.specs.Marked.{marked_of}
 

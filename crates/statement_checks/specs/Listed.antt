@@ -2,7 +2,7 @@
 use Rattle.std.specs.Prelude.{Bool, true, ◌&&◌, List, [], ◌∷◌, ◌≡◌, ℕ, length, Float}
 use Rattle.scalar.specs.F32.{◌<f◌, negf}
 use Rattle.scalar.specs.Literals.{Literal, is, literals, f1}
-use Rattle.nominal_factors.specs.Coefficients.{coefficients}
+use Rattle.nominal.specs.FactorLiterals.{coefficients}
 use Rattle.starred.specs.Starred.{Trial, TrialAnswer, StarredRow, ◌gives◌, result_of, Holds}
 
 -- each literal is above the one before it, the first above x: so none stands twice

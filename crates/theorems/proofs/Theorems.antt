@@ -25,25 +25,29 @@ use Rattle.exact_arcs.proofs.Atan.{atan-near}
 use Rattle.arc_series.proofs.OwnSeries.{atan-own-series}
 use Rattle.arcs.proofs.Special.{arc-values}
 use Rattle.arcs.proofs.Within.{atan-within}
-use Rattle.circuit_laws.proofs.ReadWritten.{read-written, read_same, written-length}
-use Rattle.circuit_laws.proofs.WrittenForm.{written-in-form}
-use Rattle.circuit_laws.proofs.WrittenRead.{written_read}
-use Rattle.circuit_laws.proofs.Carried.{carried}
-use Rattle.circuit_laws.proofs.Off.{off-chain}
-use Rattle.circuit_laws.proofs.Paper.{paper-laws}
-use Rattle.chain_laws.proofs.Longer.{longer-file, records-appended}
-use Rattle.chain_laws.proofs.Printed.{printed-alike, printed-appended}
-use Rattle.chain_laws.proofs.Order.{writer-order}
+use Rattle.circuit.proofs.circuit_laws.ReadWritten.{read-written, read_same, written-length}
+use Rattle.circuit.proofs.circuit_laws.WrittenForm.{written-in-form}
+use Rattle.circuit.proofs.circuit_laws.WrittenRead.{written_read}
+use Rattle.circuit.proofs.circuit_laws.Carried.{carried}
+use Rattle.circuit.proofs.circuit_laws.Off.{off-chain}
+use Rattle.circuit.proofs.circuit_laws.Paper.{paper-laws}
+use Rattle.chain_text.proofs.chain_laws.Longer.{longer-file, records-appended}
+use Rattle.chain_text.proofs.chain_laws.Printed.{printed-alike, printed-appended}
+use Rattle.chain_text.proofs.chain_laws.Order.{writer-order}
 use Rattle.sheet_refusals.proofs.Sheet.{chain-refusals, sheet-refusals, sheet-printed}
 use Rattle.export_refusals.proofs.Exports.{export-refusals}
-use Rattle.wide_circuit.proofs.Laws.{wide_laws}
+use Rattle.circuit.proofs.wide_circuit.Laws.{wide_laws}
 use Rattle.circuit_turn.proofs.Laws.{turn-laws}
+use Rattle.layers.proofs.slots.Keeps.{ionset-keeps}
+use Rattle.layers.proofs.slots.ExactOff.{exact-off}
 use Rattle.profile.proofs.Keeps.{lecden-keeps, lecden-supplied}
-use Rattle.shape_densities.proofs.NeverBoth.{never_both}
-use Rattle.walk.proofs.Walks.{distance-rule}
+use Rattle.profile.proofs.shape_densities.NeverBoth.{never_both}
+use Rattle.heights.proofs.walk.Walks.{distance-rule}
 use Rattle.heights.proofs.Whole.{forty-reads, mark-unread, exact-rule}
+use Rattle.readings.proofs.Segments.{first-held}
+use Rattle.heights.proofs.height_integral.Literal.{flat-nearest}
 use Rattle.heights.proofs.SameReads.{walk-same-as-scan}
-use Rattle.walk_apart.proofs.Apart.{walk-apart}
+use Rattle.heights.proofs.walk_apart.Apart.{walk-apart}
 use Rattle.angles.proofs.Angles.{sin-answers, cos-answers, never-refused-13}
 use Rattle.angles.proofs.Reflectrix.{fobby-small, fobby-answers}
 use Rattle.any_waves.proofs.AnyWaves.{any-waves, mark-unmet}
@@ -51,40 +55,40 @@ use Rattle.nominal.proofs.Coefficients.{coefficients-nearest}
 use Rattle.nominal.proofs.Angles.{nominal-never-refused-13}
 use Rattle.nominal.proofs.Inputs.{reads_only, es-rewritten}
 use Rattle.figures.proofs.HalfToEven.{nearest-rule}
-use Rattle.figure_text.proofs.Widths.{five-characters}
+use Rattle.figures.proofs.figure_text.Widths.{five-characters}
 use Rattle.figure_laws.proofs.Jump.{jump, keeps, reached}
 use Rattle.figure_laws.proofs.Text.{texts}
 use Rattle.tariff.proofs.Meaning.{tariff-rule, band-rule, cents-rule, price-rule}
 use Rattle.figure_laws.proofs.Second.{one-second-more}
 use Rattle.totals.proofs.Orders.{any_order, newest-first, at_most}
-use Rattle.trace_laws.proofs.Held.{lines-hold}
-use Rattle.trace_laws.proofs.OnlyLines.{only-lines, lines-count}
-use Rattle.computed_trace.proofs.Computed.{trace-fits}
+use Rattle.traces.proofs.trace_laws.Held.{lines-hold}
+use Rattle.traces.proofs.trace_laws.OnlyLines.{only-lines, lines-count}
+use Rattle.traces.proofs.computed_trace.Computed.{trace-fits}
 use Rattle.first_difference.proofs.Laws.{difference-laws}
 use Rattle.marking.proofs.Laws.{marking-laws, marking-cases}
 use Rattle.starred.proofs.Starred.{starred-trials}
 use Rattle.call_lists.proofs.Lists.{lists-of-calls, any-list, read_all}
 use Rattle.call_lists.proofs.OnlyState.{only-state}
-use Rattle.state_laws.proofs.ReadBack.{state-read-back, words-suffice}
+use Rattle.port_state.proofs.state_laws.ReadBack.{state-read-back, words-suffice}
 use Rattle.call_lists.proofs.PaperWords.{paper-words, refusal-by-arguments, with-contracts}
 use Rattle.call_lists.proofs.SameLists.{lists-of-calls-same}
 use Rattle.call_lists.proofs.Nominal.{nominal-anywhere}
 use Rattle.theorems.specs.Theorems.{Theorems}
-use Rattle.slots.proofs.OwnersLeft.{layers-unowned, ionset-disowns}
+use Rattle.layers.proofs.slots.OwnersLeft.{layers-unowned, ionset-disowns}
 use Rattle.profile.proofs.Owns.{lecden-owner, lecden-owned}
-use Rattle.height_integral.proofs.Above.{above-lowest}
-use Rattle.height_integral.proofs.First.{last-from-one}
+use Rattle.heights.proofs.height_integral.Above.{above-lowest}
+use Rattle.heights.proofs.height_integral.First.{last-from-one}
 use Rattle.heights.proofs.Segments.{segments-found}
 use Rattle.sounding.proofs.Prepared.{genion-prepared}
 use Rattle.slot_sheet.proofs.Owned.{sheet-never-refused-19, sheet-owned, sheet-by-genion}
-use Rattle.shapes.proofs.Rule.{mark-rule, slot-marks}
+use Rattle.profile.proofs.shapes.Rule.{mark-rule, slot-marks}
 use Rattle.deciles.proofs.NanRow.{nan-middle}
-use Rattle.cell_test.proofs.Test.{test-suffices}
-use Rattle.aligned.proofs.Widths.{right-width}
-use Rattle.decimal_text.proofs.Widths.{number-width}
-use Rattle.svg_points.proofs.Frame.{in_frame}
-use Rattle.compose_laws.proofs.Written.{text-written}
-use Rattle.compose_laws.proofs.ReadBack.{text-read-back}
+use Rattle.reflectrix.proofs.cell_test.Test.{test-suffices}
+use Rattle.lines.proofs.aligned.Widths.{right-width}
+use Rattle.figures.proofs.decimal_text.Widths.{number-width}
+use Rattle.svg.proofs.points.Frame.{in_frame}
+use Rattle.composing.proofs.compose_laws.Written.{text-written}
+use Rattle.composing.proofs.compose_laws.ReadBack.{text-read-back}
 use Rattle.statement_checks.proofs.Checks.{statement-checks}
 
 pub theorems : Theorems
@@ -146,6 +150,8 @@ theorems =
       paper-laws = paper-laws;
       wide_laws = wide_laws;
       turn-laws = turn-laws;
+      ionset-keeps = ionset-keeps;
+      exact-off = exact-off;
       lecden-keeps = lecden-keeps;
       lecden-supplied = lecden-supplied;
       never_both = never_both;
@@ -218,6 +224,8 @@ theorems =
       above-lowest = above-lowest;
       last-from-one = last-from-one;
       exact-rule = exact-rule;
+      first-held = first-held;
+      flat-nearest = flat-nearest;
       segments-found = segments-found;
       statement-checks = statement-checks;
     }

@@ -16,22 +16,22 @@ use Rattle.exact_waves.specs.Literal.{SinLiteral, CosLiteral}
 use Rattle.arcs.specs.Special.{ArcValues, AtanWithin}
 use Rattle.exact_arcs.specs.Asin.{AsinNear}
 use Rattle.exact_arcs.specs.Atan.{AtanNear}
-use Rattle.circuit_laws.specs.Laws.{EveryForm, ReadWritten, ReadSame, WrittenLength, WrittenInForm, WrittenRead, Carried, OffChain}
-use Rattle.circuit_laws.specs.Paper.{PaperLaws}
-use Rattle.chain_laws.specs.Laws.{LongerFile, RecordsAppended, PrintedAlike, PrintedAppended, WriterOrder}
+use Rattle.circuit.specs.Laws.{EveryForm, ReadWritten, ReadSame, WrittenLength, WrittenInForm, WrittenRead, Carried, OffChain}
+use Rattle.circuit.specs.Paper.{PaperLaws}
+use Rattle.chain_text.specs.Laws.{LongerFile, RecordsAppended, PrintedAlike, PrintedAppended, WriterOrder}
 use Rattle.sheet_refusals.specs.Refusals.{ChainRefusals, SheetRefusals, SheetPrinted}
 use Rattle.export_refusals.specs.Exports.{ExportRefusals}
-use Rattle.wide_circuit.specs.Laws.{WideLaws}
+use Rattle.circuit.specs.WideLaws.{WideLaws}
 use Rattle.circuit_turn.specs.Laws.{TurnLaws}
 use Rattle.figures.specs.Nearest.{NearestRule}
-use Rattle.figure_text.specs.FigureText.{FiveCharacters}
+use Rattle.figures.specs.FigureText.{FiveCharacters}
 use Rattle.figure_laws.specs.Jump.{Jump, Keeps, Reached}
 use Rattle.figure_laws.specs.Text.{Texts}
 use Rattle.figure_laws.specs.Second.{OneSecondMore}
 use Rattle.tariff.specs.Meaning.{TariffRule, BandRule, CentsRule, PriceRule}
 use Rattle.totals.specs.Orders.{AnyOrder, NewestFirst, AtMost}
-use Rattle.trace_laws.specs.Held.{LinesHold, OnlyLines, LinesCount}
-use Rattle.computed_trace.specs.Computed.{TraceFits}
+use Rattle.traces.specs.Held.{LinesHold, OnlyLines, LinesCount}
+use Rattle.traces.specs.Computed.{TraceFits}
 use Rattle.first_difference.specs.Laws.{DifferenceLaws}
 use Rattle.marking.specs.Laws.{MarkingLaws, MarkingCases}
 use Rattle.angles.specs.Angles.{SinAnswers, CosAnswers, NeverRefused13, FobbySmall, FobbyAnswers}
@@ -40,29 +40,30 @@ use Rattle.nominal.specs.Coefficients.{CoefficientsNearest}
 use Rattle.nominal.specs.Angles.{NominalNeverRefused13}
 use Rattle.nominal.specs.Inputs.{ReadsOnly, EsRewritten}
 use Rattle.starred.specs.Starred.{Holds, starred}
-use Rattle.walk.specs.Walk.{DistanceRule}
+use Rattle.heights.specs.Walk.{DistanceRule}
 use Rattle.heights.specs.SameReads.{WalkSameAsScan}
-use Rattle.walk_apart.specs.Apart.{WalkApart}
-use Rattle.state_laws.specs.ReadBack.{StateReadBack, WordsSufficeRead}
+use Rattle.heights.specs.Apart.{WalkApart}
+use Rattle.port_state.specs.ReadBack.{StateReadBack, WordsSufficeRead}
 use Rattle.call_lists.specs.Lists.{ListsOfCalls, OnlyState, ReadAll}
 use Rattle.call_lists.specs.PaperWords.{PaperWords, RefusalByArguments, WithContracts}
 use Rattle.call_lists.specs.SameLists.{SameListsOfCalls}
 use Rattle.call_lists.specs.Nominal.{NominalAnywhere}
 use Rattle.arc_series.specs.OwnSeries.{AtanOwnSeries}
-use Rattle.theorems.specs.Unnamed.{LecdenKeeps, LecdenSupplied, NeverBoth, ReadsOfWalk, MarkUnread, AnyList, MarkRules, SlotsMarked, ExactRules}
-use Rattle.slots.specs.OwnersLeft.{LayersUnowned, IonsetDisowns}
+use Rattle.heights.specs.Exact.{FlatNearest}
+use Rattle.theorems.specs.Unnamed.{LecdenKeeps, LecdenSupplied, NeverBoth, ReadsOfWalk, MarkUnread, AnyList, MarkRules, SlotsMarked, ExactRules, SwitchesOff, IonsetKeeps, FirstFound}
+use Rattle.layers.specs.OwnersLeft.{LayersUnowned, IonsetDisowns}
 use Rattle.profile.specs.LecdenOwns.{LecdenOwner, LecdenOwned}
-use Rattle.height_integral.specs.Lowest.{AboveLowest, LastFromOne}
+use Rattle.heights.specs.Lowest.{AboveLowest, LastFromOne}
 use Rattle.heights.specs.Segments.{SegmentsFound}
 use Rattle.sounding.specs.Prepared.{GenionPrepared}
 use Rattle.slot_sheet.specs.Owned.{SheetNeverRefused19, SheetOwned, SheetByGenion}
 use Rattle.deciles.specs.NanRow.{NanMiddle}
-use Rattle.cell_test.specs.Laws.{TestSuffices}
-use Rattle.aligned.specs.Aligned.{RightWidth}
-use Rattle.decimal_text.specs.Number.{NumberWidth}
-use Rattle.svg_points.specs.Points.{InFrame}
-use Rattle.compose_laws.specs.Laws.{TextWritten}
-use Rattle.compose_laws.specs.Laws.{TextReadBack}
+use Rattle.reflectrix.specs.Laws.{TestSuffices}
+use Rattle.lines.specs.Aligned.{RightWidth}
+use Rattle.figures.specs.Number.{NumberWidth}
+use Rattle.svg.specs.Points.{InFrame}
+use Rattle.composing.specs.Laws.{TextWritten}
+use Rattle.composing.specs.Laws.{TextReadBack}
 use Rattle.statement_checks.specs.Checks.{StatementChecks}
 
 pub record Theorems : Type 0 where
@@ -159,19 +160,23 @@ pub record Theorems : Type 0 where
   pub sheet-printed : SheetPrinted
   -- each export, on lists of any length with any numbers, answers 0 or one of the refusals listed for it, and nothing else
   pub export-refusals : ExportRefusals
-  -- all of these at the paper's layout, and at the one that carries F2M3
+  -- what is written is read back, and what is read written back, at the paper's layout, and at the one that carries F2M3
   pub paper-laws : PaperLaws
   pub wide_laws : WideLaws
   -- `widen` and `narrow`: there and back byte for byte, the circuit kept, 14 exactly where a point carries F2M3, every other refusal the chain's, new files refused by the old reader
   pub turn-laws : TurnLaws
   -- ---- Slots and profile
-  -- `lecden` changes slot k's F1 height and semi-thickness, `fsecv[k]`, the profile and the mark, and nothing else; nothing where the profile is supplied
+  -- `ionset` changes the three tables, kfx and the owner, and nothing else; not the owner where the profile is supplied
+  pub ionset-keeps : IonsetKeeps
+  -- the switch of the exact height rule is off in every state that `from_layers` makes, and in what `ionset` makes of it
+  pub exact-off : SwitchesOff
+  -- `lecden` changes slot k's F1 height and semi-thickness, `fsecv[k]`, the profile, the mark and the owner, and nothing else; nothing where the profile is supplied
   pub lecden-keeps : LecdenKeeps
   pub lecden-supplied : LecdenSupplied
   -- a branch of the Rust that can't be reached is left out
   pub never_both : NeverBoth
   -- ---- Heights, on profiles that pass the rising test, infinities and NaN reads included
-  -- each of the forty readings of the walk, kind and number, is the full scan's; the cursor after each is how many of the upper 49 heights are at or below its height, and its moves sum to at most 49; the heights in the order read never fall, or all are NaN
+  -- each of the forty readings of the walk, kind, number and segment, is the full scan's; the cursor after each is how many of the upper 49 heights are at or below its height, and its moves sum to where it ends, so none is back, and to at most 49; where the lowest height is finite and the difference no NaN, no height in the order read is below the one before it
   pub forty-reads : ReadsOfWalk
   -- by bits, each reading of the walk is the scan's, and the heights found by walks and by scans are the contract's
   pub walk-same-as-scan : WalkSameAsScan
@@ -270,6 +275,10 @@ pub record Theorems : Type 0 where
   pub last-from-one : LastFromOne
   -- where the rule is used, and that the switch changes nothing else
   pub exact-rule : ExactRules
+  -- a scan of any two columns finds the first segment that holds the probe, the top where none does
+  pub first-held : FirstFound
+  -- the literal below which the exact rule takes a segment for flat is nearest to its decimal
+  pub flat-nearest : FlatNearest
   -- a searched segment is at most 49, and 50 stands just where the first test ends `gethp` or `xlin`
   pub segments-found : SegmentsFound
   -- ---- Lists of calls

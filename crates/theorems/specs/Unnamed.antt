@@ -1,17 +1,23 @@
--- Statements of the page about slots, marks, heights and lists of calls that have no name in their own crate's specs/.
+-- Statements of the page about slots, marks, readings, heights and lists of calls that have no name in their own crate's specs/.
 use Rattle.std.specs.Prelude.{◌≡◌, Bool, true, false, List, ℕ, T, Float}
 use Rattle.scalar.specs.F32.{◌<f◌, ◌≥f◌}
 use Rattle.scalar.specs.Literals.{f0}
 use Rattle.layers.specs.declared.IonoState.{IonoState}
-use Rattle.layers.specs.State.{with_profile}
+use Rattle.layers.specs.declared.LayerParams.{LayerParams}
+use Rattle.layers.specs.State.{with_profile, state_after}
+use Rattle.layers.specs.Ionset.{ionset_of}
+use Rattle.layers.specs.IonsetKept.{IonsetKept}
+use Rattle.layers.specs.ExactOff.{ExactOff}
+use Rattle.readings.specs.Scan.{scan_of}
+use Rattle.readings.specs.Segments.{FirstHeld}
 use Rattle.profile.specs.Lecden.{lecden_of}
 use Rattle.profile.specs.LecdenKept.{LecdenKept}
 use Rattle.profile.specs.Rising.{rises_of}
-use Rattle.walk.specs.Walk.{EachF32}
+use Rattle.heights.specs.Walk.{EachF32}
 use Rattle.heights.specs.Gethp.{gethp_of}
 use Rattle.heights.specs.Reads.{FortyReads, ExactRule}
-use Rattle.shape_densities.specs.declared.Curves.{Curves}
-use Rattle.shapes.specs.Meaning.{MarkRule, SlotMarks}
+use Rattle.profile.specs.declared.shape_densities.Curves.{Curves}
+use Rattle.profile.specs.Meaning.{MarkRule, SlotMarks}
 use Rattle.call_lists.specs.Calls.{Call}
 use Rattle.call_lists.specs.Lists.{Allowed, ListOfCalls}
 
@@ -41,3 +47,12 @@ SlotsMarked = (s : IonoState) (k : ℕ) → SlotMarks s k
 
 abbrev pub ExactRules : Type 0
 ExactRules = (s : IonoState) (fxx : Float) → ExactRule s fxx
+
+abbrev pub IonsetKeeps : Type 0
+IonsetKeeps = (s : IonoState) → IonsetKept s (state_after s (ionset_of s))
+
+abbrev pub SwitchesOff : Type 0
+SwitchesOff = (params : List LayerParams) (count : ℕ) → ExactOff params count
+
+abbrev pub FirstFound : Type 0
+FirstFound = (from to : List Float) (probe : Float) → FirstHeld from to probe (scan_of from to probe)

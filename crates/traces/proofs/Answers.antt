@@ -8,15 +8,15 @@ use lib.IntN.{ℤ}
 use lib.ListN.{length}
 use borrow.Author.Tests.{eqb-true, leb-true}
 use Rattle.refusal.specs.declared.Refusal.{Refusal}
-use Rattle.trace_lines.specs.Trace.{rises, fit}
-use Rattle.trace_lines.specs.Lines.{trace_lines}
-use Rattle.traces.specs.Lines.{ready, column, compared_of}
-use Rattle.trace_lines.specs.Trace.{Rows}
+use Rattle.traces.specs.Trace.{rises, fit}
+use Rattle.traces.specs.Lines.{trace_lines}
+use Rattle.traces.specs.Compared.{ready, column, compared_of}
+use Rattle.traces.specs.Trace.{TraceRows}
 use Rattle.std.specs.Prelude.{Ok, Err}
 use Rattle.std.proofs.lemmas.Bool.{and_parts}
 use Rattle.traces.proofs.Merged.{khz_in, which_in, difference_in}
 
-fit-facts : (xs hs : List ℕ) → fit xs hs ≡ true → Rows xs hs × (length xs ≤ 512)
+fit-facts : (xs hs : List ℕ) → fit xs hs ≡ true → TraceRows xs hs × (length xs ≤ 512)
 fit-facts xs hs e =
     let p = and_parts (eqb (length xs) (length hs)) (leb (length xs) 512 && rises xs) e in
     let q = and_parts (leb (length xs) 512) (rises xs) p.1 in
@@ -24,8 +24,8 @@ fit-facts xs hs e =
 
 module _ (a ah b bh khz which : List ℕ) (difference : List ℤ) where
   pub record Facts : Type 0 where
-    pub first : Rows a ah
-    pub second : Rows b bh
+    pub first : TraceRows a ah
+    pub second : TraceRows b bh
     pub first-few : length a ≤ 512
     pub second-few : length b ≤ 512
     pub khz-room : length a + length b ≤ length khz

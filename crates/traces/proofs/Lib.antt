@@ -2,3 +2,4 @@
 pub mod Cells
 mod Merged
 pub mod Answers
+pub mod trace_laws

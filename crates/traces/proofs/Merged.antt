@@ -7,12 +7,12 @@ use native.Mathlib.Numerals.{add-one}
 use lib.IntN.{ℤ}
 use lib.ListN.{length, drop, set, length-drop, drop_of_length-le}
 use lib.Seq.{drop-drop}
-use Rattle.trace_lines.specs.Lines.{which_number, of_first, of_second, listed, trace_lines, line_at}
-use Rattle.traces.specs.Lines.{column}
-use Rattle.trace_lines.specs.Trace.{Rows}
-use Rattle.trace_lines.specs.declared.Line.{Line}
-use Rattle.trace_lines.proofs.Places.{up, up-drop, up-rises}
-use Rattle.trace_lines.proofs.Steps.{Goes, goes}
+use Rattle.traces.specs.Lines.{which_number, of_first, of_second, listed, trace_lines, line_at}
+use Rattle.traces.specs.Compared.{column}
+use Rattle.traces.specs.Trace.{TraceRows}
+use Rattle.traces.specs.declared.trace_lines.Line.{Line}
+use Rattle.traces.proofs.trace_lines.Places.{up, up-drop, up-rises}
+use Rattle.traces.proofs.trace_lines.Steps.{Goes, goes}
 use Rattle.traces.proofs.Cells.{head-drop, sofar, sofar-more, sofar-all, sofar-length}
 
 abbrev pub khz_in : Line → ℕ
@@ -25,7 +25,7 @@ abbrev pub difference_in : Line → ℤ
 difference_in l = l.difference
 
 -- what is left of a trace is a trace
-pub rows_left : (xs hs : List ℕ) (i : ℕ) → Rows xs hs → Rows (drop i xs) (drop i hs)
+pub rows_left : (xs hs : List ℕ) (i : ℕ) → TraceRows xs hs → TraceRows (drop i xs) (drop i hs)
 rows_left xs hs i r =
     let e = r.heights in
     record { rising = up-rises (drop i xs) (up-drop i xs (up xs r.rising)); heights = simp length-drop (omega arith) }
@@ -42,7 +42,7 @@ pub record Kept (a ah b bh khz₀ which₀ : List ℕ) (difference₀ : List ℤ
   pub which-is : which ≡ sofar which_in (trace_lines a ah b bh) n which₀
   pub difference-is : difference ≡ sofar difference_in (trace_lines a ah b bh) n difference₀
 
-module _ (a ah b bh khz₀ which₀ : List ℕ) (difference₀ : List ℤ) (ra : Rows a ah) (rb : Rows b bh)
+module _ (a ah b bh khz₀ which₀ : List ℕ) (difference₀ : List ℤ) (ra : TraceRows a ah) (rb : TraceRows b bh)
     (khz-room : length a + length b ≤ length khz₀) (which-room : length a + length b ≤ length which₀)
     (difference-room : length a + length b ≤ length difference₀)
   where

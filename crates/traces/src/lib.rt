@@ -1,10 +1,13 @@
 // Two traces held against one another: every kHz of either, rising, with the difference of the heights where both have it.
 #![tactic(auto)]
 
+pub mod computed_trace;
+pub mod trace_lines;
+
 ghost use Rattle.std.specs.Prelude.{◌≡◌, ◌+◌, ◌≤◌, length};
-ghost use Rattle.trace_lines.specs.Trace.{rises as rises_of, fit as fit_of, Rows};
-ghost use Rattle.trace_lines.specs.Lines.{which_number, trace_lines};
-ghost use Rattle.traces.specs.Lines.{column, ready as ready_of, compared_of};
+ghost use Rattle.traces.specs.Trace.{rises as rises_of, fit as fit_of, TraceRows};
+ghost use Rattle.traces.specs.Lines.{which_number, trace_lines};
+ghost use Rattle.traces.specs.Compared.{column, ready as ready_of, compared_of};
 
 use refusal::Refusal;
 
@@ -35,7 +38,7 @@ fn lines(
     which: &mut [u32],
     difference: &mut [i64],
 ) -> usize
-    requires { Rows a.now ah.now × Rows b.now bh.now × (length a.now ≤ 512) × (length b.now ≤ 512) × (length a.now + length b.now ≤ length khz.old) × (length a.now + length b.now ≤ length which.old) × (length a.now + length b.now ≤ length difference.old) }
+    requires { TraceRows a.now ah.now × TraceRows b.now bh.now × (length a.now ≤ 512) × (length b.now ≤ 512) × (length a.now + length b.now ≤ length khz.old) × (length a.now + length b.now ≤ length which.old) × (length a.now + length b.now ≤ length difference.old) }
     ensures value { result ≡ length (trace_lines a.now ah.now b.now bh.now) }
     ensures khz_after { khz.new ≡ column (λ l. l.khz) (trace_lines a.now ah.now b.now bh.now) khz.old }
     ensures which_after { which.new ≡ column (λ l. which_number l.which) (trace_lines a.now ah.now b.now bh.now) which.old }
@@ -46,7 +49,7 @@ fn lines(
     let mut j: usize = 0;
     let mut n: usize = 0;
     while i + j < a.len() + b.len() {
-        let l = trace_lines::next(&a[i..], &ah[i..], &b[j..], &bh[j..]);
+        let l = crate::trace_lines::next(&a[i..], &ah[i..], &b[j..], &bh[j..]);
         khz[n] = l.khz;
         which[n] = u32::from(l.which);
         difference[n] = l.difference;

@@ -17,5 +17,5 @@ pub fn points() -> [LayerParams; 5] {
 
 // The first km of them, as `ionset` leaves them.
 pub fn first_slots(km: usize) -> Result<IonoState, Refusal> {
-    slots::ionset(slots::from_layers(points(), km)?)
+    layers::slots::ionset(layers::slots::from_layers(points(), km)?)
 }

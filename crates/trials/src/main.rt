@@ -30,7 +30,7 @@ fn say_refused<T>(what: &[u8], answer: &Result<T, Refusal>) {
 }
 
 fn no_layers() -> [LayerMuf; 4] {
-    [e_lines::zero_line(); 4]
+    [layer_mufs::e_lines::zero_line(); 4]
 }
 
 fn sheet_of(s: IonoState, nang: usize, cells: &mut [i32]) -> Result<SlotSheet, Refusal> {
@@ -58,20 +58,23 @@ fn angles() {
     let four = scalar::number(0x4080_0000);
     let next = scalar::number(0x4080_0001);
     let nan = scalar::number(0x7fc0_0000);
-    say_refused(b"sin 4: ", &wave_answers::sin_or_refuse(four));
-    say_refused(b"sin above 4: ", &wave_answers::sin_or_refuse(next));
-    say_refused(b"sin -4: ", &wave_answers::sin_or_refuse(-four));
-    say_refused(b"sin below -4: ", &wave_answers::sin_or_refuse(-next));
-    say_refused(b"sin NaN: ", &wave_answers::sin_or_refuse(nan));
-    say_refused(b"cos 4: ", &wave_answers::cos_or_refuse(four));
-    say_refused(b"cos above 4: ", &wave_answers::cos_or_refuse(next));
+    say_refused(b"sin 4: ", &waves::wave_answers::sin_or_refuse(four));
+    say_refused(b"sin above 4: ", &waves::wave_answers::sin_or_refuse(next));
+    say_refused(b"sin -4: ", &waves::wave_answers::sin_or_refuse(-four));
+    say_refused(
+        b"sin below -4: ",
+        &waves::wave_answers::sin_or_refuse(-next),
+    );
+    say_refused(b"sin NaN: ", &waves::wave_answers::sin_or_refuse(nan));
+    say_refused(b"cos 4: ", &waves::wave_answers::cos_or_refuse(four));
+    say_refused(b"cos above 4: ", &waves::wave_answers::cos_or_refuse(next));
     say_bits(
         b"sine of 4: ",
-        wave_answers::sin_or_refuse(four).unwrap_or(0.0),
+        waves::wave_answers::sin_or_refuse(four).unwrap_or(0.0),
     );
     say_bits(
         b"beside its refusal: ",
-        wave_answers::sin_or_refuse(next).unwrap_or(0.0),
+        waves::wave_answers::sin_or_refuse(next).unwrap_or(0.0),
     );
 }
 
@@ -128,12 +131,18 @@ fn prepared_twice(s: IonoState) -> Result<(), Refusal> {
 
 // One to five points.
 fn counts() {
-    say_refused(b"no point: ", &slots::from_layers(trial_slots::points(), 0));
+    say_refused(
+        b"no point: ",
+        &layers::slots::from_layers(trial_slots::points(), 0),
+    );
     say_refused(
         b"six points: ",
-        &slots::from_layers(trial_slots::points(), 6),
+        &layers::slots::from_layers(trial_slots::points(), 6),
     );
-    say_refused(b"slots of no point: ", &slots::ionset(layers::zero_state()));
+    say_refused(
+        b"slots of no point: ",
+        &layers::slots::ionset(layers::zero_state()),
+    );
 }
 
 // Slots are 0, 1 and 2; the slot number is looked at before the angles.

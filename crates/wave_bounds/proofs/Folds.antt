@@ -5,7 +5,7 @@ use native.Mathlib.Nat.{le_trans, le_refl, le-add_right, mul-le-mul, mul-le-mul_
 use native.Mathlib.Omega.{arith}
 use lib.Dec.{lit<, lit≤}
 use lib.Pow.{pow_pos}
-use Rattle.series.specs.Series.{Close, Kind, sine, cosine, full}
+use Rattle.series.specs.Series.{Close, Wave, sine, cosine, full}
 use Rattle.series.proofs.Pairs.{sums, Limit, Ksin, Kcos, shift, start, Kat, den_pos, sin-pos, cos-pos}
 use Rattle.series.proofs.Addition.{full-pos}
 use Rattle.series.proofs.Alternating.{limit}
@@ -94,7 +94,7 @@ falls n h o k l = le_trans (mul-le-mul h h) (le_trans (lit≤ tt) (mul-le-mul_le
         four' o k l = omega arith
 
 -- the sine, or the cosine, is the class of number `shift` less this one
-abbrev pub second : Kind → ℕ
+abbrev pub second : Wave → ℕ
 second sine = 3
 second cosine = 2
 
@@ -121,12 +121,12 @@ module _ (n : ℕ) (h : n ≤ 2 ^ 63) (a b u : ℕ) where
       (low-at (2 ^ 93) a b u (2 ^ 30) s.plus s.minus s.next s.den (part 0 n) (part 2 n) whole whole_pos B (cos-next n h) k)
       (high-at (2 ^ 93) a b u (2 ^ 30) s.plus s.minus s.next s.den (part 0 n) (part 2 n) whole whole_pos B (cos-next n h) k)
 
-  any-limit : (w : Kind) → Close (2 ^ 93) a b u (part (shift w) n) (part (second w) n) whole → Limit (Kat (shift w)) n (2 ^ 61) (start w n) (start w (2 ^ 61)) 9 (2 ^ 93) a b (u + 2 ^ 30)
+  any-limit : (w : Wave) → Close (2 ^ 93) a b u (part (shift w) n) (part (second w) n) whole → Limit (Kat (shift w)) n (2 ^ 61) (start w n) (start w (2 ^ 61)) 9 (2 ^ 93) a b (u + 2 ^ 30)
   any-limit sine k = sin-limit k
   any-limit cosine k = cos-limit k
 
 -- the fold: with the sine's sign, or with the other one
-module _ (w : Kind) (x r : ℕ) (X : x ≤ 2 ^ 63) (R : r < 2 ^ 62) where
+module _ (w : Wave) (x r : ℕ) (X : x ≤ 2 ^ 63) (R : r < 2 ^ 62) where
   pub fold-plus : Alike (part (shift w) x) (part (second w) x) (part 1 r) (part 3 r) gap → Limit (Kat (shift w)) x (2 ^ 61) (start w x) (start w (2 ^ 61)) 9 (2 ^ 93) (ratio_of r * r) 0 (20 * r + 2 ^ 37 + 2 ^ 30)
   fold-plus A = any-limit x X (ratio_of r * r) 0 (20 * r + 2 ^ 37) w (alike-close (ratio_of r * r) (20 * r) (part (shift w) x) (part (second w) x) (part 1 r) (part 3 r) whole gap gap-small A (small-close r R))
 

@@ -1,6 +1,6 @@
 -- The product that the program packs, rounded, is less than 15 / 16 of a unit of its last place from every partial sum that is within 20 r + 2 ^ 37 + 2 ^ 30 of r times the ratio: 32 of 64 parts are for the rounding,
 -- 21 for the ratio, 5 for the fold and one for the digits of r that are cut off.
--- Towards zero this holds of the unit just below the answer. It is smaller, by half, only where the 24 digits are just 2 ^ 23: these were rounded down, so that to this side only the 28 parts before rounding count, and 15 / 16 of the smaller unit are 30.
+-- Towards zero this holds of the unit just below the answer. It is smaller, by half, only where the 24 digits are just 2 ^ 23: these were rounded down, so that to this side only the parts before rounding count, at most 28, and 15 / 16 of the smaller unit are 30.
 use mathlib.Core.Path.{◌≡◌, sym, ap, ◌∙◌, subst}
 use mathlib.Core.Bool.{Bool, true, false, cond}
 use Prim.Native.Nat.{ℕ, ◌+◌, ◌-◌, ◌*◌, ◌/◌, ◌%◌, ◌^◌, ◌≤◌, ◌<◌}

@@ -8,7 +8,7 @@ use lib.Dec.{leb, lit≤}
 use lib.Pow.{shr_mono}
 use lib.Count.{count_leading_zeros}
 use borrow.Author.Tests.{le-ltb, lt-ltb, le-leb, lt-leb}
-use Rattle.series.specs.Series.{Kind, sine, cosine}
+use Rattle.series.specs.Series.{Wave, sine, cosine}
 use Rattle.fixed.specs.Fixed.{pick, mant, pattern}
 use Rattle.fixed.proofs.Round.{rounded, pattern_lt, top_of}
 use Rattle.cases.proofs.Cases.{split}
@@ -16,18 +16,18 @@ use Rattle.std.specs.Int.{abs_diff}
 use Rattle.waves.specs.SinCos.{times, added, taken, square_of, ratio_of, sine_at, quarter_turn, half_turn, three_quarters, sin_fold, cos_fold, sin_sign, cos_sign, wave_at, mag_of, at_small, wave_bits}
 
 -- ---- the three cases of the definition
-abbrev folded_bits : Kind → ℕ → ℕ
+abbrev folded_bits : Wave → ℕ → ℕ
 folded_bits w b = wave_at w (b / 2 ^ 31) (mag_of (b % 2 ^ 31))
 
-pub small-bits : (w : Kind) (b : ℕ) → b % 2 ^ 31 < 0x3980_0000 → wave_bits w b ≡ at_small w b
+pub small-bits : (w : Wave) (b : ℕ) → b % 2 ^ 31 < 0x3980_0000 → wave_bits w b ≡ at_small w b
 unfolding wave_bits
 small-bits w b h = ap (λ (x : Bool). pick x (at_small w b) (pick (leb (b % 2 ^ 31) 0x4080_0000) (folded_bits w b) 0x7fc0_0000)) (lt-ltb _ _ h)
 
-pub large-bits : (w : Kind) (b : ℕ) → 0x3980_0000 ≤ b % 2 ^ 31 → b % 2 ^ 31 ≤ 0x4080_0000 → wave_bits w b ≡ folded_bits w b
+pub large-bits : (w : Wave) (b : ℕ) → 0x3980_0000 ≤ b % 2 ^ 31 → b % 2 ^ 31 ≤ 0x4080_0000 → wave_bits w b ≡ folded_bits w b
 unfolding wave_bits
 large-bits w b h k = ap₂ (λ (x y : Bool). pick x (at_small w b) (pick y (folded_bits w b) 0x7fc0_0000)) (le-ltb _ _ h) (le-leb _ _ k)
 
-pub outside-bits : (w : Kind) (b : ℕ) → 0x4080_0000 < b % 2 ^ 31 → wave_bits w b ≡ 0x7fc0_0000
+pub outside-bits : (w : Wave) (b : ℕ) → 0x4080_0000 < b % 2 ^ 31 → wave_bits w b ≡ 0x7fc0_0000
 unfolding wave_bits
 outside-bits w b h = ap₂ (λ (x y : Bool). pick x (at_small w b) (pick y (folded_bits w b) 0x7fc0_0000)) (le-ltb _ _ (le_trans (lit≤ tt) (le_of_lt h))) (lt-leb _ _ h)
 

@@ -9,7 +9,7 @@ use lib.Ieee.{Float, nan, inf, fin, binary32, odd, of_fields, of_bits, to_bits, 
 use Rattle.scalar.specs.F32.{◌<f◌, ◌>f◌, negf}
 use Rattle.scalar.specs.Literals.{f4}
 use Rattle.scalar.proofs.Nan.{nan_pattern}
-use Rattle.series.specs.Series.{Kind, sine, cosine}
+use Rattle.series.specs.Series.{Wave, sine, cosine}
 use Rattle.waves.specs.SinCos.{wave_bits, sin_of, cos_of}
 use Rattle.waves.specs.Special.{WaveValues}
 use Rattle.waves.proofs.Patterns.{outside-bits}
@@ -42,7 +42,7 @@ is_number nan h = absurd (true≢false (sym h))
 is_number (inf s) h = refl
 is_number (fin s m e) h = refl
 
-wave-outside : (w : Kind) (x : Float) → T (fits binary32 x) → ((x <f negf f4) || (x >f f4)) ≡ true → of_bits binary32 (wave_bits w (to_bits binary32 x)) ≡ nan
+wave-outside : (w : Wave) (x : Float) → T (fits binary32 x) → ((x <f negf f4) || (x >f f4)) ≡ true → of_bits binary32 (wave_bits w (to_bits binary32 x)) ≡ nan
 wave-outside w x F h =
     ap (of_bits binary32) (outside-bits w (to_bits binary32 x) (ltb→lt 0x4080_0000 (to_bits binary32 x % 2 ^ 31) (subst T (sym h ∙ outside-is-pattern x F (is_number x h)) tt)))
     ∙ nan_pattern 0x7fc0_0000 (lit< tt)

@@ -4,7 +4,7 @@ use Rattle.std.specs.Int.{abs_diff}
 use Rattle.std.specs.Int.Count.{count_leading_zeros}
 use Rattle.std.specs.Float.{binary32}
 use Rattle.std.specs.Float.Ieee.{of_bits, to_bits}
-use Rattle.series.specs.Series.{Kind, sine, cosine}
+use Rattle.series.specs.Series.{Wave, sine, cosine}
 use Rattle.fixed.specs.Fixed.{pick, scaled_of, pattern}
 
 -- the product of two fractions in units of 2 ^ -32, cut
@@ -56,7 +56,7 @@ sin_sign t X = pick (leb X half_turn) t (1 - t)
 abbrev pub cos_sign : ℕ → ℕ
 cos_sign X = pick (leb X quarter_turn) 0 1
 
-abbrev pub wave_at : Kind → (t X : ℕ) → ℕ
+abbrev pub wave_at : Wave → (t X : ℕ) → ℕ
 wave_at sine t X = sin_sign t X * 2 ^ 31 + sine_at (sin_fold X)
 wave_at cosine t X = cos_sign X * 2 ^ 31 + sine_at (cos_fold X)
 
@@ -65,12 +65,12 @@ abbrev pub mag_of : ℕ → ℕ
 mag_of a = scaled_of a 115 * 2 ^ 26
 
 -- below 2 ^ -12 the sine is x itself, and the cosine 1
-abbrev pub at_small : Kind → ℕ → ℕ
+abbrev pub at_small : Wave → ℕ → ℕ
 at_small sine b = b
 at_small cosine b = 0x3f80_0000
 
 -- from the bit pattern of x to that of its sine or cosine; NaN outside -4 to 4 (0x4080_0000 is 4) and at NaN
-unfoldable pub wave_bits : Kind → ℕ → ℕ
+unfoldable pub wave_bits : Wave → ℕ → ℕ
 unfolding sine_at
 wave_bits w b =
     let a = b % 2 ^ 31 in

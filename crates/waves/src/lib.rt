@@ -2,6 +2,8 @@
 // specs/ says what each gives for every f32; crate `exact_waves` proves that this is less than one unit in the last place from the exact value.
 #![tactic(auto)]
 
+pub mod wave_answers;
+
 ghost use Rattle.std.specs.Prelude.{◌≡◌};
 ghost use Rattle.waves.specs.SinCos.{sin_of, cos_of};
 

@@ -1,5 +1,5 @@
 -- As many numbers are lent as there are points.
-use Rattle.circuit_numbers.proofs.Sizes.{es-lent, column-lent}
+use Rattle.circuit_sheet.proofs.circuit_numbers.Sizes.{es-lent, column-lent}
 use Rattle.circuit_sheet.specs.CircuitSheet.{muf_of}
 use Rattle.circuit_sheet.proofs.circuit_muf.Goals as goal
 

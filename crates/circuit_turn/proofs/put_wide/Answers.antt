@@ -1,7 +1,7 @@
 -- The writer, with room for the longest file.
 use lib.ListN.{replicate}
-use Rattle.wide_circuit.specs.Wide.{form128}
-use Rattle.wide_circuit.proofs.Fit128.{fit128}
+use Rattle.circuit.specs.Wide.{form128}
+use Rattle.circuit.proofs.wide_circuit.Fit128.{fit128}
 use native.Mathlib.Omega.{arith}
 use Rattle.circuit_turn.proofs.Files.{written}
 use Rattle.circuit_turn.proofs.put_wide.Goals as goal

@@ -6,8 +6,8 @@ use Rattle.lines.proofs.Placing.{fits}
 use Rattle.lines.proofs.Sizes.{refused}
 use Rattle.records.specs.Record.{form64}
 use Rattle.records.proofs.Lists.{fit64}
-use Rattle.wide_circuit.specs.Wide.{form128}
-use Rattle.wide_circuit.proofs.Fit128.{fit128}
+use Rattle.circuit.specs.Wide.{form128}
+use Rattle.circuit.proofs.wide_circuit.Fit128.{fit128}
 use Rattle.circuit_turn.specs.Turn.{widened}
 use Rattle.circuit_turn.proofs.Files.{good_read, file-most}
 use Rattle.circuit_turn.proofs.widen.Goals as goal

@@ -5,8 +5,8 @@ use mathlib.Core.List.{List}
 use Prim.Native.Nat.{ℕ}
 use lib.Ieee.{Float}
 use Rattle.scalar.specs.F32.{◌+f◌, ◌*f◌, at}
-use Rattle.forty_reads.specs.Nodes.{xnpl, twdiv}
-use Rattle.forty_reads.specs.Walk.{flat, table_by, ysq_read_by, cursor_read_by}
+use Rattle.heights.specs.Nodes.{xnpl, twdiv}
+use Rattle.heights.specs.ReadsByWalk.{flat, table_by, ysq_read_by, cursor_read_by}
 use Rattle.heights.specs.Gethp.{hp_of, heights_by}
 use Rattle.heights.specs.declared.Heights.{Heights}
 use Rattle.heights.proofs.Tables.{table-sum}

@@ -9,10 +9,10 @@ use Rattle.scalar.specs.F32.{◌+f◌, ◌-f◌, ◌*f◌, ◌≤f◌, ◌>f◌,
 use Rattle.scalar.specs.Literals.{f0}
 use Rattle.readings.specs.Scan.{found_of}
 use Rattle.readings.specs.declared.Found.{Found}
-use Rattle.height_integral.specs.Exact.{virtual_height_exact_of}
-use Rattle.forty_reads.specs.Walk.{ysq_read_by, cursor_read_by}
+use Rattle.heights.specs.Exact.{virtual_height_exact_of}
+use Rattle.heights.specs.ReadsByWalk.{ysq_read_by, cursor_read_by}
 use Rattle.heights.specs.Gethp.{heights_by}
-use Rattle.heights.specs.Walk.{gethp_read_of}
+use Rattle.heights.specs.GethpWalk.{gethp_read_of}
 use Rattle.heights.specs.declared.Heights.{Heights}
 use Rattle.heights.proofs.gethp_read.Goals as goal
 

@@ -9,8 +9,8 @@ use lib.ListN.{length}
 use lib.Ieee.{Float, nan}
 use Rattle.scalar.specs.F32.{◌+f◌, ◌*f◌, at}
 use Rattle.std.proofs.lemmas.List.{get_or-map}
-use Rattle.integrands.specs.Integrands.{integrand_of}
-use Rattle.forty_reads.specs.Walk.{flat}
+use Rattle.heights.specs.Integrands.{integrand_of}
+use Rattle.heights.specs.ReadsByWalk.{flat}
 use Rattle.heights.specs.Weights.{wt}
 use Rattle.heights.specs.Gethp.{mup_of, hp_of}
 use Rattle.heights.proofs.quadrature.Goals as goal

@@ -2,8 +2,8 @@
 use mathlib.Core.Path.{◌≡◌}
 use mathlib.Core.List.{map}
 use Prim.Native.Nat.{◌≤◌, ◌-◌}
-use Rattle.integrands.specs.Integrands.{integrand_of}
-use Rattle.forty_reads.specs.Walk.{flat}
+use Rattle.heights.specs.Integrands.{integrand_of}
+use Rattle.heights.specs.ReadsByWalk.{flat}
 use Rattle.heights.specs.Gethp.{hp_of}
 use Rattle.heights.proofs.quadrature.Given as goal
 

@@ -1,6 +1,6 @@
 -- Each path is the clause that its tests choose; each call is what its contract says.
 use Rattle.std.proofs.lemmas.Result.{err_from_is_err_and}
-use Rattle.layers.proofs.Slots.{slot-taken, slot-refused}
+use Rattle.layers.proofs.SlotNumbers.{slot-taken, slot-refused}
 use Rattle.losses.specs.Alosfv.{alosfv_answer}
 use Rattle.losses.proofs.alosfv.Goals as goal
 

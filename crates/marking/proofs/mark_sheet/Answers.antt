@@ -9,8 +9,8 @@ use Rattle.std.proofs.lemmas.Result.{err_from_is_err_and}
 use Rattle.circuit_sheet.specs.declared.Sheet.{Sheet}
 use Rattle.circuit_sheet.specs.CircuitSheet.{sheet_of}
 use Rattle.sheet_text.specs.SheetText.{sheet_text_by, sheet_text, text_by, answered_text}
-use Rattle.marking_answer.specs.Answer.{text_marked}
-use Rattle.marking_answer.proofs.Laws.{any-answer, text-laws}
+use Rattle.marking.specs.Answer.{text_marked}
+use Rattle.marking.proofs.marking_answer.Laws.{any-answer, text-laws}
 use Rattle.marking.specs.Marked.{sheet_marked}
 use Rattle.marking.proofs.mark_sheet.Goals as goal
 

@@ -2,7 +2,7 @@
 use mathlib.Core.Path.{◌∙◌}
 use native.Mathlib.Omega.{arith}
 use Rattle.lines.proofs.Placing.{fits}
-use Rattle.marking_answer.proofs.Length.{marking-most}
+use Rattle.marking.proofs.marking_answer.Length.{marking-most}
 use Rattle.marking.specs.Marked.{marked_text}
 use Rattle.marking.proofs.marking_text.Goals as goal
 

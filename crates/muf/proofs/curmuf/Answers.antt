@@ -1,11 +1,13 @@
--- The row that the call names is there, by `flat-below`.
+-- The row that the call names is there, by `flat-below`; the answer is the definition's, and says what that says.
 use Rattle.std.specs.Prelude.{Result, Ok, Some}
 use Rattle.std.proofs.Common.{◌≡◌, ◌*◌, ◌<◌, ℕ, length}
 use native.Mathlib.Omega.{arith}
+use Rattle.std.proofs.lemmas.Result.{err_from_is_err_and}
 use Rattle.refusal.specs.declared.Refusal.{Refusal}
-use Rattle.sporadic.specs.declared.Rewrite.{Rewrite}
+use Rattle.muf.specs.declared.sporadic.Rewrite.{Rewrite}
 use Rattle.muf.specs.Curmuf.{RowBelow, rewrite_by}
 use Rattle.muf.specs.declared.AnswerAndRow.{AnswerAndRow}
+use Rattle.muf.proofs.Says.{flat-says}
 use Rattle.muf.proofs.Rows.{flat-below, rows-there}
 use Rattle.muf.proofs.curmuf.Goals.{In-Some}
 use Rattle.muf.proofs.curmuf.Goals as goal
@@ -26,3 +28,9 @@ offset_bounds-es-w c = let h = there (goal.at.offset_bounds-es-w c).In-Some in o
 
 pub bounds-es-w : goal.bounds-es-w
 bounds-es-w c = there (goal.at.bounds-es-w c).In-Some
+
+pub returns-in_err-d-clause-muf_says : goal.returns-in_err-d-clause-muf_says
+returns-in_err-d-clause-muf_says c = let p = err_from_is_err_and c.from_residual.result c.from_residual.ensures.1 in flat-says _ _ c.args.es.now _ _ _ _ (rw (p.1, p.2, ← c.in_err-d.ensures))
+
+pub returns-clause-muf_says : goal.returns-clause-muf_says
+returns-clause-muf_says c = flat-says _ _ c.args.es.now _ _ _ _ (rw (← c.in_ok-d.ensures))

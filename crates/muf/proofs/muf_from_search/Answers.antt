@@ -1,7 +1,7 @@
 -- The tests and the calls, in the definition's order; the lists reach to the controlling slot, which is below 3.
 use mathlib.Core.Path.{sym, ◌∙◌}
-use Rattle.controlling_slot.proofs.Small.{controlling-small}
-use Rattle.muf_domain.proofs.Lists.{lists-reach}
+use Rattle.layer_mufs.proofs.controlling_slot.Small.{controlling-small}
+use Rattle.muf.proofs.muf_domain.Lists.{lists-reach}
 use Rattle.muf.specs.Curmuf.{muf_from_search_with}
 use Rattle.muf.proofs.muf_from_search.Goals as goal
 

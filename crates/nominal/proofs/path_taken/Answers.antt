@@ -3,7 +3,7 @@ use mathlib.Core.Path.{◌≡◌, refl, ◌∙◌}
 use mathlib.Core.Bool.{Bool, true, false, ◌&&◌}
 use lib.Ieee.{Float, of_bits, lt}
 use Rattle.scalar.specs.Literals.{f0, f6_3, f40100}
-use Rattle.muf_domain.specs.Domain.{within_of, in_domain}
+use Rattle.muf.specs.Domain.{within_of, in_domain}
 use Rattle.nominal.specs.Nommuf.{path_taken}
 use Rattle.nominal.proofs.path_taken.Goals as goal
 

@@ -15,11 +15,11 @@ use Rattle.circuit_sheet.specs.declared.Sheet.{Sheet}
 use Rattle.circuit_sheet.specs.CircuitSheet.{sheet_of}
 use Rattle.sheet_text.specs.SheetText.{SlotsFew}
 use Rattle.sheet_text.proofs.SlotCount.{three-slots}
-use Rattle.circuit_plot.specs.declared.Plot.{Plot}
-use Rattle.circuit_plot.specs.CircuitPlot.{plot_by, plot_of}
-use Rattle.plot_panels.specs.Panels.{picture_text}
+use Rattle.plot_text.specs.declared.circuit_plot.Plot.{Plot}
+use Rattle.plot_text.specs.CircuitPlot.{plot_by, plot_of}
+use Rattle.plot_text.specs.Panels.{picture_text}
 use Rattle.plot_text.specs.PlotText.{plot_text}
-use Rattle.plot_panels.proofs.Lengths.{answered-most}
+use Rattle.plot_text.proofs.plot_panels.Lengths.{answered-most}
 use Rattle.plot_text.proofs.plot_text.Goals as goal
 
 few-by : (a : Result Sheet Refusal) (c : Circuit) (p : Plot) → SlotsFew a → plot_by a c ≡ Ok p → p.sheet.slots ≤ 3

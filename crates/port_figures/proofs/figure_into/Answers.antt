@@ -11,8 +11,8 @@ use Rattle.std.proofs.lemmas.List.Edits.{sets, sets-eq}
 use Rattle.lines.specs.Text.{with_text}
 use Rattle.lines.proofs.Placing.{fits}
 use Rattle.figures.specs.Figure.{figure_of}
-use Rattle.figure_text.specs.FigureText.{figure_text}
-use Rattle.figure_text.proofs.Widths.{figure-five}
+use Rattle.figures.specs.FigureText.{figure_text}
+use Rattle.figures.proofs.figure_text.Widths.{figure-five}
 use Rattle.port_figures.specs.Exports.{figure_answer, figure_left}
 use Rattle.port_figures.proofs.figure_into.Goals as goal
 

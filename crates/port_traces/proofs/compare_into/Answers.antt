@@ -1,7 +1,7 @@
 -- There are at most 1024 lines, so that their count fits a word.
 use Rattle.std.proofs.Common.{rules}
 use native.Mathlib.Omega.{arith}
-use Rattle.trace_laws.proofs.Few.{few-lines}
+use Rattle.traces.proofs.trace_laws.Few.{few-lines}
 use Rattle.port_traces.proofs.compare_into.Goals as goal
 
 pub count_into-requires : goal.count_into-requires

@@ -1,7 +1,7 @@
 -- Slots 0 to 2 go to `lecden_slot`; every other number is refused.
 use borrow.Author.Tests.{lt-ltb, le-ltb, leb-false}
 use Rattle.std.proofs.lemmas.Result.{err_from_is_err_and}
-use Rattle.layers.proofs.Slots.{slot-refused}
+use Rattle.layers.proofs.SlotNumbers.{slot-refused}
 use Rattle.profile.specs.Lecden.{lecden_answer}
 use Rattle.profile.proofs.lecden.Goals as goal
 

@@ -1,7 +1,7 @@
 -- Each step of the definition is what the call of the same name answers.
 use mathlib.Core.Path.{ap}
 use Rattle.profile.specs.Lecden.{lecden_of}
-use Rattle.slot_curves.specs.declared.Drawn.{Drawn}
+use Rattle.profile.specs.declared.slot_curves.Drawn.{Drawn}
 use Rattle.profile.proofs.WhereDrawn.{none_drawn, some_drawn}
 use Rattle.profile.proofs.lecden_slot.Goals as goal
 

@@ -1,7 +1,7 @@
 -- The lines of a sheet have room.
 use native.Mathlib.Omega.{arith}
 use Rattle.lines.proofs.Placing.{fits}
-use Rattle.sheet_lines.proofs.Lengths.{answered-most}
+use Rattle.sheet_text.proofs.sheet_lines.Lengths.{answered-most}
 use Rattle.sheet_text.proofs.answered.Goals as goal
 
 pub returns : goal.returns

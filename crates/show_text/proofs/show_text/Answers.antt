@@ -9,9 +9,9 @@ use Rattle.circuit_sheet.specs.declared.Sheet.{Sheet}
 use Rattle.circuit_sheet.specs.CircuitSheet.{sheet_of}
 use Rattle.sheet_text.specs.SheetText.{SlotsFew}
 use Rattle.sheet_text.proofs.SlotCount.{three-slots}
-use Rattle.show_page.specs.Page.{page_text, refusal_text}
+use Rattle.show_text.specs.Page.{page_text, refusal_text}
 use Rattle.show_text.specs.ShowText.{show_text}
-use Rattle.show_page.proofs.Lengths.{page-most, refusal-most}
+use Rattle.show_text.proofs.show_page.Lengths.{page-most, refusal-most}
 use Rattle.show_text.proofs.show_text.Goals as goal
 
 few : (f : List ℕ) (s : Sheet) → sheet_of f ≡ Ok s → s.slots ≤ 3

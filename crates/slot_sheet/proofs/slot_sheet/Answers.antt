@@ -7,7 +7,7 @@ use lib.IntN.{ℤ}
 use Rattle.std.proofs.Common.{Ok, Err}
 use Rattle.std.proofs.lemmas.Result.{err_from_is_err_and}
 use Rattle.refusal.specs.declared.Refusal.{Refusal}
-use Rattle.layers.proofs.Slots.{slot-taken, slot-refused}
+use Rattle.layers.proofs.SlotNumbers.{slot-taken, slot-refused}
 use Rattle.reflectrix.specs.Fobby.{room_for, cells_after, outcome_by, fobby_outcome}
 use Rattle.slot_sheet.specs.Sheet.{slot_sheet_with, sheet_cells_with}
 use Rattle.slot_sheet.proofs.slot_sheet.Goals as goal

@@ -1,6 +1,6 @@
 -- The answer of each of its tests, in their order.
 use Rattle.std.proofs.lemmas.Result.{err_from_is_err_and}
-use Rattle.layers.proofs.Slots.{slot-taken, slot-refused}
+use Rattle.layers.proofs.SlotNumbers.{slot-taken, slot-refused}
 use Rattle.sounding.specs.Genion.{genion_answer}
 use Rattle.sounding.proofs.genion.Goals as goal
 

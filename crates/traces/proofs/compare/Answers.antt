@@ -1,7 +1,7 @@
 -- The tests decide; where all are passed the lines are written.
 use mathlib.Core.Path.{◌≡◌, sym, ◌∙◌}
 use mathlib.Core.Bool.{true}
-use Rattle.traces.specs.Lines.{ready}
+use Rattle.traces.specs.Compared.{ready}
 use Rattle.traces.proofs.Answers.{Facts, ready-facts, refused, answered}
 use Rattle.traces.proofs.compare.Goals.{Else-not-ready}
 use Rattle.traces.proofs.compare.Goals as goal

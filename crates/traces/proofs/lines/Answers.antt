@@ -6,7 +6,7 @@ use mir.Syntax.{w64}
 use borrow.Author.Rules.{rules}
 use lib.ListN.{length, set, length-drop}
 use Rattle.std.proofs.lemmas.List.{take_rest}
-use Rattle.trace_lines.specs.Lines.{which_number, of_first, of_second}
+use Rattle.traces.specs.Lines.{which_number, of_first, of_second}
 use Rattle.traces.proofs.Merged.{Kept, rows_left, more, more_rows, ended, lengths, all_left}
 use Rattle.traces.proofs.lines.Goals.{After-next-l, At-loop-i}
 use Rattle.traces.proofs.lines.Goals as goal

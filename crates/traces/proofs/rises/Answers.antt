@@ -9,7 +9,7 @@ use Rattle.std.proofs.Math.Bool.{and-false}
 use Rattle.std.proofs.Common.{ltb, rules, tests}
 use Rattle.std.proofs.lemmas.List.Sorted.{answers_always}
 use Rattle.std.specs.List.{IsAllAdjacentAnswer}
-use Rattle.trace_lines.specs.Trace.{rises as rises_of}
+use Rattle.traces.specs.Trace.{rises as rises_of}
 use Rattle.traces.proofs.rises.Goals as goal
 
 all : (l : List ℕ) → ((i : ℕ) → suc i < length l → ltb (get_or l i 0) (get_or l (suc i) 0) ≡ true) → rises_of l ≡ true

@@ -124,21 +124,21 @@ quotient-q-requires c =
       le_trans (den-le s) (lit≤ tt),
     )
 
-pub gentle_angle-requires : goal.gentle_angle-requires
-gentle_angle-requires c = let h = place-lt (goal.at.gentle_angle-requires c).After-power-e in omega arith
+pub tangent_angle-requires : goal.tangent_angle-requires
+tangent_angle-requires c = let h = place-lt (goal.at.tangent_angle-requires c).After-power-e in omega arith
 
 entry-at : (c : After-power-e) → Entry 1 (place c + 1) 128 (half_pi - get_or angles (place c + 1) 0)
 entry-at c = steep-entry (n c) (e c) (2 ^ 16) (top c) (lit< tt) (fine c) (coarse c)
 
-pub overflow_sub-gentle_angle : goal.overflow_sub-gentle_angle
-overflow_sub-gentle_angle c = let h = (entry-at (goal.at.overflow_sub-gentle_angle c).After-power-e).least in omega (arith, c.gentle_angle.ensures)
+pub overflow_sub-tangent_angle : goal.overflow_sub-tangent_angle
+overflow_sub-tangent_angle c = let h = (entry-at (goal.at.overflow_sub-tangent_angle c).After-power-e).least in omega (arith, c.tangent_angle.ensures)
 
 pub angle_sum-requires : goal.angle_sum-requires
 angle_sum-requires c =
     let s = (goal.at.angle_sum-requires c).After-power-e in
-    sum-fits (ap (λ (A : ℕ). half_pi - A) c.gentle_angle.ensures) c.quotient-q.ensures (entry-at s).most (quo-most (n s) (e s) (2 ^ 16) (top s) (lit< tt) (fine s) (coarse s))
+    sum-fits (ap (λ (A : ℕ). half_pi - A) c.tangent_angle.ensures) c.quotient-q.ensures (entry-at s).most (quo-most (n s) (e s) (2 ^ 16) (top s) (lit< tt) (fine s) (coarse s))
 
 pub returns : goal.returns
 returns c =
-    c.angle_sum.ensures ∙ ap₂ (λ (A q : ℕ). angle_of (half_pi - A) q) c.gentle_angle.ensures c.quotient-q.ensures
+    c.angle_sum.ensures ∙ ap₂ (λ (A q : ℕ). angle_of (half_pi - A) q) c.tangent_angle.ensures c.quotient-q.ensures
     ∙ ap (λ (y : ℕ). steep_of (n (goal.at.returns c).After-power-e) y (2 ^ 16)) c.power-e.ensures

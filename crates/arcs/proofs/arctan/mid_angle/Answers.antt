@@ -59,15 +59,15 @@ overflow_add-i c = let h = product (goal.at.overflow_add-i c).After-scaled-x in 
 pub quotient-q-requires : goal.quotient-q-requires
 quotient-q-requires c = let r = rest (goal.at.quotient-q-requires c).After-scaled-x in let h = product (goal.at.quotient-q-requires c).After-scaled-x in (omega arith, omega arith, omega arith)
 
-pub gentle_angle-requires : goal.gentle_angle-requires
-gentle_angle-requires c = let l = index (goal.at.gentle_angle-requires c).After-scaled-x in omega arith
+pub tangent_angle-requires : goal.tangent_angle-requires
+tangent_angle-requires c = let l = index (goal.at.tangent_angle-requires c).After-scaled-x in omega arith
 
 pub angle_sum-requires : goal.angle_sum-requires
 angle_sum-requires c =
     let s = (goal.at.angle_sum-requires c).After-scaled-x in
-    sum-fits c.gentle_angle.ensures c.quotient-q.ensures (E (x s) (2 ^ 30) (2 ^ 20) (range s).1 (lit< tt) (lit≤ tt) (lit≤ tt) (least s)).most (q-most (x s) (2 ^ 30) (2 ^ 20) (range s).1 (lit< tt) (lit≤ tt) (lit≤ tt) (least s))
+    sum-fits c.tangent_angle.ensures c.quotient-q.ensures (E (x s) (2 ^ 30) (2 ^ 20) (range s).1 (lit< tt) (lit≤ tt) (lit≤ tt) (least s)).most (q-most (x s) (2 ^ 30) (2 ^ 20) (range s).1 (lit< tt) (lit≤ tt) (lit≤ tt) (least s))
 
 pub returns : goal.returns
 returns c =
-    c.angle_sum.ensures ∙ ap₂ (λ (A q : ℕ). angle_of A q) c.gentle_angle.ensures c.quotient-q.ensures
+    c.angle_sum.ensures ∙ ap₂ (λ (A q : ℕ). angle_of A q) c.tangent_angle.ensures c.quotient-q.ensures
     ∙ ap (λ (X : ℕ). gentle_of X (2 ^ 30) (2 ^ 20)) c.scaled-x.ensures

@@ -3,7 +3,7 @@ use mathlib.Core.Path.{◌≡◌, ap, ◌∙◌}
 use native.Mathlib.Omega.{arith}
 use lib.ListN.{length}
 use Rattle.records.specs.Record.{record_at}
-use Rattle.record_chain.specs.Chain.{km_of}
+use Rattle.records.specs.Chain.{km_of}
 use Rattle.circuit.specs.Read.{circuit_of}
 use Rattle.circuit.proofs.Along.{head-there, length-head, room-points, deciles-after, room-deciles, points-are, deciles-are, points-found, deciles-found}
 use Rattle.circuit.proofs.numbers.read_along.Given.{Over}

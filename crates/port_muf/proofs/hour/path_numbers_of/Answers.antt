@@ -1,6 +1,6 @@
 -- Four words.
 use native.Mathlib.Omega.{arith}
-use Rattle.deviation_words.proofs.Read.{float-read}
+use Rattle.port_muf.proofs.deviation_words.Read.{float-read}
 use Rattle.port_muf.proofs.hour.path_numbers_of.Goals as goal
 
 pub returns : goal.returns

@@ -6,7 +6,7 @@ use lib.Ieee.{Float, nan}
 use Rattle.scalar.specs.F32.{◌+f◌, at}
 use Rattle.scalar.proofs.FromFn.{from_fn_each}
 use Rattle.constants.specs.Constants.{RZ}
-use Rattle.cell_rows.proofs.Maps.{map-each}
+use Rattle.reflectrix.proofs.cell_rows.Maps.{map-each}
 use Rattle.reflectrix.proofs.Cells.{same-cells}
 use Rattle.reflectrix.proofs.Rcosd.{rcosds, all}
 use Rattle.reflectrix.proofs.reflectrix.angles.Goals as goal

@@ -1,3 +1,0 @@
--- Words, and fields of a given width.
-pub mod Ascii
-pub mod Aligned

@@ -1,2 +1,0 @@
--- The cells of an angle together.
-pub mod Row

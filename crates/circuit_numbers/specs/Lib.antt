@@ -1,2 +1,0 @@
--- The numbers of a circuit's words.
-pub mod Numbers

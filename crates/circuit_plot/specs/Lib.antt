@@ -1,2 +1,0 @@
--- What is drawn of a circuit file.
-pub mod CircuitPlot

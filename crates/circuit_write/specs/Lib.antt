@@ -1,2 +1,0 @@
--- The bytes that the writer leaves.
-pub mod Written

@@ -1,2 +1,0 @@
--- What the laws of composed texts say.
-pub mod Laws

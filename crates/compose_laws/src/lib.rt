@@ -1,3 +1,0 @@
-#![tactic(auto)]
-
-// The laws of composed texts, over their definitions: no code.

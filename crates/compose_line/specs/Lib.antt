@@ -1,4 +1,0 @@
--- What a line of a circuit's text says.
-pub mod Names
-pub mod Fault
-pub mod Row

@@ -1,2 +1,0 @@
--- The circuit that a text says.
-pub mod Draft

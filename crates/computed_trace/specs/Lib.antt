@@ -1,2 +1,0 @@
--- A computed ionogram as a trace.
-pub mod Computed

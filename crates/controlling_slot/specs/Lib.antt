@@ -1,2 +1,0 @@
--- The controlling slot.
-pub mod Controlling

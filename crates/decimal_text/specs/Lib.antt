@@ -1,2 +1,0 @@
--- A number in decimals, in a field of a given width.
-pub mod Number

@@ -1,2 +1,0 @@
--- A decimal as a person writes it.
-pub mod Decimal

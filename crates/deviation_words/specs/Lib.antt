@@ -1,3 +1,0 @@
--- Words as floats, and `f2dis` on words.
-pub mod Floats
-pub mod F2disWords

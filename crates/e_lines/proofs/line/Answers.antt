@@ -1,9 +1,0 @@
--- The code follows the definition; each call is what its contract says.
-use Rattle.e_lines.specs.Lines.{layer_line_of}
-use borrow.Author.Rules.{sfits_of}
-use mir.Facts.{to_z-of_z}
-use Rattle.e_lines.proofs.line.Goals as goal
-
-pub returns : goal.returns
-unfolding layer_line_of
-returns c = rw (← c.trunc-nhopmf.ensures, to_z-of_z {z = c.trunc-nhopmf.result} (sfits_of c.trunc-nhopmf.type_inv))

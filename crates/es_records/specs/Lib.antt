@@ -1,2 +1,0 @@
--- Es records rewritten.
-pub mod Records

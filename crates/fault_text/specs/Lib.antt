@@ -1,2 +1,0 @@
--- What is wrong, in words.
-pub mod FaultText

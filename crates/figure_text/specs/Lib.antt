@@ -1,2 +1,0 @@
--- The five characters of a printed figure.
-pub mod FigureText

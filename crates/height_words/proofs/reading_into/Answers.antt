@@ -1,7 +1,0 @@
--- The code follows the definition; each call is what its contract says.
-use Rattle.height_words.specs.Words.{reading_into}
-use Rattle.height_words.proofs.reading_into.Goals as goal
-
-pub returns : goal.returns
-unfolding reading_into
-returns c = rw (← c.value.ensures, ← c.floats_into.ensures, ← c.kind.ensures, ← c.segment_number.ensures)

@@ -1,2 +1,0 @@
--- Answers about heights as words.
-pub mod Words

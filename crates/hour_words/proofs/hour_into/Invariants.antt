@@ -1,7 +1,0 @@
--- After k turns the first k lines stand.
-use mathlib.Core.Path.{◌≡◌}
-use Rattle.hour_words.proofs.Lines.{lines_into}
-use Rattle.hour_words.proofs.hour_into.Given as goal
-
-abbrev pub invariant-loop-k : goal.invariant-loop-k
-invariant-loop-k l = l.out ≡ lines_into l.fn.h.layers l.k l.initial.out

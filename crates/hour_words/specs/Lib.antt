@@ -1,2 +1,0 @@
--- An hour as words.
-pub mod HourWords

@@ -1,2 +1,0 @@
--- The integrands of the Gauss rule.
-pub mod Integrands

@@ -1,2 +1,0 @@
--- The angle count on words.
-pub mod Sang

@@ -1,2 +1,0 @@
--- Rules of the layers.
-pub mod Rules

@@ -1,2 +1,0 @@
--- What a call that answers with a text leaves.
-pub mod Left

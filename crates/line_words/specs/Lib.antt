@@ -1,2 +1,0 @@
--- Layer lines as words.
-pub mod Lines

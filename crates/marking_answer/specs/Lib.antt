@@ -1,7 +1,0 @@
--- The marking of a text beside ours.
--- what is answered
-pub mod Answer
--- its line of text
-pub mod Text
--- what holds of it
-pub mod Laws

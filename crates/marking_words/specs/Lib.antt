@@ -1,2 +1,0 @@
--- A marking as words.
-pub mod Words

@@ -1,2 +1,0 @@
--- A MUF's domain.
-pub mod Domain

@@ -1,2 +1,0 @@
--- The circuit MUF over a lent list of Es records.
-pub mod Records

@@ -1,2 +1,0 @@
--- The MUFs as a table.
-pub mod MufTable

@@ -1,7 +1,0 @@
-use Rattle.nominal_factors.specs.Factors.{fmuf_of}
-use mathlib.Core.Path.{refl}
-use Rattle.nominal_factors.proofs.f2_at.Goals as goal
-
-pub returns : goal.returns
-unfolding fmuf_of
-returns c = refl

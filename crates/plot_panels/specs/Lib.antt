@@ -1,2 +1,0 @@
--- The picture of a circuit's slots.
-pub mod Panels

@@ -1,2 +1,0 @@
--- Rows and marks as words.
-pub mod Layouts

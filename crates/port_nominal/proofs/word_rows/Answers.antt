@@ -1,8 +1,0 @@
-use Rattle.std.proofs.Common.{rules, ◌∙◌}
-use Rattle.sporadic.specs.Sporadic.{row_at}
-use Rattle.deviation_words.specs.Floats.{floats}
-use Rattle.port_nominal.proofs.WordRows.{rows}
-use Rattle.port_nominal.proofs.word_rows.Goals as goal
-
-pub returns : goal.returns
-returns c = c.five_rows_of.ensures (row_at (floats c.args.es.now)) (λ k r e. search rules) ∙ rows c.args.es.now c.args.n c.requires.1

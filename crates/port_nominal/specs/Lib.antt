@@ -1,2 +1,0 @@
--- The nominal MUF on words.
-pub mod Exports

@@ -1,0 +1,3 @@
+-- What is worked out lane by lane, and a branch that is never reached.
+pub mod Lanes
+pub mod NeverBoth

@@ -1,2 +1,0 @@
--- The chain of records.
-pub mod Chain

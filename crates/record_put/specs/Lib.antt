@@ -1,2 +1,0 @@
--- The bytes of one record.
-pub mod Bytes

@@ -1,2 +1,0 @@
--- A guess at a root, and when it is right.
-pub mod Guess

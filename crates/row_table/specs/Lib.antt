@@ -1,2 +1,0 @@
--- A slot's rows as a table.
-pub mod RowTable

@@ -1,2 +1,0 @@
--- A slot's marks as runs.
-pub mod RunText

@@ -1,2 +1,0 @@
--- The scan of angles.
-pub mod Angles

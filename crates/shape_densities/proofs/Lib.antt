@@ -1,3 +1,0 @@
--- A branch that is never reached.
-pub mod Lanes
-pub mod NeverBoth

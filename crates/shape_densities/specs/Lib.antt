@@ -1,2 +1,0 @@
--- The densities of the five shapes.
-pub mod Density

@@ -1,2 +1,0 @@
--- The lines of a sheet.
-pub mod SheetLines

@@ -1,8 +1,0 @@
--- After i turns the first i rows are put.
-use Rattle.std.proofs.Common.{◌≡◌}
-use Rattle.lines.specs.Text.{with_text, joined}
-use Rattle.sheet_rows.specs.SheetRows.{row_line}
-use Rattle.sheet_rows.proofs.put_rows.Given as goal
-
-abbrev pub invariant-loop-i : goal.invariant-loop-i
-invariant-loop-i g l = l.page ≡ with_text g.row.N l.initial.page (joined (row_line l.ion) l.i)

@@ -1,2 +1,0 @@
--- The rows of a sheet.
-pub mod SheetRows

@@ -1,2 +1,0 @@
--- The page of a sheet, and of a refusal.
-pub mod Page

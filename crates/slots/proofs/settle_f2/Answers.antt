@@ -1,7 +1,0 @@
--- One store, of the minimum.
-use Rattle.slots.specs.Ionset.{f2_settled}
-use Rattle.slots.proofs.settle_f2.Goals as goal
-
-pub returns : goal.returns
-unfolding f2_settled
-returns c = rw (← c.min-y.ensures)

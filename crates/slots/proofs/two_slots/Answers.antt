@@ -1,7 +1,0 @@
--- The three copies, in the definition's order.
-use Rattle.slots.specs.Ionset.{two_slots}
-use Rattle.slots.proofs.two_slots.Goals as goal
-
-pub returns : goal.returns
-unfolding two_slots
-returns c = rw (← c.layer_from-s1.ensures, ← c.layer_from-s2.ensures, ← c.layer_from.ensures)

@@ -1,7 +1,0 @@
--- The code follows the definition; each call is what its contract says.
-use Rattle.sounding_grid.specs.Grid.{e_grid}
-use Rattle.sounding_grid.proofs.e_grid.Goals as goal
-
-pub returns : goal.returns
-unfolding e_grid
-returns c = rw (← c.sqrt.ensures, ← c.fill.ensures)

@@ -1,2 +1,0 @@
--- The thirty sounding frequencies of a slot.
-pub mod Grid

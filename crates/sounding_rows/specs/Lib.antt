@@ -1,2 +1,0 @@
--- The rows of an ionogram at given frequencies.
-pub mod Rows

@@ -1,7 +1,0 @@
--- The code follows the definition; each call is what its contract says.
-use Rattle.sporadic.specs.Sporadic.{es_found_of}
-use Rattle.sporadic.proofs.es_found.Goals as goal
-
-pub returns : goal.returns
-unfolding es_found_of
-returns c = rw (← c.lower_spread.ensures, ← c.min-sigl4.ensures, ← c.atan-del.ensures, ← c.line-line.ensures)

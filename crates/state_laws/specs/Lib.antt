@@ -1,2 +1,0 @@
--- A state is read back from its words.
-pub mod ReadBack

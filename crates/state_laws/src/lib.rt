@@ -1,3 +1,0 @@
-#![tactic(auto)]
-
-// No function: a state put into words is read back.

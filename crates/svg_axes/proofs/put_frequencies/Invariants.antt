@@ -1,8 +1,0 @@
--- After i turns the first i lines are put.
-use Rattle.std.proofs.Common.{◌≡◌}
-use Rattle.lines.specs.Text.{with_text, joined}
-use Rattle.svg_axes.specs.Axes.{across_at}
-use Rattle.svg_axes.proofs.put_frequencies.Given as goal
-
-abbrev pub invariant-loop-i : goal.invariant-loop-i
-invariant-loop-i g l = l.page ≡ with_text g.row.N l.initial.page (joined across_at l.i)

@@ -1,2 +1,0 @@
--- The frame with its axes.
-pub mod Axes

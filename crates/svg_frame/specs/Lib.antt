@@ -1,2 +1,0 @@
--- What every picture begins with.
-pub mod Frame

@@ -1,2 +1,0 @@
--- The legend.
-pub mod Legend

@@ -1,2 +1,0 @@
--- Where a number stands in the frame.
-pub mod Points

@@ -1,2 +1,0 @@
--- Marks and the MUF's line.
-pub mod Pieces

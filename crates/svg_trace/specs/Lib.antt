@@ -1,2 +1,0 @@
--- The line through the rows.
-pub mod Trace

@@ -1,7 +1,0 @@
--- The code follows the definition; each call is what its contract says.
-use Rattle.tangents.specs.Tangents.{beta_of}
-use Rattle.tangents.proofs.short_path.Goals as goal
-
-pub returns : goal.returns
-unfolding beta_of
-returns c = rw (← c.exp.ensures)

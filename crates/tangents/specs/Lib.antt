@@ -1,2 +1,0 @@
--- The tangent frequencies.
-pub mod Tangents

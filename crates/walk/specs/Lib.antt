@@ -1,2 +1,0 @@
--- The walk of the forty reads.
-pub mod Walk

@@ -1,2 +1,0 @@
--- Sine and cosine with a refusal.
-pub mod Answers

@@ -1,2 +1,0 @@
--- The form with F2M3.
-pub mod Form128

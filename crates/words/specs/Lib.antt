@@ -1,2 +1,0 @@
--- A line's words.
-pub mod Words

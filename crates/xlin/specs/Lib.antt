@@ -1,2 +1,0 @@
--- Interpolation.
-pub mod Xlin
