@@ -230,7 +230,9 @@ pub fn flat_row<L: Numbers>(es: L, k: usize) -> EsParams
     }
 }
 
-// The whole call but for the row that it rewrites; `es` holds four numbers a row.
+// The whole call but for the row that it rewrites; `es` holds four numbers a row. A caller may lend any number of rows, so a call that
+// is refused for its numbers or its lists reads none.
+// Stays: the two tests are those of `muf_from_search`, which is given a search that was made before them.
 pub fn flat<L: Numbers>(
     s: IonoState,
     es: L,
@@ -241,9 +243,16 @@ pub fn flat<L: Numbers>(
 ) -> Result<AnswerAndRow, Refusal>
     ensures { result ≡ flat_muf_of s (L.floats es) f2d.now (L.floats clat) (L.floats clck) c }
 {
+    if !crate::muf_domain::in_domain(c) {
+        return Err(Refusal::MufInput);
+    }
+    let ks = layer_mufs::controlling_slot::controlling(s);
+    if !crate::muf_domain::lists_reach(ks, f2d.len(), clat.count(), clck.count()) {
+        return Err(Refusal::MufLists);
+    }
     let n = crate::muf_domain::row_count(es.count(), s.km);
     let found = crate::sporadic::search(|k| flat_row(es, k), n, c);
-    muf_from_search(s, found, f2d, clat, clck, c)
+    muf_at_slot(s, ks, found, f2d, clat.number(ks), clck.number(ks), c)
 }
 
 // The MUF hour; `es` holds four numbers a row: three of `fs`, then `hs`. Only the controlling row's

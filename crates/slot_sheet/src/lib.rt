@@ -22,6 +22,7 @@ pub struct SlotSheet {
 }
 
 // A layer table of any origin. Cells past the last angle stay; a refused call leaves every cell.
+// Stays: the room is tested by `fobby` too, once the ionogram is made; here it is tested before anything is worked out.
 pub fn slot_sheet(
     s: IonoState,
     k: usize,
@@ -33,6 +34,9 @@ pub fn slot_sheet(
     ensures cells_after { cells.new ≡ sheet_cells_of s k nang cells.old }
 {
     layers::slot_number(k)?;
+    if nang > 40 || cells.len() < 30 * nang {
+        return Err(Refusal::Reflectrix);
+    }
     let marks = profile::shapes::marks_slot(s, k);
     let t = profile::lecden_slot(s, k);
     let ion = sounding::genion_slot(t, k);

@@ -1,15 +1,17 @@
--- The slot is tested here, and the room by the reflectrix, which is refused as the sheet is.
+-- The slot and the room are tested first; the reflectrix tests the room again, and is refused as the sheet is.
 use mathlib.Core.Bool.{Bool, true, false}
 use mathlib.Core.List.{List}
 use mathlib.Core.Path.{◌≡◌, refl}
 use Prim.Native.Nat.{ℕ}
 use lib.IntN.{ℤ}
+use borrow.Author.Tests.{le-leb, lt-leb}
 use Rattle.std.proofs.Common.{Ok, Err}
 use Rattle.std.proofs.lemmas.Result.{err_from_is_err_and}
 use Rattle.refusal.specs.declared.Refusal.{Refusal}
 use Rattle.layers.proofs.SlotNumbers.{slot-taken, slot-refused}
 use Rattle.reflectrix.specs.Fobby.{room_for, cells_after, outcome_by, fobby_outcome}
 use Rattle.slot_sheet.specs.Sheet.{slot_sheet_with, sheet_cells_with}
+use Rattle.slot_sheet.proofs.slot_sheet.Goals.{then-nang-gt40-via-then-nang-gt40, then-nang-gt40-via-else-nang-gt40+then-cells-nang}
 use Rattle.slot_sheet.proofs.slot_sheet.Goals as goal
 
 refused_by : (b : Bool) (r : Refusal) → Err r ≡ outcome_by b → (b ≡ false) × (r ≡ Refusal.Reflectrix)
@@ -40,6 +42,19 @@ unfolding sheet_cells_with
 returns-in_err-slot_number-clause-cells_after c =
     let n = slot-refused c.args.k _ c.in_err-slot_number.ensures.value in
     rw n.0
+
+pub returns-then-nang-gt40 : goal.returns-then-nang-gt40
+unfolding slot_sheet_with sheet_cells_with room_for
+returns-then-nang-gt40 c =
+    let slot = slot-taken _ c.in_ok-slot_number.ensures.value in
+    elim c.then-nang-gt40.branch [
+      | then-nang-gt40-via-then-nang-gt40 w ↦
+          let many = lt-leb _ _ w.if-nang-gt40.true in record { value = rw (slot, many); cells_after = rw (slot, many) }
+      | then-nang-gt40-via-else-nang-gt40+then-cells-nang w ↦
+          let few = le-leb _ _ w.if-nang-gt40.false in
+          let short = lt-leb _ _ w.if-cells-nang.true in
+          record { value = rw (slot, few, short); cells_after = rw (slot, few, short) }
+    ]
 
 pub returns-in_err-fobby-clause-value : goal.returns-in_err-fobby-clause-value
 unfolding slot_sheet_with
