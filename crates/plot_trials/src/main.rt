@@ -3,6 +3,11 @@
 // what the description and the Rust say.
 #![tactic(auto)]
 
+// Eight turns, each as if it were the first: after a length that is too long, the next two bytes are a length.
 fn main() {
-    output::print_stored(&mut [0u8; sheet_text::INPUT], 8, plot_text::plot_text);
+    let mut input = [0u8; sheet_text::INPUT];
+    // Stays: turns are counted, and no list is read.
+    for _ in 0..8u64 {
+        output::print_stored(&mut input, 1, plot_text::plot_text);
+    }
 }
