@@ -1,7 +1,7 @@
 // The circuit that a text says, line by line, or the first line with something wrong.
 mod given;
 
-ghost use Rattle.std.specs.Prelude.{◌≡◌};
+ghost use Rattle.std.specs.Prelude.{◌≡◌, IfOk, IfErr, Ok, Err};
 ghost use Rattle.composing.specs.Draft.{no_draft, is_shape, with_path, with_point, with_deciles, with_row, with_line, at_line, is_whole, ended_draft, composed_of};
 
 use crate::compose_line::{Fault, LineKind, Row, Wrong};
@@ -76,15 +76,16 @@ fn with_row(draft: Option<Draft>, r: Row) -> Result<Draft, Fault>
     }
 }
 
-// A line without a word says nothing.
+// One line more. A line without a word says nothing, and the draft is not copied for it.
 #[tactic(auto, unfolding(crate::specs::Draft::with_line))]
-fn with_line(draft: Option<Draft>, line: &[u8]) -> Result<Option<Draft>, Fault>
-    ensures { result ≡ with_line draft line.now }
+fn add_line(draft: &mut Option<Draft>, line: &[u8]) -> Result<(), Fault>
+    ensures added { IfOk result (λ _. with_line draft.old line.now ≡ Ok draft.new) }
+    ensures wrong { IfErr result (λ f. with_line draft.old line.now ≡ Err f) }
 {
-    match crate::compose_line::read_line(line)? {
-        None => Ok(draft),
-        Some(r) => Ok(Some(with_row(draft, r)?)),
+    if let Some(r) = crate::compose_line::read_line(line)? {
+        *draft = Some(with_row(*draft, r)?);
     }
+    Ok(())
 }
 
 #[tactic(auto, unfolding(crate::specs::Draft::is_whole))]
@@ -122,7 +123,7 @@ pub fn compose(text: &[u8]) -> Result<Circuit, Wrong>
     // Stays: not by `enumerate`, since a fault of the whole text, found after the last line, is said of the next number.
     let mut number = 1;
     for line in text.split_inclusive(|b| *b == b'\n') {
-        draft = at_line(number, with_line(draft, line))?;
+        at_line(number, add_line(&mut draft, line))?;
         number += 1;
     }
     at_line(number, ended(draft))

@@ -1,7 +1,7 @@
 // A computed ionogram's rows as a trace.
 ghost use Rattle.std.specs.Prelude.{◌≡◌, cond, Ok, Err};
 ghost use Rattle.figures.specs.Nearest.{times_of};
-ghost use Rattle.traces.specs.Computed.{fit_number, trace_of};
+ghost use Rattle.traces.specs.Computed.{fit_number, fit_column_of, trace_of};
 
 use refusal::Refusal;
 
@@ -28,12 +28,25 @@ fn number(v: f32, k: u32) -> Result<u32, Refusal>
     Ok(n as u32)
 }
 
+// The numbers of a column, up to the first that is refused.
+// Stays: an array's `try_map` takes twice the time.
+fn scaled(x: &[f32; 30], k: u32) -> Result<[u32; 30], Refusal>
+    ensures { result ≡ fit_column_of k x.now }
+{
+    let mut out = [0; 30];
+    for i in 0..30 {
+        let n = number(x[i], k)?;
+        out[i] = n;
+    }
+    Ok(out)
+}
+
 // A computed ionogram's thirty frequencies in MHz and virtual heights in km, as a trace.
 pub fn trace_of(fvert: [f32; 30], hprim: [f32; 30]) -> Result<ComputedTrace, Refusal>
     ensures { result ≡ trace_of fvert hprim }
 {
-    let khz = fvert.try_map(|v| number(v, 1000))?;
-    let height = hprim.try_map(|v| number(v, 10))?;
+    let khz = scaled(&fvert, 1000)?;
+    let height = scaled(&hprim, 10)?;
     if !crate::rises(&khz) {
         return Err(Refusal::Traces);
     }

@@ -1,18 +1,17 @@
 -- The numbers of a column: all are taken, or one is refused. An answer is a trace.
-use Prim.Native.Nat.{ℕ, zero, suc, ◌<◌}
-use mathlib.Core.Path.{◌≡◌, refl, ◌∙◌, subst}
+use Prim.Native.Nat.{ℕ, zero, suc, ◌+◌, ◌≤◌, ◌<◌}
+use mathlib.Core.Path.{◌≡◌, refl, sym, ap, ◌∙◌, subst}
 use mathlib.Core.Bool.{Bool, true, false, cond, ◌&&◌}
-use mathlib.Core.List.{List, [], ◌∷◌, map}
+use mathlib.Core.List.{List, [], ◌∷◌, ◌++◌, map, append-nil}
 use native.Mathlib.Omega.{arith}
-use lib.Ieee.{Float}
-use lib.ListN.{length, get_or, length-map}
+use native.Mathlib.Numerals.{add-one}
+use lib.Ieee.{Float, nan}
+use lib.ListN.{length, get_or, drop, set, length-map, drop_of_length-le}
 use borrow.Author.Tests.{eq-eqb, le-leb}
-use Rattle.std.specs.Prelude.{Result, Ok, Err, IfOk, IfErr}
-use Rattle.std.specs.List.{AllZip, IsAmong}
-use Rattle.std.specs.Array.{AllZipBelow}
-use Rattle.std.proofs.Math.Bool.{and-false}
+use Rattle.std.specs.Prelude.{Result, Ok, Err}
 use Rattle.refusal.specs.declared.Refusal.{Refusal}
 use Rattle.figures.specs.Nearest.{times_of}
+use Rattle.traces.proofs.Cells.{sofar, sofar-more, sofar-all}
 use Rattle.traces.specs.Trace.{rises, fit}
 use Rattle.traces.specs.Computed.{fit_number, all_fit, khz_rows, height_rows, fit_column_of, trace_by, trace_of, TraceFits}
 use Rattle.traces.specs.declared.computed_trace.ComputedTrace.{ComputedTrace}
@@ -30,34 +29,43 @@ module _ (k : ℕ) where
   refused true m r e = absurd cc
   refused false m r e = (refl, cc)
 
-  all_taken : (R : Float → ℕ → Type 0) → ((v : Float) (n : ℕ) → R v n → Ok n ≡ number_of v) → (x : List Float) (y : List ℕ) → AllZip R x y
-      → (all_fit k x ≡ true) × (y ≡ map (times_of k) x)
+  step : (x : List Float) (i : ℕ) → i < length x
+      → all_fit k (drop i x) ≡ (fit_number k (get_or x i nan) && all_fit k (drop (suc i) x))
   unfolding all_fit
-  all_taken R f [] [] h = (refl, refl)
-  all_taken R f [] (n ∷ y) h = absurd h
-  all_taken R f (v ∷ x) [] h = absurd h
-  all_taken R f (v ∷ x) (n ∷ y) h =
-      let p = taken (fit_number k v) n (times_of k v) (f v n h.0) in
-      let q = all_taken R f x y h.1 in
-      (rw (p.0, q.0), rw (p.1, q.1))
+  step [] i h = absurd (omega arith)
+  step (v ∷ x) zero h = refl
+  step (v ∷ x) (suc i) h = step x i (omega arith)
 
-  one_unfit : (x : List Float) (i : ℕ) (d : Float) → i < length x → fit_number k (get_or x i d) ≡ false → all_fit k x ≡ false
+  -- a number that is refused ends the test, and one that is taken leaves it to the others
+  pub unfit-at : (x : List Float) (i : ℕ) (r : Refusal) → i < length x → Err r ≡ number_of (get_or x i nan)
+      → (all_fit k (drop i x) ≡ false) × (r ≡ Refusal.Traces)
+  unfit-at x i r h e =
+      let p = refused (fit_number k (get_or x i nan)) (times_of k (get_or x i nan)) r e in (step x i h ∙ rw p.0, p.1)
+
+  pub fit-at : (x : List Float) (i n : ℕ) → i < length x → Ok n ≡ number_of (get_or x i nan)
+      → (all_fit k (drop i x) ≡ all_fit k (drop (i + 1) x)) × (n ≡ times_of k (get_or x i nan))
+  fit-at x i n h e =
+      let p = taken (fit_number k (get_or x i nan)) n (times_of k (get_or x i nan)) e in (step x i h ∙ rw (p.0, add-one i), p.1)
+
+  pub stored : (x : List Float) (out₀ out : List ℕ) (i n : ℕ) → i < length x → length out₀ ≡ length x
+      → out ≡ sofar (times_of k) x i out₀ → n ≡ times_of k (get_or x i nan) → set out i n ≡ sofar (times_of k) x (i + 1) out₀
+  stored x out₀ out i n h e p q =
+      ap (λ (l : List ℕ). set l i n) p
+      ∙ ap (λ (m : ℕ). set (sofar (times_of k) x i out₀) i m) q
+      ∙ sofar-more (times_of k) x i out₀ (get_or x i nan) nan h (omega arith) refl
+      ∙ ap (λ (m : ℕ). sofar (times_of k) x m out₀) (sym (add-one i))
+
+  pub fit-end : (x : List Float) (i : ℕ) → length x ≤ i → all_fit k (drop i x) ≡ true
   unfolding all_fit
-  one_unfit [] i d h e = absurd (omega arith)
-  one_unfit (v ∷ x) zero d h e = rw e
-  one_unfit (v ∷ x) (suc i) d h e = rw (one_unfit x i d (omega arith) e, and-false)
+  fit-end x i h = ap (all_fit k) (drop_of_length-le x {i = i} h)
 
-  -- all are taken, or one is refused
-  pub scaled-by : {F : Type 0} (R : Float → ℕ → Type 0) (S : F → F → Float → Refusal → Type 0)
-      → (x : List Float) (r : Result (List ℕ) Refusal)
-      → IfOk r (λ y. AllZipBelow R x y 30) → IfErr r (λ e. (v : Float) × IsAmong x v × (p : F) × (q : F) × S p q v e)
-      → ((v : Float) (n : ℕ) → R v n → Ok n ≡ number_of v) → ((p q : F) (v : Float) (e : Refusal) → S p q v e → Err e ≡ number_of v) → r ≡ fit_column_of k x
-  scaled-by R S x (Ok y) a b f g = let p = all_taken R f x y a.whole in rw (p.0, p.1)
-  scaled-by R S x (Err e) a b f g =
-      let v = b.0 in
-      let i = b.1.0 in
-      let p = refused (fit_number k v) (times_of k v) e (g b.2 b.3 v e b.4) in
-      rw (one_unfit x i v b.1.1.0 (rw (← b.1.1.1) p.0), p.1)
+  pub all-stored : (x : List Float) (out₀ out : List ℕ) (i : ℕ) → i ≡ length x → length out₀ ≡ length x
+      → out ≡ sofar (times_of k) x i out₀ → out ≡ map (times_of k) x
+  all-stored x out₀ out i e p q =
+      q
+      ∙ sofar-all (times_of k) x i out₀ e
+      ∙ ap (λ (l : List ℕ). map (times_of k) x ++ l) (drop_of_length-le out₀ {i = length x} (omega arith))
+      ∙ append-nil (map (times_of k) x)
 
 -- ---- an answer is a trace
 

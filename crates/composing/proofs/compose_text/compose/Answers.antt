@@ -1,8 +1,8 @@
 use Rattle.std.proofs.Common.{rules, tests, length-append}
 use Rattle.std.specs.List.{IsFirstMatchOrLen}
 use Rattle.std.proofs.lemmas.Fn.{always_returns_same}
-use Rattle.std.specs.Prelude.{Option, Err}
-use mathlib.Core.Path.{◌≡◌, sym, ap, ◌∙◌, subst}
+use Rattle.std.specs.Prelude.{Option, Result, Ok, Err, IfOk, IfErr}
+use mathlib.Core.Path.{◌≡◌, refl, sym, ap, ◌∙◌, subst}
 use mathlib.Core.List.{List, ◌∷◌, ◌++◌}
 use Prim.Native.Nat.{ℕ, ◌+◌, ◌<◌, min}
 use native.Mathlib.Omega.{arith}
@@ -10,6 +10,8 @@ use lib.ListN.{length}
 use Rattle.first_difference.specs.Lines.{lines_of}
 use Rattle.composing.specs.Row.{then}
 use Rattle.composing.proofs.compose_line.Then.{then-ok, then-err}
+use Rattle.composing.specs.declared.compose_line.faults.Fault.{Fault}
+use Rattle.composing.specs.declared.compose_line.faults.Wrong.{Wrong}
 use Rattle.composing.specs.declared.compose_text.Draft.{Draft}
 use Rattle.composing.specs.Draft.{at_line, with_line, with_lines, composed_of}
 use Rattle.composing.proofs.compose_text.LinePlaces.{is_feed, first, no_lines}
@@ -43,21 +45,35 @@ read : (c : In-Some)
 unfolding with_lines
 read c = sym (ap (with_lines c.loop-line.draft c.loop-line.number) (taken c)) ∙ c.loop-line.invariant.circuit
 
-pub returns-in_err-draft : goal.returns-in_err-draft
-returns-in_err-draft c =
-    let e : c.from_residual.result ≡ Err c.in_err-draft.field-0.0 = search rules in
+-- what is wrong, or the draft that is made, is of the line
+wrong-at : (n : ℕ) (r : Result (Unit {0}) Fault) (x : Result (Option Draft) Fault) (w : Wrong)
+    → IfErr r (λ f. x ≡ Err f) → at_line n r ≡ Err w → at_line n x ≡ Err w
+wrong-at n (Ok u) x w h e = absurd cc
+wrong-at n (Err f) x w h e =
+    let s : ◌≡◌ {A = Wrong} (record { line = n; fault = f }) w = cc in
+    rw (h, s)
+
+added-at : (n : ℕ) (r : Result (Unit {0}) Fault) (x : Result (Option Draft) Fault) (d : Option Draft) (u : Unit {0})
+    → IfOk r (λ _. x ≡ Ok d) → at_line n r ≡ Ok u → at_line n x ≡ Ok d
+added-at n (Ok v) x d u h e = rw h refl
+added-at n (Err f) x d u h e = absurd cc
+
+pub returns-in_err-at_line : goal.returns-in_err-at_line
+returns-in_err-at_line c =
+    let l = c.loop-line in
+    let e : c.from_residual.result ≡ Err c.in_err-at_line.field-0.0 = search rules in
+    let wrong = wrong-at l.number c.add_line.result (with_line l.draft c.in-Some.line.now) _ c.add_line.ensures.wrong (sym c.at_line.ensures ∙ c.in_err-at_line.was) in
     e
-    ∙ then-err (λ (x : Option Draft). with_lines x (c.loop-line.number + 1) (lines_of c.next.new.self.rest.now))
-    (c.at_line.ensures ∙ ap (at_line c.loop-line.number) c.with_line.ensures) c.in_err-draft.was
-    ∙ read (goal.at.returns-in_err-draft c).In-Some
+    ∙ then-err (λ (x : Option Draft). with_lines x (l.number + 1) (lines_of c.next.new.self.rest.now)) refl wrong
+    ∙ read (goal.at.returns-in_err-at_line c).In-Some
 
 pub loop-line-preserved : goal.loop-line-preserved
 loop-line-preserved c =
     let l = c.loop-line in
+    let added = added-at l.number c.add_line.result (with_line l.draft c.in-Some.line.now) c.add_line.new.draft _ c.add_line.ensures.added (sym c.at_line.ensures ∙ c.in_ok-at_line.was) in
     record {
       counted = omega (arith, l.invariant.counted, shorter (goal.at.loop-line-preserved c).In-Some);
-      circuit = then-ok (λ (x : Option Draft). with_lines x (l.number + 1) (lines_of c.next.new.self.rest.now))
-          (c.at_line.ensures ∙ ap (at_line l.number) c.with_line.ensures) c.in_ok-draft.was
+      circuit = then-ok (λ (x : Option Draft). with_lines x (l.number + 1) (lines_of c.next.new.self.rest.now)) refl added
           ∙ read (goal.at.loop-line-preserved c).In-Some;
     }
 
