@@ -2,3 +2,4 @@
 mod Held
 pub mod Written
 pub mod ReadBack
+pub mod Printed

@@ -6,6 +6,7 @@ use Rattle.circuit.specs.declared.Circuit.{Circuit}
 use Rattle.circuit.specs.Read.{read_of}
 use Rattle.circuit.specs.Written.{size_of, write_answer_of, left_of}
 use Rattle.composing.specs.Draft.{composed_of}
+use Rattle.composing.specs.Composing.{longest, composed_text}
 
 -- of every text without a wrong line, and cells lent with room for the longest file: 54 records of 64 bytes, one of the path, five
 -- of points, 48 of deciles
@@ -18,3 +19,9 @@ TextWritten = OfRightText (λ c out. write_answer_of form64 c out ≡ Ok (size_o
 -- word for word, every number by its bits
 abbrev pub TextReadBack : Type 0
 TextReadBack = OfRightText (λ c out. read_of form64 (take (size_of form64 c) (left_of form64 c [] out)) ≡ Ok c)
+
+-- and what `compose` prints of a text that is not too long is that file
+abbrev pub TextPrinted : Type 0
+TextPrinted =
+    (text out : List ℕ) (c : Circuit) → length text ≤ longest → 3456 ≤ length out → composed_of text ≡ Ok c
+    → composed_text text ≡ take (size_of form64 c) (left_of form64 c [] out)

@@ -89,6 +89,7 @@ use Rattle.figures.proofs.decimal_text.Widths.{number-width}
 use Rattle.svg.proofs.points.Frame.{in_frame}
 use Rattle.composing.proofs.compose_laws.Written.{text-written}
 use Rattle.composing.proofs.compose_laws.ReadBack.{text-read-back}
+use Rattle.composing.proofs.compose_laws.Printed.{text-printed}
 use Rattle.statement_checks.proofs.Checks.{statement-checks}
 
 pub theorems : Theorems
@@ -196,6 +197,7 @@ theorems =
       marking-cases = marking-cases;
       text-written = text-written;
       text-read-back = text-read-back;
+      text-printed = text-printed;
       right-width = right-width;
       number-width = number-width;
       in_frame = in_frame;

@@ -64,6 +64,7 @@ use Rattle.figures.specs.Number.{NumberWidth}
 use Rattle.svg.specs.Points.{InFrame}
 use Rattle.composing.specs.Laws.{TextWritten}
 use Rattle.composing.specs.Laws.{TextReadBack}
+use Rattle.composing.specs.Laws.{TextPrinted}
 use Rattle.statement_checks.specs.Checks.{StatementChecks}
 
 pub record Theorems : Type 0 where
@@ -246,6 +247,7 @@ pub record Theorems : Type 0 where
   -- the circuit of a text without a wrong line is written by `compose`, and read back word for word
   pub text-written : TextWritten
   pub text-read-back : TextReadBack
+  pub text-printed : TextPrinted
   -- a field for the eye has exactly its width, whatever the text or the number
   pub right-width : RightWidth
   pub number-width : NumberWidth
